@@ -1,0 +1,3 @@
+pub mod EarlierLaws
+pub mod Paths
+pub mod TrackingLaws

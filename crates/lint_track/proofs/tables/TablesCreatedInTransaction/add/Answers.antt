@@ -1,0 +1,14 @@
+use Rattle.std.proofs.Common.{◌∙◌, sym, ap, ◌||◌}
+use Rattle.std.specs.Cmp.Derive.Mapped.{pointwise-map}
+use Rattle.std.specs.Str.{bytes_eq}
+use Rattle.sql_name.specs.Compared.{name_cut}
+use Rattle.sql_tree.specs.PathNames.{names_of}
+use Rattle.lint_track.specs.Transaction.{same_path}
+use Rattle.lint_track.specs.Tracking.{Known, holds}
+use Rattle.lint_track.proofs.Paths.{put_path}
+use Rattle.lint_track.proofs.tables.TablesCreatedInTransaction.add.Goals as goal
+
+pub returns-clause-ok : goal.returns-clause-ok
+returns-clause-ok c q =
+    put_path names_of _ (λ a b. sym (pointwise-map name_cut bytes_eq a.names.items b.names.items)) c.self.inside.tables.keys c.insert.new.self.keys c.args.path c.in_ok-insert.field-0 c.in_ok-insert.ensures.added c.in_ok-insert.ensures.keys q
+    ∙ ap (λ (k : Known). same_path q (names_of c.args.path) || holds k q) c.self.view_is

@@ -1,0 +1,11 @@
+use Rattle.std.proofs.Common.{subst, ◌≡◌, ◌↔◌, IsTrue, Option, Some, sym}
+use Rattle.sql_keyword.specs.declared.words.Keyword.{Keyword}
+use Rattle.sql_keyword.specs.Texts.{text}
+use Rattle.std.specs.Str.{str_eq_ignore_ascii_case}
+use Rattle.sql_keyword.proofs.Right.{right}
+use Rattle.sql_keyword.proofs.keyword_of.Goals as goal
+
+pub returns-clause-right : goal.returns-clause-right
+returns-clause-right c k =
+    let P : Option Keyword → Type 0 = λ o. (o ≡ Some k) ↔ IsTrue (str_eq_ignore_ascii_case c.args.bytes.now (text k)) in
+    subst P (sym c.look_up.ensures) (right c.args.bytes.now k)

@@ -1,0 +1,4 @@
+pub mod Same
+pub mod Texts
+pub mod Numbers
+pub mod Slots

@@ -1,0 +1,123 @@
+//! The keywords of SQL that statements are told apart by, and which of them a word is (PostgreSQL manual,
+//! appendix C, has all keywords; these are the ones that some form of a statement names).
+#![tactic(auto)]
+
+mod case;
+mod numbers;
+mod slots;
+mod words;
+
+ghost use Rattle.std.specs.Prelude.{IsTrue, ◌≡◌, ◌<◌, ◌≤◌, ◌↔◌, length};
+ghost use Rattle.std.specs.Str.{str_eq_ignore_ascii_case};
+ghost use Rattle.sql_keyword.specs.Texts.{text};
+ghost use Rattle.sql_keyword.specs.declared.words.Keyword.{Keyword};
+ghost use Rattle.sql_keyword.specs.Slots.{slot, start_of, length_of, number_of, text_at, text_in, keyword_of};
+
+use case::{is_same_word, lower};
+use numbers::of_number;
+use slots::{
+    BEFORE_LAST_WEIGHT, LAST_WEIGHT, LENGTH_WEIGHT, LENGTHS, MIDDLE_WEIGHT, NUMBERS, SECOND_WEIGHT,
+    SHIFTS, SLOT_COUNT, STARTS, TEXTS,
+};
+pub use words::{Keyword, same_keyword};
+
+/// The shortest keyword has so many letters.
+const SHORTEST: usize = 2;
+
+/// The longest keyword has so many letters.
+const LONGEST: usize = 15;
+
+/// The slot of the one keyword that these bytes may be.
+#[tactic(auto, unfolding(crate::specs::Slots::slot))]
+fn slot_of(bytes: &[u8]) -> usize
+    requires { (2 ≤ length bytes.now) × (length bytes.now < 16) }
+    ensures slot { result ≡ slot bytes.now }
+    ensures within { result < SLOT_COUNT }
+{
+    let len = bytes.len();
+    let first = lower(bytes[0]) as usize;
+    let second = lower(bytes[1]) as usize;
+    let middle = lower(bytes[len / 2]) as usize;
+    let before_last = lower(bytes[len - 2]) as usize;
+    let last = lower(bytes[len - 1]) as usize;
+    (SHIFTS[first % 32] as usize
+        + LENGTH_WEIGHT * len
+        + SECOND_WEIGHT * second
+        + MIDDLE_WEIGHT * middle
+        + BEFORE_LAST_WEIGHT * before_last
+        + LAST_WEIGHT * last)
+        % SLOT_COUNT
+}
+
+/// Where the text of a slot's keyword begins.
+#[tactic(auto, unfolding(crate::specs::Slots::start_of))]
+fn start_of(slot: usize) -> u16
+    requires { slot < SLOT_COUNT }
+    ensures { result ≡ start_of slot }
+{
+    STARTS[slot]
+}
+
+/// How many letters it has.
+#[tactic(auto, unfolding(crate::specs::Slots::length_of))]
+fn length_of(slot: usize) -> u8
+    requires { slot < SLOT_COUNT }
+    ensures { result ≡ length_of slot }
+{
+    LENGTHS[slot]
+}
+
+/// Its number, or 0.
+#[tactic(auto, unfolding(crate::specs::Slots::number_of))]
+fn number_of(slot: usize) -> u8
+    requires { slot < SLOT_COUNT }
+    ensures { result ≡ number_of slot }
+{
+    NUMBERS[slot]
+}
+
+#[tactic(auto, unfolding(crate::specs::Slots::text_at))]
+fn text_at(start: usize, len: usize) -> &'static [u8]
+    requires { (start < 65536) × (len < 256) }
+    ensures { result.now ≡ text_at start len }
+{
+    if start + len <= TEXTS.len() {
+        &TEXTS[start..start + len]
+    } else {
+        &[]
+    }
+}
+
+/// The text of a slot's keyword.
+fn text_in(slot: usize) -> &'static [u8]
+    requires { slot < SLOT_COUNT }
+    ensures { result.now ≡ text_in slot }
+{
+    text_at(start_of(slot) as usize, length_of(slot) as usize)
+}
+
+#[tactic(auto, unfolding(crate::specs::Slots::keyword_of))]
+fn look_up(bytes: &[u8]) -> Option<Keyword>
+    ensures { result ≡ keyword_of bytes.now }
+{
+    if bytes.len() < SHORTEST || bytes.len() > LONGEST {
+        return None;
+    }
+    let slot = slot_of(bytes);
+    if is_same_word(bytes, text_in(slot)) {
+        of_number(number_of(slot))
+    } else {
+        None
+    }
+}
+
+/// The keyword whose text these bytes are without regard to ASCII case, or none where they are no keyword's: this is
+/// the clause `right`, for every keyword in both directions. The clause `value` names the same answer as a function
+/// of the bytes, for definitions that cite it. A word, and no quoted identifier, is what callers pass: quotes are
+/// bytes like others, and no keyword has them.
+pub fn keyword_of(bytes: &[u8]) -> Option<Keyword>
+    ensures value { result ≡ keyword_of bytes.now }
+    ensures right { (k : Keyword) → (result ≡ Some k) ↔ IsTrue (str_eq_ignore_ascii_case bytes.now (text k)) }
+{
+    look_up(bytes)
+}

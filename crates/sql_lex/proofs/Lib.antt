@@ -1,0 +1,6 @@
+pub mod Answer
+pub mod Bits
+pub mod SignLaws
+pub mod Stacks
+pub mod Tables
+pub mod Walk

@@ -1,0 +1,91 @@
+-- The walk over the statements.
+use Rattle.std.proofs.Common.{◌≡◌, ℕ, zero, suc, ◌+◌, ◌^◌, ◌<◌, ◌≤◌, List, [], ◌∷◌, ◌++◌, length, drop, get_or, refl, sym, ap, ◌∙◌, arith, ◌==◌, true, false, ◌&&◌, Bool, not}
+use Rattle.std.proofs.lemmas.Bool.Decides.{nat_tests}
+use Rattle.std.proofs.lemmas.List.{drop_all, drop_more}
+use Rattle.sql_token.specs.declared.token.Tok.{Tok}
+use Rattle.sql_token.specs.declared.terminal.Terminal.{Terminal}
+use Rattle.sql_token.specs.Token.{Text, Leads, Lexed, text_of}
+use Rattle.sql_token.specs.Terminal.{is_significant, symbol_of, terminals_from, is_opener, is_closer, is_semicolon}
+use Rattle.sql_token.specs.Depth.{onto, one_if, statements_from}
+use Rattle.sql_lex.specs.Cursor.{LieIn, IsWalk, Steps, IsNext}
+
+-- these terminals before the first of these lists
+abbrev pub onto_all : List Terminal → List (List Terminal) → List (List Terminal)
+onto_all [] lists = lists
+onto_all (t ∷ ts) lists = onto t (onto_all ts lists)
+
+full : (buffer : List Terminal) (t : Terminal) (all others : List (List Terminal)) → all ≡ (buffer ++ t ∷ []) ∷ others → IsNext (buffer ++ t ∷ []) all others
+full [] t all others e = e
+full (u ∷ buffer) t all others e = e
+
+pub onto_all-push : (b : List Terminal) (t : Terminal) (lists : List (List Terminal)) → onto_all (b ++ t ∷ []) lists ≡ onto_all b (onto t lists)
+onto_all-push [] t lists = refl
+onto_all-push (u ∷ b) t lists = ap (onto u) (onto_all-push b t lists)
+
+pub onto_all-last : (b : List Terminal) (t : Terminal) (lists : List (List Terminal)) → onto_all b ((t ∷ []) ∷ lists) ≡ (b ++ t ∷ []) ∷ lists
+onto_all-last [] t lists = refl
+onto_all-last (u ∷ b) t lists = ap (onto u) (onto_all-last b t lists)
+
+onto_all-alone : (t : Terminal) (b : List Terminal) → onto_all (t ∷ b) [] ≡ (t ∷ b) ∷ []
+onto_all-alone t [] = refl
+onto_all-alone t (u ∷ b) = ap (onto t) (onto_all-alone u b)
+
+pub leads_lie : (t : Text) (i j : ℕ) (ks : List Tok) → Leads t i ks j → LieIn (length t) ks
+leads_lie t i j [] p = tt
+leads_lie t i j (k ∷ ks) p = (omega (arith, p.0, p.1.before), p.1.within, leads_lie t k.end j ks p.2)
+
+pub leads_count : (t : Text) (i j : ℕ) (ks : List Tok) → Leads t i ks j → i + length ks ≤ j
+leads_count t i j [] p = omega (arith, p)
+leads_count t i j (k ∷ ks) p = omega (arith, p.1.before, leads_count t k.end j ks p.2)
+
+pub is_walk : (t : Text) (ks : List Tok) → Lexed t ks → length t < 2 ^ 32 → IsWalk (length t) ks 0
+is_walk t ks p short = record {
+  lie = leads_lie t 0 (length t) ks p;
+  within = omega arith;
+  few = omega (arith, leads_count t 0 (length t) ks p);
+}
+
+pub lies_at : (len : ℕ) (ks : List Tok) (n : ℕ) (k : Tok) → LieIn len ks → n < length ks → (get_or ks n k).start ≤ (get_or ks n k).end × (get_or ks n k).end ≤ len
+lies_at len [] n k p h = absurd (omega arith)
+lies_at len (x ∷ ks) zero k p h = (p.0, p.1)
+lies_at len (x ∷ ks) (suc n) k p h = lies_at len ks n k p.2 (omega arith)
+
+-- the terminals from the token with the number n on
+abbrev pub terminals_after : Text → List Tok → ℕ → List Terminal
+terminals_after t ks n = terminals_from t n (drop n ks)
+
+pub after_blank : (t : Text) (ks : List Tok) (n : ℕ) (k : Tok) → n < length ks → is_significant (get_or ks n k).kind ≡ false → terminals_after t ks n ≡ terminals_after t ks (n + 1)
+after_blank t ks n k h blank = rw (drop_more ks n k h, blank) refl
+
+pub after_some : (t : Text) (ks : List Tok) (n : ℕ) (k : Tok) → n < length ks → is_significant (get_or ks n k).kind ≡ true
+    → terminals_after t ks n ≡ record { symbol = symbol_of (get_or ks n k).kind (text_of t (get_or ks n k)); number = n } ∷ terminals_after t ks (n + 1)
+after_some t ks n k h some = rw (drop_more ks n k h, some) refl
+
+-- the terminal goes on with a statement
+pub goes_on : (buffer : List Terminal) (o c : ℕ) (t : Terminal) (ts from : List Terminal) (all : List (List Terminal)) → from ≡ t ∷ ts → (o == c && is_semicolon t) ≡ false → onto_all buffer (statements_from o c from) ≡ all
+    → onto_all (buffer ++ t ∷ []) (statements_from (o + one_if (is_opener t)) (c + one_if (is_closer t)) ts) ≡ all
+goes_on buffer o c t ts from all begins on same =
+    let step : statements_from o c from ≡ onto t (statements_from (o + one_if (is_opener t)) (c + one_if (is_closer t)) ts) = rw (begins, on) refl in
+    onto_all-push buffer t _ ∙ ap (onto_all buffer) (sym step) ∙ same
+
+-- the terminal ends a statement
+pub ends : (buffer : List Terminal) (o c : ℕ) (t : Terminal) (ts from : List Terminal) (all : List (List Terminal)) → from ≡ t ∷ ts → (o == c && is_semicolon t) ≡ true → onto_all buffer (statements_from o c from) ≡ all
+    → IsNext (buffer ++ t ∷ []) all (statements_from 0 0 ts)
+ends buffer o c t ts from all begins on same =
+    let step : statements_from o c from ≡ (t ∷ []) ∷ statements_from 0 0 ts = rw (begins, on) refl in
+    full buffer t all _ (sym same ∙ ap (onto_all buffer) step ∙ onto_all-last buffer t _)
+
+-- no terminal is left
+pub runs_out : (buffer from : List Terminal) (o c : ℕ) (all : List (List Terminal)) → from ≡ [] → onto_all buffer (statements_from o c from) ≡ all → IsNext buffer all (statements_from 0 0 from)
+runs_out [] from o c all none same = (rw none at (sym same), rw none refl)
+runs_out (t ∷ buffer) from o c all none same = rw none ((rw none at (sym same)) ∙ onto_all-alone t buffer)
+
+-- whether there is a statement is told by whether it is empty
+pub steps : (more : Bool) (statement : List Terminal) (old new : List (List Terminal)) → more ≡ not (length statement == 0) → IsNext statement old new → Steps more old statement new
+steps true [] old new e next = cc
+steps false [] old new e next = (next.0, refl, next.1)
+steps true (t ∷ ts) old new e next = (next, omega arith)
+steps false (t ∷ ts) old new e next = absurd (grind (arith, nat_tests))
+
+pub after_all : (t : Text) (ks : List Tok) (n : ℕ) → length ks ≤ n → terminals_after t ks n ≡ []
+after_all t ks n h = rw (drop_all n ks h) refl

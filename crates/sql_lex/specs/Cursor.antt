@@ -1,0 +1,38 @@
+-- The walk over the statements of a text.
+use Rattle.std.specs.Prelude.{◌≡◌, ◌≤◌, ◌<◌, ◌^◌, ℕ, Bool, true, false, List, [], ◌∷◌, length, drop}
+use Rattle.sql_token.specs.declared.token.Tok.{Tok}
+use Rattle.sql_token.specs.declared.terminal.Terminal.{Terminal}
+use Rattle.sql_token.specs.Token.{Text}
+use Rattle.sql_token.specs.Terminal.{terminals_from}
+use Rattle.sql_token.specs.Depth.{statements_from}
+
+-- These tokens lie in a text of so many bytes.
+abbrev pub LieIn : ℕ → List Tok → Type 0
+LieIn len [] = Unit {0}
+LieIn len (t ∷ ts) = (t.start ≤ t.end) × (t.end ≤ len) × LieIn len ts
+
+-- A walk over these tokens stands at the token with the number n.
+pub record IsWalk (len : ℕ) (toks : List Tok) (n : ℕ) : Type 0 where
+  pub lie : LieIn len toks
+  pub within : n ≤ length toks
+  pub few : length toks < 2 ^ 32
+
+-- the statements of a text from the token with the number n on
+abbrev pub statements_after : Text → List Tok → ℕ → List (List Terminal)
+statements_after t toks n = statements_from 0 0 (terminals_from t n (drop n toks))
+
+-- One step of the walk: the next statement, if there is one, and those after it.
+abbrev pub Steps : Bool → List (List Terminal) → List Terminal → List (List Terminal) → Type 0
+Steps true old statement new = (old ≡ statement ∷ new) × (0 < length statement)
+Steps false old statement new = (old ≡ []) × (statement ≡ []) × (new ≡ [])
+
+-- The same, told by whether the statement is empty.
+abbrev pub IsNext : List Terminal → List (List Terminal) → List (List Terminal) → Type 0
+IsNext [] old new = (old ≡ []) × (new ≡ [])
+IsNext (t ∷ ts) old new = old ≡ (t ∷ ts) ∷ new
+
+-- The statement goes from the token with the number n to before that with the number m; it is empty
+-- where there is none.
+pub record IsFirst (t : Text) (toks : List Tok) (n : ℕ) (statement : List Terminal) (m : ℕ) : Type 0 where
+  pub within : m ≤ length toks
+  pub step : IsNext statement (statements_after t toks n) (statements_after t toks m)

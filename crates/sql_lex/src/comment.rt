@@ -1,0 +1,45 @@
+//! Block comments, which nest.
+
+ghost use Rattle.std.specs.Prelude.{◌≡◌, ◌<◌, ◌≤◌, ◌+◌, ℕ, length, true, IfSome, IfNone};
+ghost use Rattle.sql_token.specs.Comment as spec;
+
+pub fn opens(z: &[u8], at: usize) -> bool
+    ensures value { result ≡ spec.opens z.now at }
+    ensures within { result ≡ true → at + 2 ≤ length z.now }
+{
+    at < z.len() && z[at] == b'/' && at + 1 < z.len() && z[at + 1] == b'*'
+}
+
+fn closes(z: &[u8], at: usize) -> bool
+    requires { at < length z.now }
+    ensures value { result ≡ spec.closes z.now at }
+    ensures within { result ≡ true → at + 2 ≤ length z.now }
+{
+    z[at] == b'*' && at + 1 < z.len() && z[at + 1] == b'/'
+}
+
+/// The length of the comment at the front, unless it never closes.
+pub fn comment_len(z: &[u8]) -> Option<usize>
+    requires { spec.opens z.now 0 ≡ true }
+    ensures found { IfSome result (λ n. spec.Comment z.now 0 n) }
+    ensures within { IfSome result (λ n. (0 < n) × (n ≤ length z.now)) }
+    ensures none { IfNone result ((n : ℕ) → spec.Comment z.now 0 n → ⊥) }
+{
+    let mut depth: usize = 1;
+    let mut at = 2;
+    while depth > 0 {
+        if at >= z.len() {
+            return None;
+        }
+        if closes(z, at) {
+            depth -= 1;
+            at += 2;
+        } else if opens(z, at) {
+            depth += 1;
+            at += 2;
+        } else {
+            at += 1;
+        }
+    }
+    Some(at)
+}

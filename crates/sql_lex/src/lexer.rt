@@ -1,0 +1,69 @@
+//! The tokens of a whole text.
+
+ghost use Rattle.std.specs.Prelude.{◌≡◌, ◌<◌, ◌^◌, ◌≤◌, ℕ, List, length, true, IfOk, IfErr, IfSome, IfNone};
+ghost use Rattle.sql_token.specs.Token.{At, Lexed, NeverCloses, OpenAt};
+ghost use Rattle.sql_token.specs.declared.token.Tok.{Tok};
+ghost use Rattle.sql_lex.specs.Signs.{SignsFrom};
+ghost use Rattle.sql_lex.specs.Cause.{IsCause, OkOrNoMemory, IsOpenOrNoMemory};
+
+use crate::error::LexError;
+use crate::op::begins_sign;
+use crate::scan::token_at;
+use sql_token::{Tok, TokKind};
+use std::alloc::Global;
+
+fn is_operator(kind: TokKind) -> bool
+    ensures { result ≡ true → kind ≡ TokKind.Op }
+{
+    matches!(kind, TokKind::Op)
+}
+
+/// The token at this place, which may be a sign that the operator before it lost.
+#[inline(always)]
+fn next_token(text: &[u8], at: usize, after_operator: bool) -> Option<(TokKind, usize)>
+    requires begins { at < length text.now }
+    requires signs { after_operator ≡ true → (0 < at) × SignsFrom text.now at }
+    ensures found { IfSome result (λ t. At text.now at t.0 t.1) }
+    ensures within { IfSome result (λ t. (at < t.1) × (t.1 ≤ length text.now)) }
+    ensures none { IfNone result (NeverCloses text.now at) }
+{
+    if after_operator && begins_sign(&text[at..]) {
+        return Some((TokKind::Op, at + 1));
+    }
+    token_at(text, at)
+}
+
+fn tokens(alloc: Global, text: &[u8]) -> Result<Vec<Tok>, LexError>
+    requires { length text.now < 2 ^ 32 }
+    ensures ok { IfOk result (λ toks. Lexed text.now toks.items) }
+    ensures err { IfErr result (λ e. IsCause text.now e) }
+{
+    let mut toks = Vec::new(alloc);
+    let mut at = 0;
+    let mut after_operator = false;
+    while at < text.len() {
+        let Some((kind, end)) = next_token(text, at, after_operator) else {
+            return Err(LexError::Unterminated { at: at as u32 });
+        };
+        toks.push(Tok {
+            kind,
+            start: at as u32,
+            end: end as u32,
+        })?;
+        at = end;
+        after_operator = is_operator(kind);
+    }
+    Ok(toks)
+}
+
+/// The tokens of the text, all of it, or the place in bytes of the first token that never closes.
+pub fn lex(alloc: Global, text: &str) -> Result<Vec<Tok>, LexError>
+    requires { length text.now < 2 ^ 32 }
+    ensures ok { IfOk result (λ toks. Lexed text.now toks.items) }
+    ensures err { IfErr result (λ e. IsCause text.now e) }
+    // Want of memory is the one other answer.
+    ensures lexed { (toks : List Tok) → Lexed text.now toks → OkOrNoMemory result (λ v. v.items ≡ toks) }
+    ensures open { (at : ℕ) → OpenAt text.now at → IsOpenOrNoMemory result at }
+{
+    tokens(alloc, text.as_bytes())
+}

@@ -1,0 +1,22 @@
+//! Cuts a SQL text into its tokens, and its tokens into statements.
+#![tactic(auto)]
+
+mod brackets;
+mod class;
+mod comment;
+mod dollar;
+mod error;
+mod lexer;
+mod op;
+mod quote;
+mod scan;
+mod sound;
+mod spans;
+mod statements;
+mod symbol;
+
+pub use error::LexError;
+pub use lexer::lex;
+pub use sound::is_sound;
+pub use spans::{cut, span_of};
+pub use statements::Statements;

@@ -1,0 +1,4 @@
+pub mod FullText
+pub mod Cuts
+pub mod Uses
+pub mod Compared

@@ -1,0 +1,8 @@
+use Rattle.std.proofs.Common.{◌≡◌}
+use Rattle.std.specs.Str.{bytes_eq}
+use Rattle.sql_name.specs.FullBytes.{bytes_left}
+use Rattle.sql_name.proofs.full_bytes.is_text.Given as goal
+
+abbrev pub invariant-loop-byte : goal.invariant-loop-byte
+invariant-loop-byte l =
+    bytes_eq (bytes_left l.byte-iterator) l.rest ≡ bytes_eq (bytes_left l.fn.bytes) l.fn.text

@@ -1,0 +1,266 @@
+//! What each part of a form takes.
+//!
+//! A reader is given what was kept so far and the terminals that are left. It writes what it keeps in place and gives
+//! what is left behind it. What was kept says nothing more once a part that must stand does not.
+
+ghost use Rattle.std.specs.Prelude.{◌≡◌, ◌==◌, ◌&&◌, ◌||◌, not, length};
+ghost use Rattle.std.specs.Option.{option_map, option_copied};
+ghost use Rattle.sql_keyword.specs.declared.words.Keyword.TheVariants as k;
+ghost use Rattle.sql_token.specs.Terminal.{is_keyword, is_name};
+ghost use Rattle.sql_tree.specs.declared.forms.Captures.{Captures};
+ghost use Rattle.sql_tree.specs.Forms.{at, one, nothing_kept, word_kept, concurrently_kept, is_temp, is_other_mod, names_end, take_path, take_mods, tell, take_index_name, take_chain, take_concurrently, take_rest, words_of, behind_word, behind_words, or_here, take_phrase, take_part};
+ghost use Rattle.sql_part.specs.Views.{behind, beside};
+
+use sql_token::{Keyword, Span, Terminal};
+use sql_tree::forms::{Captures, Mark, Part, Phrase};
+
+fn tell(mark: Mark, kept: &mut Captures)
+    ensures { kept.new ≡ tell mark kept.old }
+{
+    match mark {
+        Mark::Nothing => {}
+        Mark::Unique => kept.unique = true,
+        Mark::Guarded => kept.guarded = true,
+        Mark::Chain => kept.chain = true,
+    }
+}
+
+fn after_word<'a>(word: Keyword, left: &'a [Terminal]) -> Option<&'a [Terminal]>
+    ensures copied { option_copied result ≡ behind_word word left.entry.now }
+    ensures kept { (c : Captures) → option_map (behind c) result ≡ one (is_keyword word) nothing_kept c left.entry.now }
+{
+    match left {
+        [first, rest @ ..] if first.is_keyword(word) => Some(rest),
+        _ => None,
+    }
+}
+
+fn after_object<'a>(
+    word: Keyword,
+    kept: &mut Captures,
+    left: &'a [Terminal],
+) -> Option<&'a [Terminal]>
+    ensures { option_map (behind kept.new) result ≡ one (is_keyword word) word_kept kept.old left.entry.now }
+{
+    match left {
+        [first, rest @ ..] if first.is_keyword(word) => {
+            kept.word = first.number;
+            Some(rest)
+        }
+        _ => None,
+    }
+}
+
+fn after_flag<'a>(
+    word: Keyword,
+    mark: Mark,
+    kept: &mut Captures,
+    left: &'a [Terminal],
+) -> &'a [Terminal]
+    ensures { at kept.new result.now ≡ or_here (one (is_keyword word) (λ t c. tell mark c) kept.old left.entry.now) kept.old left.entry.now }
+{
+    match left {
+        [first, rest @ ..] if first.is_keyword(word) => {
+            tell(mark, kept);
+            rest
+        }
+        _ => left,
+    }
+}
+
+fn after_either<'a>(word: Keyword, other: Keyword, left: &'a [Terminal]) -> &'a [Terminal]
+    ensures { (c : Captures) → at c result.now ≡ or_here (one (λ t. is_keyword word t || is_keyword other t) nothing_kept c left.entry.now) c left.entry.now }
+{
+    match left {
+        [first, rest @ ..] if first.is_keyword(word) || first.is_keyword(other) => rest,
+        _ => left,
+    }
+}
+
+#[tactic(auto, unfolding(sql_tree::specs::Forms::words_of))]
+fn words(phrase: Phrase) -> &'static [Keyword]
+    ensures { result.now ≡ words_of phrase }
+{
+    match phrase {
+        Phrase::IfNotExists => &[Keyword::If, Keyword::Not, Keyword::Exists],
+        Phrase::AndChain => &[Keyword::And, Keyword::Chain],
+        Phrase::AndNoChain => &[Keyword::And, Keyword::No, Keyword::Chain],
+    }
+}
+
+fn after_phrase<'a>(phrase: Phrase, left: &'a [Terminal]) -> Option<&'a [Terminal]>
+    ensures { option_copied result ≡ behind_words (words_of phrase) left.entry.now }
+{
+    let mut here = left;
+    for word in words(phrase) {
+        here = after_word(*word, here)?;
+    }
+    Some(here)
+}
+
+fn after_maybe<'a>(
+    phrase: Phrase,
+    mark: Mark,
+    kept: &mut Captures,
+    left: &'a [Terminal],
+) -> &'a [Terminal]
+    ensures { at kept.new result.now ≡ or_here (take_phrase phrase mark kept.old left.entry.now) kept.old left.entry.now }
+{
+    match after_phrase(phrase, left) {
+        Some(rest) => {
+            tell(mark, kept);
+            rest
+        }
+        None => left,
+    }
+}
+
+fn after_chain<'a>(kept: &mut Captures, left: &'a [Terminal]) -> &'a [Terminal]
+    ensures { at kept.new result.now ≡ take_chain kept.old left.entry.now }
+{
+    match after_phrase(Phrase::AndChain, left) {
+        Some(rest) => {
+            tell(Mark::Chain, kept);
+            rest
+        }
+        None => after_maybe(Phrase::AndNoChain, Mark::Nothing, kept, left),
+    }
+}
+
+fn after_concurrently<'a>(kept: &mut Captures, left: &'a [Terminal]) -> &'a [Terminal]
+    ensures { at kept.new result.now ≡ take_concurrently kept.old left.entry.now }
+{
+    match left {
+        [first, rest @ ..] if first.is_keyword(Keyword::Concurrently) => {
+            kept.concurrently = Some(first.number);
+            rest
+        }
+        _ => left,
+    }
+}
+
+/// The name of an index stands first, and it is not the word ON.
+fn is_index_name(t: Terminal) -> bool
+    ensures { result ≡ (is_name t && not (is_keyword k.On t)) }
+{
+    t.is_name() && !t.is_keyword(Keyword::On)
+}
+
+fn after_index_name<'a>(kept: &mut Captures, left: &'a [Terminal]) -> &'a [Terminal]
+    ensures { at kept.new result.now ≡ take_index_name kept.old left.entry.now }
+{
+    match after_phrase(Phrase::IfNotExists, left) {
+        Some(rest) => match rest {
+            [name, behind @ ..] if is_index_name(*name) => {
+                kept.guarded = true;
+                kept.name = Some(name.number);
+                behind
+            }
+            _ => left,
+        },
+        None => match left {
+            [name, behind @ ..] if is_index_name(*name) => {
+                kept.name = Some(name.number);
+                behind
+            }
+            _ => left,
+        },
+    }
+}
+
+fn is_temp_word(t: Terminal) -> bool
+    ensures { result ≡ is_temp t }
+{
+    t.is_keyword(Keyword::Temp) || t.is_keyword(Keyword::Temporary)
+}
+
+fn is_other_mod_word(t: Terminal) -> bool
+    ensures { result ≡ is_other_mod t }
+{
+    t.is_keyword(Keyword::Global) || t.is_keyword(Keyword::Local) || t.is_keyword(Keyword::Unlogged)
+}
+
+fn after_mods<'a>(kept: &mut Captures, left: &'a [Terminal]) -> &'a [Terminal]
+    ensures { at kept.new result.now ≡ take_mods kept.old left.entry.now }
+{
+    let mut here = left;
+    while let [first, rest @ ..] = here {
+        if is_temp_word(*first) {
+            kept.temp = true;
+        } else if !is_other_mod_word(*first) {
+            break;
+        }
+        here = rest;
+    }
+    here
+}
+
+fn names_from<'a>(number: u32, left: &'a [Terminal]) -> (u32, &'a [Terminal])
+    ensures { beside result ≡ names_end number left.entry.now }
+{
+    let mut last = number;
+    let mut rest = left;
+    while let [dot, name, more @ ..] = rest {
+        if !dot.is_dot() || !name.is_name() {
+            break;
+        }
+        last = name.number;
+        rest = more;
+    }
+    (last, rest)
+}
+
+fn after_path<'a>(kept: &mut Captures, left: &'a [Terminal]) -> Option<&'a [Terminal]>
+    ensures { option_map (behind kept.new) result ≡ take_path kept.old left.entry.now }
+{
+    match left {
+        [name, rest @ ..] if name.is_name() => {
+            let (last, end) = names_from(name.number, rest);
+            kept.path = Span {
+                first: name.number,
+                last,
+            };
+            Some(end)
+        }
+        _ => None,
+    }
+}
+
+fn leave_open<'a>(kept: &mut Captures, left: &'a [Terminal]) -> &'a [Terminal]
+    ensures { at kept.new result.now ≡ take_rest kept.old left.entry.now }
+{
+    kept.open_ended = true;
+    left
+}
+
+/// What is left behind a part, where it stands. What it keeps is written; where it does not stand, what was kept says
+/// nothing more.
+#[tactic(auto, unfolding(sql_tree::specs::Forms::take_part))]
+pub(crate) fn take_part<'a>(
+    part: Part,
+    kept: &mut Captures,
+    left: &'a [Terminal],
+) -> Option<&'a [Terminal]>
+    ensures { option_map (behind kept.new) result ≡ take_part part kept.old left.entry.now }
+{
+    match part {
+        Part::Word(word) => after_word(word, left),
+        Part::Object(word) => after_object(word, kept, left),
+        Part::Flag(word, mark) => Some(after_flag(word, mark, kept, left)),
+        Part::Either(word, other) => Some(after_either(word, other, left)),
+        Part::Maybe(phrase, mark) => Some(after_maybe(phrase, mark, kept, left)),
+        Part::Chain => Some(after_chain(kept, left)),
+        Part::Concurrently => Some(after_concurrently(kept, left)),
+        Part::IndexName => Some(after_index_name(kept, left)),
+        Part::Mods => Some(after_mods(kept, left)),
+        Part::Path => after_path(kept, left),
+        Part::Rest => Some(leave_open(kept, left)),
+    }
+}
+
+/// Whether nothing is left but what the form leaves open.
+pub(crate) fn is_all_taken(kept: &Captures, left: &[Terminal]) -> bool
+    ensures { result ≡ (kept.now.open_ended || length left.now == 0) }
+{
+    kept.open_ended || left.is_empty()
+}

@@ -1,0 +1,6 @@
+pub mod TokenLaws
+pub mod CommentLaws
+pub mod QuoteLaws
+pub mod Reread
+pub mod Ahead
+pub mod Boundaries

@@ -1,0 +1,7 @@
+pub mod Boundary
+pub mod Comment
+pub mod Depth
+pub mod Quote
+pub mod Sound
+pub mod Terminal
+pub mod Token

@@ -1,0 +1,18 @@
+//! The tree of a SQL text: its types, and the definitions of which text has which tree.
+#![tactic(auto)]
+
+pub mod forms;
+mod kinds;
+pub mod laws;
+mod nodes;
+mod parse;
+mod path;
+
+pub use kinds::{ActionKind, PieceKind, StmtKind};
+pub use nodes::{
+    Action, Body, ColType, Column, ConKind, Constraint, Elem, Expr, LockMode, Piece, ReindexTarget,
+    SetPart, SourceFile, Stmt, TableWrite, Target, TyKind, ViewDefinition,
+};
+pub use parse::Parse;
+pub use path::NamePath;
+pub use sql_token::{Keyword, Span, Symbol, Terminal, Tok, TokKind};

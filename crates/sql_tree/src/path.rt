@@ -1,0 +1,64 @@
+//! Paths: names with dots between them.
+
+ghost use Rattle.std.specs.Prelude.{◌≡◌, ◌<◌, ◌≤◌, ◌++◌, length, IfOk, OnOk, OnErr, IsOk, map};
+ghost use Rattle.sql_name.specs.Compared.{name_cut};
+ghost use Rattle.sql_tree.specs.Path.{path_cuts, name_cuts, is_name_kind};
+ghost use Rattle.sql_tree.specs.Range.{token_at};
+ghost use Rattle.sql_tree.specs.PathNames.{names_of};
+
+use crate::parse::Parse;
+use smallvec::SmallVec;
+use sql_name::Name;
+use sql_token::{Span, TokKind};
+use std::alloc::Global;
+use text_pos::NoMemory;
+
+/// The names of a path, which borrow from the text. Two paths are equal where their names are, one by one.
+#[derive(Debug, PartialEq, Eq, PartialOrd, Ord, Hash, Drop)]
+pub struct NamePath<'t> {
+    names: SmallVec<Name<'t>, 2>,
+}
+
+/// Whether a token of this kind is a name.
+fn is_name_kind(kind: TokKind) -> bool
+    ensures { result ≡ is_name_kind kind }
+{
+    match kind {
+        TokKind::Word | TokKind::Quoted => true,
+        _ => false,
+    }
+}
+
+/// Puts the name behind the others, where token `i` is one.
+fn push_token<'t>(
+    names: &mut SmallVec<Name<'t>, 2>,
+    p: &Parse<'t>,
+    i: usize,
+) -> Result<(), NoMemory>
+    requires { i < length p.now.toks }
+    ensures ok { OnOk result (map name_cut names.new.items ≡ map name_cut names.old.items ++ name_cuts p.now.text (token_at p.now.toks i)) }
+    ensures capacity { names.old.capacity ≤ names.new.capacity }
+    ensures err { OnErr result ((0 < length (name_cuts p.now.text (token_at p.now.toks i))) × (names.old.capacity ≤ length names.old.items)) }
+{
+    if is_name_kind(p.tokens()[i].kind) {
+        names.push(Name::of(p.token_text(i)))?;
+        Ok(())
+    } else {
+        Ok(())
+    }
+}
+
+impl<'t> NamePath<'t> {
+    /// The names among the tokens of a span. Two names stand in place: a longer path takes memory.
+    pub fn of(alloc: Global, p: &Parse<'t>, span: Span) -> Result<NamePath<'t>, NoMemory>
+        ensures names { IfOk result (λ path. names_of path ≡ path_cuts p.now.text p.now.toks span) }
+        ensures short { length (path_cuts p.now.text p.now.toks span) ≤ 2 → IsOk result }
+    {
+        let mut names = SmallVec::new(alloc);
+        let end = p.tokens().len().min(span.last as usize + 1);
+        for i in span.first as usize..end {
+            push_token(&mut names, p, i)?;
+        }
+        Ok(NamePath { names })
+    }
+}

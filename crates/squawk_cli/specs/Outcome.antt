@@ -1,0 +1,103 @@
+-- What each status says of a run.
+use Rattle.std.specs.Prelude.{◌≡◌, ◌≢◌, ℕ, ◌^◌, ◌<◌, Bool, true, false, List, [], length, ⊤}
+use Rattle.std.specs.declared.option.Option.{Option}
+use Rattle.std.specs.Str.{IsUtf8}
+use Rattle.std.specs.Io.KnownBytes.{Appends, Keeps, IsAtEnd}
+use Rattle.squawk_stream.specs.Faults.{Rose}
+use Rattle.squawk_stream.specs.Parts.{AppendsPart}
+use Rattle.squawk_stream.specs.Reading.{Took}
+use Rattle.sql_token.specs.Token.{OpenAt}
+use Rattle.sql_tree.specs.Statement.{IsValid, IsSyntaxAt}
+use Rattle.squawk_cli.specs.Accepted.{IsAccepted}
+use Rattle.squawk_cli.specs.Headline.{AreReports}
+use Rattle.squawk_cli.specs.declared.lint.Violation.{Violation}
+use Rattle.squawk_cli.specs.Printed.{printed}
+use Rattle.squawk_cli.specs.declared.status.Status.{Status}
+use Rattle.squawk_cli.specs.declared.status.Status.TheVariants.{Clean, Found, BadArguments, NotUtf8, TooLong, Unterminated, Syntax, ReadFault, WriteFault, NoMemory}
+
+-- what the words are
+abbrev pub WordsFor : Status → List (List ℕ) → Type 0
+WordsFor BadArguments words = ¬ (IsAccepted words)
+WordsFor NoMemory words = ⊤
+WordsFor _ words = IsAccepted words
+
+-- what was read: mostly everything, before words that are refused nothing, and of a text that is too long 2^32 bytes
+abbrev pub ReadFor : Status → Option (List ℕ) → Option (List ℕ) → Type 0
+ReadFor BadArguments old new = new ≡ old
+ReadFor TooLong old new = Took old new (2 ^ 32)
+ReadFor ReadFault old new = ⊤
+ReadFor NoMemory old new = ⊤
+ReadFor _ old new = IsAtEnd new
+
+-- the text has reports, at least one
+abbrev pub HasReports : List ℕ → Type 0
+HasReports t = (violations : List Violation) × AreReports t violations × (violations ≢ [])
+
+-- what was appended is the printed form of the reports of the text
+pub record AppendsReports (t : List ℕ) (old new : Option (List ℕ)) : Type 0 where
+  pub violations : List Violation
+  pub reports : AreReports t violations
+  pub appended : Appends old new (printed violations)
+
+-- what was appended is a front of it
+pub record AppendsPartOfReports (t : List ℕ) (old new : Option (List ℕ)) : Type 0 where
+  pub violations : List Violation
+  pub reports : AreReports t violations
+  pub appended : AppendsPart old new (printed violations)
+
+-- these bytes are the printed form of the reports of the text, and tell whether there are none
+pub record IsPage (t bytes : List ℕ) (clean : Bool) : Type 0 where
+  pub violations : List Violation
+  pub reports : AreReports t violations
+  pub printed_form : bytes ≡ printed violations
+  pub cleans : clean ≡ true → violations ≡ []
+  pub finds : clean ≡ false → violations ≢ []
+
+-- what the whole input is
+abbrev pub InputFor : Status → List ℕ → Type 0
+InputFor Clean t = IsUtf8 t × AreReports t []
+InputFor Found t = IsUtf8 t × HasReports t
+InputFor NotUtf8 t = (¬ (IsUtf8 t)) × (length t < 2 ^ 32)
+InputFor (Unterminated at) t = IsUtf8 t × (length t < 2 ^ 32) × OpenAt t at
+InputFor (Syntax at) t = IsUtf8 t × IsSyntaxAt t at
+InputFor WriteFault t = IsUtf8 t × IsValid t
+InputFor _ t = ⊤
+
+-- what was written of the printed reports
+abbrev pub WrittenFor : Status → List ℕ → Option (List ℕ) → Option (List ℕ) → Type 0
+WrittenFor Clean t old new = AppendsReports t old new
+WrittenFor Found t old new = AppendsReports t old new
+WrittenFor WriteFault t old new = AppendsPartOfReports t old new
+WrittenFor _ t old new = ⊤
+
+-- nothing was written but where the printed reports were
+abbrev pub KeptFor : Status → Option (List ℕ) → Option (List ℕ) → Type 0
+KeptFor Clean old new = ⊤
+KeptFor Found old new = ⊤
+KeptFor WriteFault old new = ⊤
+KeptFor _ old new = Keeps old new
+
+-- a failed read shows in the count of the source
+abbrev pub SourceCause : Status → ℕ → ℕ → Type 0
+SourceCause ReadFault before now = Rose before now
+SourceCause _ before now = ⊤
+
+-- a failed write shows in the count of the sink
+abbrev pub SinkCause : Status → ℕ → ℕ → Type 0
+SinkCause WriteFault before now = Rose before now
+SinkCause _ before now = ⊤
+
+-- the input was linted, or memory ran out
+abbrev pub IsDone : Status → Type 0
+IsDone Clean = ⊤
+IsDone Found = ⊤
+IsDone NoMemory = ⊤
+IsDone _ = ⊥
+
+-- why an input has no page
+abbrev pub RefusalFits : Status → List ℕ → Type 0
+RefusalFits NotUtf8 t = ¬ (IsUtf8 t)
+RefusalFits (Unterminated at) t = IsUtf8 t × (length t < 2 ^ 32) × OpenAt t at
+RefusalFits (Syntax at) t = IsUtf8 t × IsSyntaxAt t at
+RefusalFits NoMemory t = ⊤
+RefusalFits _ t = ⊥

@@ -1,0 +1,84 @@
+//! The run of the program, over any source and sinks.
+ghost use Rattle.std.specs.Prelude.{◌≡◌, IfSome};
+ghost use Rattle.std.specs.Str.{IsUtf8};
+ghost use Rattle.std.specs.Io.KnownBytes.{Appends};
+ghost use Rattle.squawk_stream.specs.Faults.{Rose};
+ghost use Rattle.squawk_stream.specs.Parts.{AppendsPart};
+ghost use Rattle.squawk_cli.specs.Accepted.{IsAccepted};
+ghost use Rattle.sql_tree.specs.Statement.{IsValid};
+ghost use Rattle.squawk_cli.specs.StatusLine.{line_of};
+ghost use Rattle.squawk_cli.specs.Outcome.{WordsFor, ReadFor, InputFor, WrittenFor, KeptFor, SourceCause, SinkCause, IsDone};
+
+use crate::page::make_page;
+use crate::status::Status;
+use crate::status_line::say;
+use crate::words::{Words, read_words};
+use squawk_stream::{ReadError, Sink, Source, read_to_end, write_all};
+use std::alloc::Global;
+
+/// All of a run but the line on the error sink.
+fn work<S: Source, K: Sink>(alloc: Global, words: &Words, src: &mut S, out: &mut K) -> Status
+    ensures words { WordsFor result words.now }
+    ensures unread { result ≡ Status.BadArguments → src.new ≡ src.old }
+    ensures read { ReadFor result (S.left src.old) (S.left src.new) }
+    ensures input { IfSome (S.left src.old) (λ t. InputFor result t) }
+    ensures written { IfSome (S.left src.old) (λ t. WrittenFor result t (K.held out.old) (K.held out.new)) }
+    ensures kept { KeptFor result (K.held out.old) (K.held out.new) }
+    ensures source { SourceCause result (S.faults src.old) (S.faults src.new) }
+    ensures sink { SinkCause result (K.faults out.old) (K.faults out.new) }
+{
+    if !read_words(words) {
+        return Status::BadArguments;
+    }
+    let input = match read_to_end(alloc, src) {
+        Ok(input) => input,
+        Err(ReadError::TooLong) => return Status::TooLong,
+        Err(ReadError::Fault) => return Status::ReadFault,
+        Err(ReadError::NoMemory) => return Status::NoMemory,
+    };
+    let page = match make_page(alloc, input.as_slice()) {
+        Ok(page) => page,
+        Err(refused) => return refused,
+    };
+    if write_all(out, page.bytes.as_slice()).is_err() {
+        return Status::WriteFault;
+    }
+    if page.clean {
+        Status::Clean
+    } else {
+        Status::Found
+    }
+}
+
+/// Reads the words, then all of the input, lints it, prints the reports into memory and writes them to `out`. The line of
+/// the status goes to `err`, and a failure there changes no status.
+///
+/// The clauses say by each status what the words and the input are (`words`, `input`), what was read and written (`read`,
+/// `unread`, `written`, `kept`), which failure a fault stands for (`source`, `sink`), and what the error sink gets
+/// (`line`, `whole_line`). Where nothing fails, a valid input is linted (`complete`); only want of memory is free.
+pub fn run<S: Source, K: Sink, E: Sink>(
+    alloc: Global,
+    words: &Words,
+    src: &mut S,
+    out: &mut K,
+    err: &mut E,
+) -> Status
+    ensures words { WordsFor result words.now }
+    ensures unread { result ≡ Status.BadArguments → src.new ≡ src.old }
+    ensures read { ReadFor result (S.left src.old) (S.left src.new) }
+    ensures input { IfSome (S.left src.old) (λ t. InputFor result t) }
+    ensures written { IfSome (S.left src.old) (λ t. WrittenFor result t (K.held out.old) (K.held out.new)) }
+    ensures kept { KeptFor result (K.held out.old) (K.held out.new) }
+    ensures source { SourceCause result (S.faults src.old) (S.faults src.new) }
+    ensures sink { SinkCause result (K.faults out.old) (K.faults out.new) }
+    ensures line { AppendsPart (E.held err.old) (E.held err.new) (line_of result) }
+    ensures whole_line { ¬ (Rose (E.faults err.old) (E.faults err.new))
+        → Appends (E.held err.old) (E.held err.new) (line_of result) }
+    ensures complete { IsAccepted words.now → ¬ (Rose (S.faults src.old) (S.faults src.new))
+        → ¬ (Rose (K.faults out.old) (K.faults out.new))
+        → IfSome (S.left src.old) (λ t. IsUtf8 t → IsValid t → IsDone result) }
+{
+    let status = work(alloc, words, src, out);
+    say(err, &status);
+    status
+}

@@ -1,0 +1,26 @@
+//! Tests on the public calls of the other crates. The expected values come from the PostgreSQL manual and from examples
+//! that were worked by hand, never from what the code answered.
+#![tactic(auto)]
+
+#[cfg(test)]
+mod command;
+#[cfg(test)]
+mod fronts;
+#[cfg(test)]
+mod keywords;
+#[cfg(test)]
+mod names;
+#[cfg(test)]
+mod paths;
+#[cfg(test)]
+mod statements;
+#[cfg(test)]
+mod streams;
+#[cfg(test)]
+mod terminals;
+#[cfg(test)]
+mod tokens;
+#[cfg(test)]
+mod transactions;
+#[cfg(test)]
+mod trees;

@@ -1,0 +1,300 @@
+//! Trees of texts, and why a text has none.
+
+use crate::statements::nested;
+use sql_read::{LintError, parse};
+use sql_token::Span;
+use sql_tree::{Body, Parse, Stmt};
+use std::alloc::Global;
+use std::test::Fail;
+
+/// A text and its statements: kind, range in bytes, and what is known of it; words, names and paths as they are written.
+const TREES: &[(&str, &str)] = &[
+    ("", ""),
+    ("\u{feff}", ""),
+    (" -- only a comment\r\n/* a /* b */ */", ""),
+    (";", "Empty 0..1"),
+    (" ;;", "Empty 1..2 | Empty 2..3"),
+    ("BEGIN", "Begin 0..5"),
+    ("BEGIN;", "Begin 0..6"),
+    ("begin isolation level serializable;", "Begin 0..35"),
+    ("START TRANSACTION READ ONLY;", "Begin 0..28"),
+    ("COMMIT;", "Commit 0..7 plain"),
+    ("END WORK", "Commit 0..8 plain"),
+    ("commit transaction and chain", "Commit 0..28 plain chain"),
+    ("COMMIT AND NO CHAIN;", "Commit 0..20 plain"),
+    ("ROLLBACK WORK AND CHAIN;", "Rollback 0..24 plain chain"),
+    ("ABORT", "Rollback 0..5 plain"),
+    (
+        " /* a */ BEGIN -- b\n ; COMMIT ",
+        "Begin 9..22 | Commit 23..29 plain",
+    ),
+    (
+        "CREATE TABLE t (id int);",
+        "CreateTable 0..24 word TABLE path t",
+    ),
+    ("CREATE TABLE t", "CreateTable 0..14 word TABLE path t"),
+    (
+        "create temp table \"T\" ()",
+        "CreateTable 0..24 word table temp path \"T\"",
+    ),
+    (
+        "CREATE GLOBAL TEMPORARY TABLE IF NOT EXISTS pg_temp.t (id int);",
+        "CreateTable 0..63 word TABLE temp guarded path pg_temp.t",
+    ),
+    (
+        "CREATE UNLOGGED TABLE a . b . c ()",
+        "CreateTable 0..34 word TABLE path a . b . c",
+    ),
+    (
+        "CREATE TABLE a. (x int)",
+        "CreateTable 0..23 word TABLE path a",
+    ),
+    (
+        "CREATE TABLE \u{e9}.\"\u{65e5}\" ()",
+        "CreateTable 0..24 word TABLE path \u{e9}.\"\u{65e5}\"",
+    ),
+    (
+        "CREATE TABLE t AS SELECT 1;",
+        "CreateTableAs 0..27 word TABLE path t",
+    ),
+    (
+        "create local temp table if not exists s.t as x",
+        "CreateTableAs 0..46 word table temp guarded path s.t",
+    ),
+    (
+        "CREATE TABLE t (c int CHECK (CAST(c AS text) <> ''));",
+        "CreateTable 0..53 word TABLE path t",
+    ),
+    (
+        "CREATE TABLE t AS SELECT $$;CREATE INDEX i ON t (a);$$;",
+        "CreateTableAs 0..55 word TABLE path t",
+    ),
+    (
+        "CREATE INDEX ON t (a)",
+        "CreateIndex 0..21 word INDEX path t",
+    ),
+    (
+        "CREATE INDEX i ON t (a);",
+        "CreateIndex 0..24 word INDEX name i path t",
+    ),
+    (
+        "CREATE UNIQUE INDEX CONCURRENTLY IF NOT EXISTS i ON ONLY s.t (a);",
+        "CreateIndex 0..65 word INDEX unique concurrently CONCURRENTLY guarded name i path s.t",
+    ),
+    (
+        "CREATE INDEX Concurrently ON t (a);",
+        "CreateIndex 0..35 word INDEX concurrently Concurrently path t",
+    ),
+    (
+        "CREATE INDEX ON on (a)",
+        "CreateIndex 0..22 word INDEX path on",
+    ),
+    (
+        "CREATE INDEX \"on\" ON t (a)",
+        "CreateIndex 0..26 word INDEX name \"on\" path t",
+    ),
+    (
+        "CREATE INDEX IF ON t (a)",
+        "CreateIndex 0..24 word INDEX name IF path t",
+    ),
+    ("CREATE INDEX ON t", "CreateIndex 0..17 word INDEX path t"),
+    (
+        "BEGIN; CREATE TABLE t (id int); CREATE INDEX i ON t (id); COMMIT;",
+        "Begin 0..6 | CreateTable 7..31 word TABLE path t | CreateIndex 32..57 word INDEX name i path t | Commit 58..65 plain",
+    ),
+];
+
+/// A text that has no tree, and why.
+const REFUSED: &[(&str, &str)] = &[
+    ("foo", "syntax at 0"),
+    ("BEGIN; foo;", "syntax at 7"),
+    ("BEGIN; ; foo", "syntax at 9"),
+    (" /* x */ foo", "syntax at 9"),
+    ("\u{feff}foo", "syntax at 3"),
+    ("BEGIN;\r\n\u{e9}", "syntax at 8"),
+    ("'a'", "syntax at 0"),
+    ("BEGIN; foo; bar;", "syntax at 7"),
+    ("BEGIN; CREATE INDEX i t (a);", "syntax at 7"),
+    ("CREATE INDEX IF NOT EXISTS ON t (a)", "syntax at 0"),
+    ("CREATE INDEX ON ONLY (a)", "syntax at 0"),
+    ("CREATE INDEX CONCURRENTLY;", "syntax at 0"),
+    ("CREATE TABLE (a int)", "syntax at 0"),
+    ("CREATE TABLE IF NOT EXISTS (a int)", "syntax at 0"),
+    ("CREATE TABLE 'a' (b int)", "syntax at 0"),
+    ("CREATE UNIQUE TABLE t ()", "syntax at 0"),
+    ("CREATE", "syntax at 0"),
+    ("COMMIT; COMMIT x;", "syntax at 8"),
+    ("ROLLBACK AND;", "syntax at 0"),
+    ("END WORK TRANSACTION", "syntax at 0"),
+    ("START;", "syntax at 0"),
+    ("BEGIN (;", "syntax at 0"),
+    ("BEGIN; BEGIN )", "syntax at 7"),
+    ("BEGIN (]", "syntax at 0"),
+    ("BEGIN; BEGIN ATOMIC", "syntax at 7"),
+    ("BEGIN u&\"a\"", "syntax at 0"),
+    ("foo; /*", "unterminated at 5"),
+    ("foo; 'a", "unterminated at 5"),
+    ("BEGIN; \"", "unterminated at 7"),
+    ("foo $x$ $x", "unterminated at 4"),
+    ("(; u&\"", "unterminated at 3"),
+    ("foo e'\\'", "unterminated at 4"),
+    ("/* a /* b */", "unterminated at 0"),
+];
+
+/// How deep brackets stand in the second statement, and whether it is refused.
+const DEPTHS: &[(usize, &str)] = &[
+    (0, "Begin 0..6 | Begin 6..12"),
+    (128, "Begin 0..6 | Begin 6..268"),
+    (129, "syntax at 6"),
+];
+
+// The bytes from the start of one token to the end of another one.
+fn source<'t>(p: &Parse<'t>, first: u32, last: u32) -> &'t str {
+    let range = p.span_range(first, last);
+    let start = range.start().raw() as usize;
+    let end = range.end().raw() as usize;
+    p.text().get(start..end).unwrap_or("no text")
+}
+
+fn push_mark(out: &mut String, is_so: bool, word: &str) -> Result<(), Fail> {
+    if is_so {
+        out.push_str(word)?;
+    }
+    Ok(())
+}
+
+// A token's own text, where there is a token.
+fn push_token(
+    out: &mut String,
+    p: &Parse<'_>,
+    label: &str,
+    number: Option<u32>,
+) -> Result<(), Fail> {
+    if let Some(number) = number {
+        let i = number as usize;
+        out.push_str(label)?;
+        if i < p.tokens().len() {
+            out.push_str(p.token_text(i))?;
+        }
+    }
+    Ok(())
+}
+
+fn push_path(out: &mut String, p: &Parse<'_>, path: Span) -> Result<(), Fail> {
+    out.push_str(" path ")?;
+    out.push_str(source(p, path.first, path.last))?;
+    Ok(())
+}
+
+fn push_body(out: &mut String, p: &Parse<'_>, s: &Stmt) -> Result<(), Fail> {
+    match s.body {
+        Body::Kept => Ok(()),
+        Body::End { plain, chain } => {
+            push_mark(out, plain, " plain")?;
+            push_mark(out, chain, " chain")
+        }
+        Body::Table {
+            path,
+            word,
+            temp,
+            guarded,
+            ..
+        } => {
+            push_token(out, p, " word ", Some(word))?;
+            push_mark(out, temp, " temp")?;
+            push_mark(out, guarded, " guarded")?;
+            push_path(out, p, path)
+        }
+        Body::Index {
+            word,
+            unique,
+            concurrently,
+            guarded,
+            name,
+            path,
+        } => {
+            push_token(out, p, " word ", Some(word))?;
+            push_mark(out, unique, " unique")?;
+            push_token(out, p, " concurrently ", concurrently)?;
+            push_mark(out, guarded, " guarded")?;
+            push_token(out, p, " name ", name)?;
+            push_path(out, p, path)
+        }
+        _ => push_mark(out, true, " more"),
+    }
+}
+
+fn push_tree(alloc: Global, out: &mut String, p: &Parse<'_>) -> Result<(), Fail> {
+    for s in p.tree().stmts.as_slice() {
+        let range = p.stmt_range(s);
+        let start = range.start().raw();
+        let end = range.end().raw();
+        push_mark(out, !out.is_empty(), " | ")?;
+        out.push_str(format!(in alloc; "{:?} {start}..{end}", s.kind)?.as_str())?;
+        push_body(out, p, s)?;
+    }
+    Ok(())
+}
+
+// The tree of a text or why it has none, in the form of the rows.
+fn shown(alloc: Global, text: &str) -> Result<String, Fail> {
+    let mut out = String::new(alloc);
+    match parse(alloc, text) {
+        Ok(p) => push_tree(alloc, &mut out, &p)?,
+        Err(e) => out.push_str(format!(in alloc; "{e}")?.as_str())?,
+    }
+    Ok(out)
+}
+
+// The texts of all tokens of a text, joined.
+fn joined(alloc: Global, text: &str) -> Result<String, Fail> {
+    let mut out = String::new(alloc);
+    if let Ok(p) = parse(alloc, text) {
+        for i in 0..p.tokens().len() {
+            out.push_str(p.token_text(i))?;
+        }
+    }
+    Ok(out)
+}
+
+#[test]
+fn trees(rt: HostRuntime) -> Result<(), Fail> {
+    for row in TREES {
+        assert_eq!(rt; shown(rt.alloc(), row.0)?.as_str(), row.1, "at {:?}", row.0);
+        assert_eq!(rt; joined(rt.alloc(), row.0)?.as_str(), row.0);
+    }
+    Ok(())
+}
+
+#[test]
+fn refusals(rt: HostRuntime) -> Result<(), Fail> {
+    for row in REFUSED {
+        assert_eq!(rt; shown(rt.alloc(), row.0)?.as_str(), row.1, "at {:?}", row.0);
+    }
+    for row in DEPTHS {
+        let text = nested(rt.alloc(), "BEGIN;BEGIN", row.0, ";")?;
+        assert_eq!(rt;
+            shown(rt.alloc(), text.as_str())?.as_str(),
+            row.1,
+            "at depth {}",
+            row.0
+        );
+    }
+    Ok(())
+}
+
+#[test]
+fn messages(rt: HostRuntime) -> Result<(), Fail> {
+    for (error, want) in [
+        (LintError::TooLong, "text too long"),
+        (
+            LintError::Unterminated { at: 4294967295 },
+            "unterminated at 4294967295",
+        ),
+        (LintError::Syntax { at: 0 }, "syntax at 0"),
+        (LintError::NoMemory, "out of memory"),
+    ] {
+        assert_eq!(rt; format!(in rt.alloc(); "{error}")?.as_str(), want);
+    }
+    Ok(())
+}
