@@ -1,0 +1,4 @@
+pub mod Among
+pub mod RuleNames
+pub mod RuleNumbers
+pub mod RuleSets

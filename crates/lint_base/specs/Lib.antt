@@ -1,0 +1,11 @@
+pub mod EditLaws
+pub mod Edits
+pub mod Fixes
+pub mod Grown
+pub mod RuleFacts
+pub mod RuleNames
+pub mod RuleSets
+pub mod Rules
+pub mod Settings
+pub mod TextBytes
+pub mod Violations

@@ -1,0 +1,28 @@
+//! The rules, what a linter reports, and what it is told.
+//!
+//! `specs/` says what each call means: `Rules` has the table of what is known of each rule,
+//! `RuleNames` the texts that name a rule, `RuleSets` sets of rules, and `Grown` what a list of
+//! reports holds after a refusal.
+#![tactic(auto)]
+
+mod edit;
+mod fix;
+mod names;
+mod reports;
+mod rule;
+mod rule_name;
+mod rule_set;
+mod settings;
+mod text;
+mod violation;
+
+pub use edit::Edit;
+pub use fix::Fix;
+pub use names::Names;
+pub use reports::Reports;
+pub use rule::Rule;
+pub use rule_name::{RuleNameError, UnknownName, UnknownRuleName};
+pub use rule_set::{RuleSet, RuleSetIter};
+pub use settings::LinterSettings;
+pub use text::Text;
+pub use violation::Violation;

@@ -1,0 +1,13 @@
+//! What a linter is told.
+use crate::names::Names;
+
+/// What a linter is told of the database and of the functions that it may count on.
+#[derive(Debug, Drop)]
+pub struct LinterSettings {
+    /// The version of PostgreSQL: major, minor, patch.
+    pub pg_version: [i32; 3],
+    /// Whether a text is run inside a transaction that was begun before it.
+    pub assume_in_transaction: bool,
+    /// The functions that count as not volatile, by their full names.
+    pub non_volatile: Names,
+}
