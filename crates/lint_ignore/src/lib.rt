@@ -1,0 +1,20 @@
+//! Comments by which a SQL text tells the linter what to leave out.
+//!
+//! `specs/` says what each call means: `Part` has parts of a text with their places, and `Comment`
+//! the bodies of comments and what they say, `Names` what a name in an ignore comment says, `Found`
+//! what is found in a whole text, and `Covered` which reports the comments cover.
+#![tactic(auto)]
+
+mod comment;
+mod found;
+mod ignore;
+mod index;
+mod part;
+mod union;
+
+pub use comment::{
+    IGNORE_FILE_TEXT, IGNORE_LINE_TEXT, has_disable_assume_in_transaction, ignore_rule_info,
+};
+pub use found::{Found, find_ignores};
+pub use ignore::{Ignore, IgnoreKind, IgnorePiece};
+pub use index::IgnoreIndex;
