@@ -1,5 +1,5 @@
 -- What is in a set of rules after a change.
-use Rattle.std.proofs.Common.{◌≡◌, ◌≢◌, ℕ, ◌^◌, ◌*◌, ◌%◌, ◌<◌, true, false, List, Some, None, slice_get, refl, ap, bit_and, bit_or, arith, lit<, not, filter, take, get_or, length, [], ◌∷◌, ◌+◌, ◌-◌, zero, suc, drop}
+use Rattle.std.proofs.Common.{◌≡◌, ◌≢◌, ◌==◌, ◌||◌, max, ℕ, ◌^◌, ◌*◌, ◌%◌, ◌<◌, true, false, List, Some, None, slice_get, refl, ap, bit_and, bit_or, arith, lit<, not, filter, take, get_or, length, [], ◌∷◌, ◌+◌, ◌-◌, zero, suc, drop}
 use Rattle.std.proofs.lemmas.Option.{slice_get_within}
 use Rattle.std.proofs.lemmas.List.{append-nil}
 use Rattle.std.proofs.Math.Nat.{mod-eq_of_lt}
@@ -7,11 +7,11 @@ use Rattle.std.proofs.Math.Pow.{pow-lt}
 use Rattle.std.proofs.lemmas.List.Elements.{filter_more}
 use Rattle.std.proofs.lemmas.Grind.{common_steps, fold-append}
 use Rattle.std.specs.Int.{bit_at, bit_not, w128}
-use Rattle.std.proofs.lemmas.Nat.Bits.{bit_at_set_same, bit_at_set_other, bit_at_clear_same, bit_at_clear_other, bit_at-zero}
+use Rattle.std.proofs.lemmas.Nat.Bits.{bit_at_set_same, bit_at_set_other, bit_at_clear_same, bit_at_clear_other, bit_at-zero, bit_at-lt, bit_at_or}
 use Rattle.lint_base.specs.declared.rule.Rule.{Rule}
 use Rattle.lint_base.specs.declared.rule.Rule.TheVariants as rule
 use Rattle.lint_base.specs.Rules.{all_rules, facts_of, is_opt_in, number_of}
-use Rattle.lint_base.specs.RuleSets.{Rules, has, no_rules, with_rule, without_rule, default_rules, rules_in, rules_from}
+use Rattle.lint_base.specs.RuleSets.{Rules, has, no_rules, both_rules, with_rule, without_rule, default_rules, rules_in, rules_from}
 
 -- the rule at a rule's number
 rule_at-number_of : (r : Rule) → slice_get all_rules (number_of r) ≡ Some r
@@ -358,3 +358,22 @@ place-lt n r h = slice_get_within all_rules n r h
 -- a list without its first rule is shorter
 pub fewer : (rules left : List Rule) (r : Rule) → rules ≡ r ∷ left → length left < length rules
 fewer rules left r e = rw e (omega arith)
+
+-- the greater of two bits
+max_is_one : (x y : ℕ) → x < 2 → y < 2 → (max x y == 1) ≡ (x == 1 || y == 1)
+max_is_one zero zero l m = refl
+max_is_one zero (suc zero) l m = refl
+max_is_one (suc zero) zero l m = refl
+max_is_one (suc zero) (suc zero) l m = refl
+max_is_one (suc (suc x)) y l m = absurd (omega arith)
+max_is_one x (suc (suc y)) l m = absurd (omega arith)
+
+pub has-both_rules : (a b : Rules) (q : Rule) → has (both_rules a b) q ≡ (has a q || has b q)
+unfolding has both_rules
+has-both_rules a b q =
+    rw (bit_at_or a.bits b.bits (number_of q)) (max_is_one _ _ (bit_at-lt a.bits (number_of q)) (bit_at-lt b.bits (number_of q)))
+
+-- what the code writes to join two sets
+pub both_rules-bits : (a b : Rules) → record { bits = bit_or a.bits b.bits } ≡ both_rules a b
+unfolding both_rules
+both_rules-bits a b = refl

@@ -24,6 +24,10 @@ with_rule set r = record { bits = bit_or set.bits (2 ^ number_of r) }
 unfoldable pub without_rule : Rules → Rule → Rules
 without_rule set r = record { bits = bit_and set.bits (bit_not w128 (2 ^ number_of r)) }
 
+-- the rules of both sets
+unfoldable pub both_rules : Rules → Rules → Rules
+both_rules a b = record { bits = bit_or a.bits b.bits }
+
 -- the set of the rules in a list
 abbrev pub rules_in : List Rule → Rules
 rules_in rules = fold with_rule no_rules rules

@@ -1,7 +1,7 @@
 //! Sets of rules.
-ghost use Rattle.std.specs.Prelude.{◌≡◌, ◌≢◌, false, true, filter, not};
+ghost use Rattle.std.specs.Prelude.{◌≡◌, ◌≢◌, ◌||◌, false, true, filter, not};
 ghost use Rattle.lint_base.specs.declared.rule.Rule.{Rule};
-ghost use Rattle.lint_base.specs.RuleSets.{default_rules, has, no_rules, rules_in, rules_of, with_rule, without_rule};
+ghost use Rattle.lint_base.specs.RuleSets.{both_rules, default_rules, has, no_rules, rules_in, rules_of, with_rule, without_rule};
 ghost use Rattle.lint_base.specs.Rules.{is_opt_in};
 ghost use Rattle.std.specs.Iterator.{YieldsFirst, item_count};
 
@@ -71,6 +71,16 @@ impl RuleSet {
         ensures others { (q : Rule) → q ≢ r → has self.new q ≡ has self.old q }
     {
         self.bits &= !(1 << r.number());
+    }
+
+    /// The rules of both sets.
+    pub fn union(self, other: RuleSet) -> RuleSet
+        ensures value { result ≡ both_rules self other }
+        ensures rules { (q : Rule) → has result q ≡ (has self q || has other q) }
+    {
+        RuleSet {
+            bits: self.bits | other.bits,
+        }
     }
 
     /// Whether a rule is in the set.

@@ -33,10 +33,10 @@ no_dashes : (b : ℕ) (bs : List ℕ) → ((rest : List ℕ) → b ∷ bs ≡ 45
 no_dashes b bs lacks =
     elim (cases_Bool (b == 45 && slice_index bs 0 == 45)) [ inl e ↦ (let at = two_dashes b bs e in absurd (lacks at.0 at.1)) | inr e ↦ e ]
 
-step_no : (b : ℕ) (bs : List ℕ) → (b == 45 && slice_index bs 0 == 45) ≡ false → before_dashes (b ∷ bs) ≡ b ∷ before_dashes bs
+pub step_no : (b : ℕ) (bs : List ℕ) → (b == 45 && slice_index bs 0 == 45) ≡ false → before_dashes (b ∷ bs) ≡ b ∷ before_dashes bs
 step_no b bs e = λ i. (if e i then [] else b ∷ before_dashes bs)
 
-step_yes : (b : ℕ) (bs : List ℕ) → (b == 45 && slice_index bs 0 == 45) ≡ true → before_dashes (b ∷ bs) ≡ []
+pub step_yes : (b : ℕ) (bs : List ℕ) → (b == 45 && slice_index bs 0 == 45) ≡ true → before_dashes (b ∷ bs) ≡ []
 step_yes b bs e = λ i. (if e i then [] else b ∷ before_dashes bs)
 
 -- no place has `--`
@@ -62,7 +62,7 @@ front_of_dashes s front back h = up_to_dashes s (drop h.1 s) h.0 h.2.0 h.2.1.spl
 
 -- ---- commas
 
-step_comma : (at b : ℕ) (bs : List ℕ) → (b == 44) ≡ false → pieces_from at (b ∷ bs) ≡ with_front at b (pieces_from (at + 1) bs)
+pub step_comma : (at b : ℕ) (bs : List ℕ) → (b == 44) ≡ false → pieces_from at (b ∷ bs) ≡ with_front at b (pieces_from (at + 1) bs)
 step_comma at b bs e = λ i. (if e i then record { at = at; bytes = [] } ∷ pieces_from (at + 1) bs else with_front at b (pieces_from (at + 1) bs))
 
 no_comma : (b : ℕ) → b ≢ 44 → (b == 44) ≡ false

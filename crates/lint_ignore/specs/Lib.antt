@@ -4,3 +4,6 @@ pub mod Names
 pub mod Found
 pub mod Covered
 pub mod Index
+pub mod Unused
+pub mod Reported
+pub mod Places

@@ -8,7 +8,6 @@ ghost use Rattle.lint_base.specs.RuleSets.{has};
 ghost use Rattle.lint_ignore.specs.declared.ignore.Ignore.{Ignore};
 
 use crate::ignore::{Ignore, IgnoreKind};
-use crate::union::insert_all;
 use lint_base::{Rule, RuleSet};
 use std::alloc::Global;
 use std::collections::BTreeMap;
@@ -76,7 +75,7 @@ impl IgnoreIndex {
         ensures { AddsIgnore self.old self.new ignore.now }
     {
         self.covers_all = self.covers_all || ignore.ignore_all;
-        insert_all(&mut self.file, ignore.violation_names);
+        self.file = self.file.union(ignore.violation_names);
     }
 
     // Adds a line ignore.
@@ -94,11 +93,11 @@ impl IgnoreIndex {
     fn rules_with(&self, line: u32, ignore: &Ignore) -> RuleSet
         ensures { (rule : Rule) → has result rule ≡ (is_among (get nat_cmp self.now.by_line line) rule || names ignore.now rule) }
     {
-        let mut rules = self.rules_on(line);
-        if !ignore.ignore_all {
-            insert_all(&mut rules, ignore.violation_names);
+        let rules = self.rules_on(line);
+        if ignore.ignore_all {
+            return rules;
         }
-        rules
+        rules.union(ignore.violation_names)
     }
 
     // The rules that the line ignores of a line name.

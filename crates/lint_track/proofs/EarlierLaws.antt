@@ -45,17 +45,23 @@ pub any_below_and : (p : ℕ → Bool) (r : Bool) (n : ℕ) → any_below (λ k.
 any_below_and p r zero = refl
 any_below_and p r (suc n) = ap (λ b. b || (p n && r)) (any_below_and p r n) ∙ and_or (any_below p n) (p n) r
 
+-- no number stands between a number and the next one
+pub any_between-next : (reset : ℕ → Bool) (i : ℕ) → any_between reset i (suc i) ≡ false
+any_between-next reset i =
+    any_below_none (λ k. nat_lt i k && reset k) (suc i) (λ k l. ap (λ b. b && reset k) (le-ltb i k (omega arith)))
+
+-- some number above j and up to i passes
+pub any_between-suc : (reset : ℕ → Bool) (j i : ℕ) → j < i → any_between reset j (suc i) ≡ (any_between reset j i || reset i)
+any_between-suc reset j i l = ap (λ b. any_between reset j i || (b && reset i)) (lt-ltb j i l)
+
 -- after number i: i is marked, or it was so before i and i does not reset
 pub since-suc : (mark reset : ℕ → Bool) (i : ℕ) → since mark reset (suc i) ≡ (mark i || (since mark reset i && not (reset i)))
 since-suc mark reset i =
-    let none : any_between reset i (suc i) ≡ false =
-    any_below_none (λ k. nat_lt i k && reset k) (suc i) (λ k l. ap (λ b. b && reset k) (le-ltb i k (omega arith)))
-    in
     let last : (mark i && not (any_between reset i (suc i))) ≡ mark i =
-    ap (λ b. mark i && not b) none ∙ and_true (mark i)
+    ap (λ b. mark i && not b) (any_between-next reset i) ∙ and_true (mark i)
     in
     let step : (j : ℕ) → j < i → (mark j && not (any_between reset j (suc i))) ≡ ((mark j && not (any_between reset j i)) && not (reset i)) =
-    λ j l. ap (λ b. mark j && not (any_between reset j i || (b && reset i))) (lt-ltb j i l) ∙ and_not_or (mark j) (any_between reset j i) (reset i)
+    λ j l. ap (λ b. mark j && not b) (any_between-suc reset j i l) ∙ and_not_or (mark j) (any_between reset j i) (reset i)
     in
     let front : any_below (λ j. mark j && not (any_between reset j (suc i))) i ≡ (since mark reset i && not (reset i)) =
     any_below_same (λ j. mark j && not (any_between reset j (suc i))) (λ j. (mark j && not (any_between reset j i)) && not (reset i)) i step

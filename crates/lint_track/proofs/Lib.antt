@@ -1,3 +1,4 @@
 pub mod EarlierLaws
 pub mod Paths
+pub mod SpanLaws
 pub mod TrackingLaws

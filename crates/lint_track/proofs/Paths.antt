@@ -7,10 +7,10 @@ use Rattle.std.specs.List.{list_any}
 use Rattle.std.specs.List.Sorted.{IsPermutation}
 use Rattle.lint_track.specs.Transaction.{same_path}
 
-same_so : (p q : List (List ℕ)) → same_path p q ≡ true → p ≡ q
+pub same_so : (p q : List (List ℕ)) → same_path p q ≡ true → p ≡ q
 same_so p q h = (slice_eq-Decides bytes_eq-Decides p q (same_path p q) refl).0 h
 
-so_same : (p q : List (List ℕ)) → p ≡ q → same_path p q ≡ true
+pub so_same : (p q : List (List ℕ)) → p ≡ q → same_path p q ≡ true
 so_same p q h = (slice_eq-Decides bytes_eq-Decides p q (same_path p q) refl).1 h
 
 same_trans : (p q r : List (List ℕ)) → same_path p q ≡ true → same_path q r ≡ true → same_path p r ≡ true
@@ -20,7 +20,7 @@ any_map : {K L : Type 0} (f : K → L) (p : L → Bool) (xs : List K) → list_a
 any_map f p [] = refl
 any_map f p (x ∷ xs) = ap (λ b. p (f x) || b) (any_map f p xs)
 
-or_true : (a : Bool) → (a || true) ≡ true
+pub or_true : (a : Bool) → (a || true) ≡ true
 or_true true = refl
 or_true false = refl
 

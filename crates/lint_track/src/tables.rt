@@ -1,12 +1,14 @@
 //! The tables that the open transaction created.
 
-ghost use Rattle.std.specs.Prelude.{◌≡◌, ◌+◌, ◌||◌, ℕ, Bool, List, [], OnOk, OnErr};
+ghost use Rattle.std.specs.Prelude.{◌≡◌, ◌+◌, ◌&&◌, ◌||◌, not, ℕ, Bool, List, [], OnOk, OnErr};
 ghost use Rattle.sql_tree.specs.Statement.{Tree};
 ghost use Rattle.sql_tree.specs.PathNames.{names_of};
+ghost use Rattle.lint_track.specs.Transaction as spec;
 ghost use Rattle.lint_track.specs.Transaction.{is_new, same_path, creates, stmt_at};
 ghost use Rattle.lint_track.specs.Tracking.{IsTracking, IsAfter, holds};
 
-use crate::statement::{begins, chains, created, ends};
+use crate::open::OpenTransaction;
+use crate::statement::{created, ends};
 use sql_tree::{NamePath, Parse, Stmt};
 use std::alloc::Global;
 use std::collections::HashSet;
@@ -21,7 +23,7 @@ const KEPT_CAPACITY: usize = 64;
 #[derive(Drop)]
 pub struct TablesCreatedInTransaction<'t> {
     alloc: Global,
-    is_open: bool,
+    open: OpenTransaction,
     tables: HashSet<NamePath<'t>>,
 }
 
@@ -32,7 +34,7 @@ impl<'t> Model for TablesCreatedInTransaction<'t> {
 
     ghost Value = { Known };
 
-    ghost view = { λ t. record { is_open = t.is_open; tables = map names_of t.tables.keys } };
+    ghost view = { λ t. record { is_open = t.open; tables = map names_of t.tables.keys } };
 }
 
 impl<'t> TablesCreatedInTransaction<'t> {
@@ -42,7 +44,7 @@ impl<'t> TablesCreatedInTransaction<'t> {
     {
         TablesCreatedInTransaction {
             alloc,
-            is_open: assume,
+            open: OpenTransaction::new(assume),
             tables: HashSet::new(alloc),
         }
     }
@@ -90,13 +92,25 @@ impl<'t> TablesCreatedInTransaction<'t> {
         ensures ok { OnOk result (IsAfter p.now s.now self.old self.new) }
         ensures err { OnErr result (self.new ≡ self.old) }
     {
+        self.create_or_forget(p, s)?;
+        self.open.update(s);
+        Ok(())
+    }
+
+    fn create_or_forget(&mut self, p: &Parse<'t>, s: &Stmt) -> Result<(), NoMemory>
+        ensures open { self.new.is_open ≡ self.old.is_open }
+        ensures ok { OnOk result ((q : List (List ℕ)) → holds self.new q
+            ≡ ((creates p.now q s.now && self.old.is_open) || (holds self.old q && not (spec.ends s.now)))) }
+        ensures err { OnErr result (self.new ≡ self.old) }
+    {
         if ends(s) {
             self.forget();
-        } else if self.is_open {
-            self.create(p, s)?;
+            Ok(())
+        } else if self.open.inside() {
+            self.create(p, s)
+        } else {
+            Ok(())
         }
-        self.is_open = begins(s) || chains(s) || (self.is_open && !ends(s));
-        Ok(())
     }
 
     fn create(&mut self, p: &Parse<'t>, s: &Stmt) -> Result<(), NoMemory>

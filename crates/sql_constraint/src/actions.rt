@@ -3,8 +3,8 @@
 ghost use Rattle.std.specs.Prelude.{◌≡◌, IfOk};
 ghost use Rattle.sql_tree.specs.Action as spec;
 
-use crate::constraint::{behind_word, span_of, table_constraint};
-use crate::parts::{Mark, Parts};
+use crate::constraint::{span_of, table_constraint};
+use sql_part::{Mark, Parts, behind_word};
 use sql_token::{Keyword, Terminal};
 use sql_tree::{Action, ActionKind, Constraint};
 use sqlite_items::Items;

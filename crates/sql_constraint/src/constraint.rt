@@ -3,11 +3,10 @@
 ghost use Rattle.std.specs.Prelude.{◌≡◌};
 ghost use Rattle.std.specs.Option.{option_map, option_copied};
 ghost use Rattle.sql_token.specs.Depth as depth;
-ghost use Rattle.sql_tree.specs.Forms as forms;
 ghost use Rattle.sql_tree.specs.Constraint as spec;
 ghost use Rattle.sql_constraint.specs.Views.{beside};
 
-use crate::parts::{Mark, has_mark};
+use sql_part::{Mark, behind_word, has_mark};
 use sql_token::{Keyword, Span, Symbol, Terminal};
 use sql_tree::{ConKind, Constraint};
 
@@ -21,16 +20,6 @@ pub(crate) fn span_of(terminals: &[Terminal]) -> Span
             first: first.number,
             last: terminals[terminals.len() - 1].number,
         },
-    }
-}
-
-/// What follows this word, which stands first.
-pub(crate) fn behind_word<'a>(word: Keyword, terminals: &'a [Terminal]) -> Option<&'a [Terminal]>
-    ensures { option_copied result ≡ forms.behind_word word terminals.entry.now }
-{
-    match terminals {
-        [first, rest @ ..] if first.is_keyword(word) => Some(rest),
-        _ => None,
     }
 }
 

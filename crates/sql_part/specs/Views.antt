@@ -2,20 +2,17 @@
 use Rattle.std.specs.Prelude.{ℕ, List}
 use Rattle.sql_token.specs.declared.terminal.Terminal.{Terminal}
 use Rattle.sql_tree.specs.declared.forms.Captures.{Captures}
-use Rattle.sql_tree.specs.declared.forms.Reading.{Reading}
 use Rattle.sql_tree.specs.declared.kinds.StmtKind.{StmtKind}
 use Rattle.sql_tree.specs.Forms.{State, at}
 use denote.Bor.{Bor}
 
-abbrev pub shown : Reading → State
-shown r = record { kept = r.kept; left = r.left.now }
-
-abbrev pub shown_front : StmtKind × Reading → StmtKind × State
-shown_front f = (f.0, shown f.1)
-
 -- what was kept, and the terminals of a slice as what is left
 abbrev pub behind : Captures → Bor (List Terminal) → State
 behind c r = at c r.now
+
+-- the same beside the kind of a statement
+abbrev pub front : Captures → StmtKind × Bor (List Terminal) → StmtKind × State
+front c f = (f.0, behind c f.1)
 
 abbrev pub beside : ℕ × Bor (List Terminal) → ℕ × List Terminal
 beside p = (p.0, p.1.now)

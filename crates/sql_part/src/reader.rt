@@ -8,10 +8,11 @@ ghost use Rattle.std.specs.Option.{option_map, option_copied};
 ghost use Rattle.sql_keyword.specs.declared.words.Keyword.TheVariants as k;
 ghost use Rattle.sql_token.specs.Terminal.{is_keyword, is_name};
 ghost use Rattle.sql_tree.specs.declared.forms.Captures.{Captures};
-ghost use Rattle.sql_tree.specs.Forms.{at, one, nothing_kept, word_kept, concurrently_kept, is_temp, is_other_mod, names_end, take_path, take_mods, tell, take_index_name, take_chain, take_concurrently, take_rest, words_of, behind_word, behind_words, or_here, take_phrase, take_part};
+ghost use Rattle.sql_tree.specs.Forms.{at, one, nothing_kept, word_kept, concurrently_kept, is_temp, is_other_mod, names_end, take_path, take_mods, tell, take_index_name, take_chain, take_concurrently, take_star, take_into, take_rest, words_of, behind_word, behind_words, or_here, take_phrase, take_part};
 ghost use Rattle.sql_part.specs.Views.{behind, beside};
 
-use sql_token::{Keyword, Span, Terminal};
+use crate::parts::{self, from_mark};
+use sql_token::{Keyword, Span, Symbol, Terminal};
 use sql_tree::forms::{Captures, Mark, Part, Phrase};
 
 fn tell(mark: Mark, kept: &mut Captures)
@@ -25,7 +26,8 @@ fn tell(mark: Mark, kept: &mut Captures)
     }
 }
 
-fn after_word<'a>(word: Keyword, left: &'a [Terminal]) -> Option<&'a [Terminal]>
+/// What follows this word, where it stands first.
+pub fn behind_word<'a>(word: Keyword, left: &'a [Terminal]) -> Option<&'a [Terminal]>
     ensures copied { option_copied result ≡ behind_word word left.entry.now }
     ensures kept { (c : Captures) → option_map (behind c) result ≡ one (is_keyword word) nothing_kept c left.entry.now }
 {
@@ -44,7 +46,7 @@ fn after_object<'a>(
 {
     match left {
         [first, rest @ ..] if first.is_keyword(word) => {
-            kept.word = first.number;
+            kept.word = Some(first.number);
             Some(rest)
         }
         _ => None,
@@ -82,6 +84,7 @@ fn words(phrase: Phrase) -> &'static [Keyword]
     ensures { result.now ≡ words_of phrase }
 {
     match phrase {
+        Phrase::IfExists => &[Keyword::If, Keyword::Exists],
         Phrase::IfNotExists => &[Keyword::If, Keyword::Not, Keyword::Exists],
         Phrase::AndChain => &[Keyword::And, Keyword::Chain],
         Phrase::AndNoChain => &[Keyword::And, Keyword::No, Keyword::Chain],
@@ -93,7 +96,7 @@ fn after_phrase<'a>(phrase: Phrase, left: &'a [Terminal]) -> Option<&'a [Termina
 {
     let mut here = left;
     for word in words(phrase) {
-        here = after_word(*word, here)?;
+        here = behind_word(*word, here)?;
     }
     Some(here)
 }
@@ -216,14 +219,29 @@ fn after_path<'a>(kept: &mut Captures, left: &'a [Terminal]) -> Option<&'a [Term
     match left {
         [name, rest @ ..] if name.is_name() => {
             let (last, end) = names_from(name.number, rest);
-            kept.path = Span {
+            kept.path = Some(Span {
                 first: name.number,
                 last,
-            };
+            });
             Some(end)
         }
         _ => None,
     }
+}
+
+fn after_star<'a>(kept: &Captures, left: &'a [Terminal]) -> &'a [Terminal]
+    ensures { at kept.now result.now ≡ take_star kept.now left.entry.now }
+{
+    match left {
+        [first, rest @ ..] if matches!(first.symbol, Symbol::Star) => rest,
+        _ => left,
+    }
+}
+
+fn after_into<'a>(left: &'a [Terminal]) -> Option<&'a [Terminal]>
+    ensures { (c : Captures) → option_map (behind c) result ≡ take_into c left.entry.now }
+{
+    behind_word(Keyword::Into, from_mark(parts::Mark::Into, left))
 }
 
 fn leave_open<'a>(kept: &mut Captures, left: &'a [Terminal]) -> &'a [Terminal]
@@ -244,7 +262,7 @@ pub(crate) fn take_part<'a>(
     ensures { option_map (behind kept.new) result ≡ take_part part kept.old left.entry.now }
 {
     match part {
-        Part::Word(word) => after_word(word, left),
+        Part::Word(word) => behind_word(word, left),
         Part::Object(word) => after_object(word, kept, left),
         Part::Flag(word, mark) => Some(after_flag(word, mark, kept, left)),
         Part::Either(word, other) => Some(after_either(word, other, left)),
@@ -254,6 +272,8 @@ pub(crate) fn take_part<'a>(
         Part::IndexName => Some(after_index_name(kept, left)),
         Part::Mods => Some(after_mods(kept, left)),
         Part::Path => after_path(kept, left),
+        Part::Star => Some(after_star(kept, left)),
+        Part::Into => after_into(left),
         Part::Rest => Some(leave_open(kept, left)),
     }
 }

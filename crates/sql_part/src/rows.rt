@@ -3,12 +3,14 @@
 ghost use Rattle.std.specs.Prelude.{◌≡◌, map};
 ghost use Rattle.std.specs.Option.{option_map};
 ghost use Rattle.sql_tree.specs.Forms.{at, fresh, in_turn, finished, first_led, rows_of};
-ghost use Rattle.sql_part.specs.Views.{behind, shown_front};
+ghost use Rattle.sql_part.specs.Views.{behind, front};
 
 use crate::reader::{is_all_taken, take_part};
-use sql_token::{Keyword, Span, Terminal};
+use sql_token::{Keyword, Terminal};
 use sql_tree::StmtKind;
-use sql_tree::forms::{BEGIN, COMMIT, CREATE, Captures, Part, ROLLBACK, Reading, Rows, START};
+use sql_tree::forms::{
+    ALTER, BEGIN, COMMIT, CREATE, Captures, Part, ROLLBACK, Rows, SELECT, START,
+};
 
 /// The rows of a first word.
 #[tactic(auto, unfolding(sql_tree::specs::Forms::rows_of))]
@@ -21,16 +23,19 @@ fn rows_of(first: Keyword) -> Rows
         Keyword::Commit | Keyword::End => &COMMIT,
         Keyword::Rollback | Keyword::Abort => &ROLLBACK,
         Keyword::Create => &CREATE,
+        Keyword::Alter => &ALTER,
+        Keyword::Select => &SELECT,
         _ => &[],
     }
 }
 
-fn nothing_kept() -> Captures
+/// What is kept before anything is read.
+pub fn nothing_kept() -> Captures
     ensures { result ≡ fresh }
 {
     Captures {
-        word: 0,
-        path: Span { first: 0, last: 0 },
+        word: None,
+        path: None,
         name: None,
         concurrently: None,
         unique: false,
@@ -59,27 +64,31 @@ fn take_parts<'a>(
 fn finish_row<'a>(
     kind: StmtKind,
     body: &[Part],
-    mut kept: Captures,
+    kept: &mut Captures,
     left: &'a [Terminal],
-) -> Option<(StmtKind, Reading<'a>)>
-    ensures { option_map shown_front result ≡ finished kind body.now (at kept left.entry.now) }
+) -> Option<(StmtKind, &'a [Terminal])>
+    ensures { option_map (front kept.new) result ≡ finished kind body.now (at kept.old left.entry.now) }
 {
-    let end = take_parts(body, &mut kept, left)?;
-    if is_all_taken(&kept, end) {
-        Some((kind, Reading { kept, left: end }))
+    let end = take_parts(body, kept, left)?;
+    if is_all_taken(kept, end) {
+        Some((kind, end))
     } else {
         None
     }
 }
 
 /// The first row whose lead words stand.
-fn first_row<'a>(rows: Rows, left: &'a [Terminal]) -> Option<(StmtKind, Reading<'a>)>
-    ensures { option_map shown_front result ≡ first_led (map (λ r. (r.0, r.1.now, r.2.now)) rows.entry.now) left.entry.now }
+fn first_row<'a>(
+    rows: Rows,
+    kept: &mut Captures,
+    left: &'a [Terminal],
+) -> Option<(StmtKind, &'a [Terminal])>
+    ensures { option_map (front kept.new) result ≡ first_led (map (λ r. (r.0, r.1.now, r.2.now)) rows.entry.now) left.entry.now }
 {
     let mut rest = rows;
     while let [row, more @ ..] = rest {
-        let mut kept = nothing_kept();
-        if let Some(behind) = take_parts(row.1, &mut kept, left) {
+        *kept = nothing_kept();
+        if let Some(behind) = take_parts(row.1, kept, left) {
             return finish_row(row.0, row.2, kept, behind);
         }
         rest = more;
@@ -87,9 +96,14 @@ fn first_row<'a>(rows: Rows, left: &'a [Terminal]) -> Option<(StmtKind, Reading<
     None
 }
 
-/// The kind of a statement that begins with this word, and what its form keeps of the terminals behind the word.
-pub fn read_front<'a>(first: Keyword, left: &'a [Terminal]) -> Option<(StmtKind, Reading<'a>)>
-    ensures { option_map shown_front result ≡ first_led (rows_of first) left.entry.now }
+/// The kind of a statement that begins with this word, and the terminals that its form leaves open, of those behind the
+/// word. What the form keeps is written in place of what was kept.
+pub fn read_front<'a>(
+    first: Keyword,
+    kept: &mut Captures,
+    left: &'a [Terminal],
+) -> Option<(StmtKind, &'a [Terminal])>
+    ensures { option_map (front kept.new) result ≡ first_led (rows_of first) left.entry.now }
 {
-    first_row(rows_of(first), left)
+    first_row(rows_of(first), kept, left)
 }

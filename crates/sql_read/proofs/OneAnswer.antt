@@ -1,8 +1,8 @@
 -- Where the cause of an answer holds, the answer is that one, or memory ran out.
-use Rattle.std.proofs.Common.{◌≡◌, ◌∙◌, sym, ap, subst, refl, ◌<◌, ◌≤◌, ◌^◌, ℕ, List, length, Result, Ok, Err, IfOk, IfErr, arith}
+use Rattle.std.proofs.Common.{◌≡◌, ◌∙◌, sym, ap, subst, ◌<◌, ◌^◌, ℕ, length, Result, Ok, Err, IfOk, IfErr, arith}
 use Rattle.sql_token.specs.Token.{Text, OpenAt, Lexed}
 use Rattle.sql_token.proofs.TokenLaws.{not_both, one_open}
-use Rattle.sql_tree.specs.Statement.{Tree, IsTree, IsSyntaxAt}
+use Rattle.sql_tree.specs.Statement.{Tree, IsSyntaxAt}
 use Rattle.sql_tree.proofs.TreeLaws.{one_tree, one_fault}
 use Rattle.sql_tree.proofs.TreeLaws as tree
 use Rattle.sql_read.specs.declared.error.LintError.{LintError}

@@ -6,7 +6,7 @@ ghost use Rattle.sql_tree.specs.Statement.{Tree, IsTree, IsSyntaxAt, all_stateme
 ghost use Rattle.sql_read.specs.Cause.{Reads, IsCause, IsTreeOf, OkOrNoMemory, ErrOrNoMemory};
 
 use crate::error::LintError;
-use crate::form::statement;
+use crate::form::push_statement;
 use sql_lex::{LexError, Statements, lex, span_of};
 use sql_token::{Terminal, Tok};
 use sql_tree::{Parse, SourceFile, Stmt};
@@ -42,6 +42,7 @@ impl From<AllocError> for Stop {
 }
 
 /// All statements that are still to come.
+#[inline(never)]
 fn read_all(alloc: Global, left: Statements<'_>) -> Result<Items<Stmt>, Stop>
     ensures { Reads (all_statements left.entry) result }
 {
@@ -53,13 +54,10 @@ fn read_all(alloc: Global, left: Statements<'_>) -> Result<Items<Stmt>, Stop>
         if !more {
             return Ok(stmts);
         }
-        match statement(alloc, terminals.as_slice()) {
-            Some(stmt) => stmts.push(stmt)?,
-            None => {
-                return Err(Stop::NoForm {
-                    first: span_of(terminals.as_slice()).first,
-                });
-            }
+        if !push_statement(alloc, &mut stmts, terminals.as_slice())? {
+            return Err(Stop::NoForm {
+                first: span_of(terminals.as_slice()).first,
+            });
         }
     }
 }

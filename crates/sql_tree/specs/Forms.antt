@@ -3,6 +3,8 @@ use Rattle.std.specs.Prelude.{ℕ, ◌==◌, List, [], ◌∷◌, length, map, B
 use Rattle.std.specs.Option.{option_and_then}
 use Rattle.sql_keyword.specs.declared.words.Keyword.{Keyword}
 use Rattle.sql_keyword.specs.declared.words.Keyword.TheVariants as k
+use Rattle.sql_token.specs.declared.terminal.Symbol.{Symbol}
+use Rattle.sql_token.specs.declared.terminal.Symbol.TheVariants as s
 use Rattle.sql_token.specs.declared.terminal.Terminal.{Terminal}
 use Rattle.sql_token.specs.Terminal.{is_keyword, is_name, is_dot}
 use Rattle.sql_tree.specs.declared.kinds.StmtKind.{StmtKind}
@@ -13,7 +15,8 @@ use Rattle.sql_tree.specs.declared.forms.Phrase.TheVariants as phrase
 use Rattle.sql_tree.specs.declared.forms.Part.{Part}
 use Rattle.sql_tree.specs.declared.forms.Part.TheVariants as p
 use Rattle.sql_tree.specs.declared.forms.Captures.{Captures}
-use Rattle.sql_tree.specs.declared.forms.TheConstants.{BEGIN, START, COMMIT, ROLLBACK, CREATE}
+use Rattle.sql_tree.specs.declared.forms.TheConstants.{BEGIN, START, COMMIT, ROLLBACK, CREATE, ALTER, SELECT}
+use Rattle.sql_tree.specs.Split.{from_mark, into}
 
 -- what is kept so far, and the terminals that are left
 pub record State : Type 0 where
@@ -34,7 +37,7 @@ abbrev pub nothing_kept : Terminal → Captures → Captures
 nothing_kept t c = c
 
 abbrev pub word_kept : Terminal → Captures → Captures
-word_kept t c = record c { word = t.number }
+word_kept t c = record c { word = Some t.number }
 
 abbrev pub name_kept : Terminal → Captures → Captures
 name_kept t c = record c { name = Some t.number }
@@ -54,6 +57,7 @@ or_here (Some s) c ts = s
 or_here None c ts = at c ts
 
 unfoldable pub words_of : Phrase → List Keyword
+words_of phrase.IfExists = k.If ∷ k.Exists ∷ []
 words_of phrase.IfNotExists = k.If ∷ k.Not ∷ k.Exists ∷ []
 words_of phrase.AndChain = k.And ∷ k.Chain ∷ []
 words_of phrase.AndNoChain = k.And ∷ k.No ∷ k.Chain ∷ []
@@ -85,7 +89,7 @@ abbrev pub take_path : Captures → List Terminal → Option State
 take_path c [] = None
 take_path c (t ∷ ts) =
     if is_name t
-    then Some (at (record c { path = record { first = t.number; last = (names_end t.number ts).0 } }) (names_end t.number ts).1)
+    then Some (at (record c { path = Some (record { first = t.number; last = (names_end t.number ts).0 }) }) (names_end t.number ts).1)
     else None
 
 abbrev pub is_temp : Terminal → Bool
@@ -117,6 +121,17 @@ take_chain c ts =
 abbrev pub take_concurrently : Captures → List Terminal → State
 take_concurrently c ts = or_here (one (is_keyword k.Concurrently) concurrently_kept c ts) c ts
 
+abbrev pub is_star_symbol : Symbol → Bool
+is_star_symbol s.Star = true
+is_star_symbol _ = false
+
+abbrev pub take_star : Captures → List Terminal → State
+take_star c ts = or_here (one (λ t. is_star_symbol t.symbol) nothing_kept c ts) c ts
+
+-- what stands behind the INTO of a SELECT
+abbrev pub take_into : Captures → List Terminal → Option State
+take_into c ts = one (is_keyword k.Into) nothing_kept c (from_mark into ts)
+
 abbrev pub take_rest : Captures → List Terminal → State
 take_rest c ts = at (record c { open_ended = true }) ts
 
@@ -134,6 +149,8 @@ take_part p.Concurrently c ts = Some (take_concurrently c ts)
 take_part p.IndexName c ts = Some (take_index_name c ts)
 take_part p.Mods c ts = Some (take_mods c ts)
 take_part p.Path c ts = take_path c ts
+take_part p.Star c ts = Some (take_star c ts)
+take_part p.Into c ts = take_into c ts
 take_part p.Rest c ts = Some (take_rest c ts)
 
 -- these parts one after another
@@ -159,8 +176,8 @@ led_or (Some s) r other = finished r.0 r.2 s
 
 abbrev pub fresh : Captures
 fresh = record {
-  word = 0;
-  path = record { first = 0; last = 0 };
+  word = None;
+  path = None;
   name = None;
   concurrently = None;
   unique = false;
@@ -184,4 +201,6 @@ rows_of k.End = map (λ r. (r.0, r.1.now, r.2.now)) COMMIT
 rows_of k.Rollback = map (λ r. (r.0, r.1.now, r.2.now)) ROLLBACK
 rows_of k.Abort = map (λ r. (r.0, r.1.now, r.2.now)) ROLLBACK
 rows_of k.Create = map (λ r. (r.0, r.1.now, r.2.now)) CREATE
+rows_of k.Alter = map (λ r. (r.0, r.1.now, r.2.now)) ALTER
+rows_of k.Select = map (λ r. (r.0, r.1.now, r.2.now)) SELECT
 rows_of _ = []

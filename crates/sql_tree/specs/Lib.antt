@@ -6,4 +6,3 @@ pub mod PathNames
 pub mod Split
 pub mod Constraint
 pub mod Action
-pub mod Renumber

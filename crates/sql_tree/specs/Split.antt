@@ -1,12 +1,12 @@
 -- Lists of terminals, split at marks of depth 0.
 -- Depth is counted from the start of the list, by the two counts of openers and closers.
-use Rattle.std.specs.Prelude.{ℕ, suc, ◌+◌, ◌==◌, nat_lt, Bool, true, false, ◌&&◌, if◌then◌else◌, List, [], ◌∷◌, length, Option, Some, None}
+use Rattle.std.specs.Prelude.{ℕ, suc, ◌+◌, ◌==◌, nat_lt, Bool, true, false, not, ◌&&◌, ◌||◌, if◌then◌else◌, List, [], ◌∷◌, length, drop, Option, Some, None}
 use Rattle.sql_keyword.specs.declared.words.Keyword.{Keyword}
 use Rattle.sql_keyword.specs.declared.words.Keyword.TheVariants as k
 use Rattle.sql_token.specs.declared.terminal.Symbol.{Symbol}
 use Rattle.sql_token.specs.declared.terminal.Symbol.TheVariants as s
 use Rattle.sql_token.specs.declared.terminal.Terminal.{Terminal}
-use Rattle.sql_token.specs.Terminal.{is_keyword, is_opener, is_closer}
+use Rattle.sql_token.specs.Terminal.{is_keyword, is_dot, is_opener, is_closer}
 use Rattle.sql_token.specs.Depth.{one_if, onto}
 
 -- Whether a mark begins at a terminal, told by the terminal before it in the list, itself, and those after it.
@@ -31,6 +31,32 @@ begins_with w (t ∷ ts) = is_keyword w t
 unfoldable pub not_valid : Option Terminal → Terminal → List Terminal → Bool
 not_valid earlier t after = is_keyword k.Not t && begins_with k.Valid after
 
+abbrev pub is_as_or_dot : Option Terminal → Bool
+is_as_or_dot None = false
+is_as_or_dot (Some t) = is_keyword k.As t || is_dot t
+
+-- the word INTO behind neither the word AS nor a dot
+unfoldable pub into : Option Terminal → Terminal → List Terminal → Bool
+into earlier t after = is_keyword k.Into t && not (is_as_or_dot earlier)
+
+abbrev pub is_verb_word : Keyword → Bool
+is_verb_word k.Select = true
+is_verb_word k.Insert = true
+is_verb_word k.Update = true
+is_verb_word k.Delete = true
+is_verb_word k.Merge = true
+is_verb_word k.Values = true
+is_verb_word k.Table = true
+is_verb_word _ = false
+
+abbrev pub is_verb_symbol : Symbol → Bool
+is_verb_symbol (s.Keyword w) = is_verb_word w
+is_verb_symbol _ = false
+
+-- a word that begins what a statement led by WITH does
+unfoldable pub verb : Option Terminal → Terminal → List Terminal → Bool
+verb earlier t after = is_verb_symbol t.symbol
+
 -- ---- depth 0
 
 -- How many terminals stand before the first mark of depth 0, all where there is none. Before them stand `earlier`,
@@ -47,6 +73,10 @@ before mark ts = before_from mark None 0 0 ts
 -- whether the mark stands at depth 0
 abbrev pub has : Test → List Terminal → Bool
 has mark ts = nat_lt (before mark ts) (length ts)
+
+-- from the first mark of depth 0 on: nothing where there is none
+abbrev pub from_mark : Test → List Terminal → List Terminal
+from_mark mark ts = drop (before mark ts) ts
 
 -- The parts between the marks of depth 0.
 abbrev pub split_from : Test → Option Terminal → ℕ → ℕ → List Terminal → List (List Terminal)

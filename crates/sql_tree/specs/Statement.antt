@@ -9,15 +9,18 @@ use Rattle.sql_token.specs.declared.terminal.Symbol.{Symbol}
 use Rattle.sql_token.specs.declared.terminal.Symbol.TheVariants as symbol
 use Rattle.sql_token.specs.declared.terminal.Terminal.{Terminal}
 use Rattle.sql_token.specs.Token.{Text, Lexed}
-use Rattle.sql_token.specs.Terminal.{terminals, is_semicolon}
+use Rattle.sql_token.specs.Terminal.{terminals, is_semicolon, is_keyword}
 use Rattle.sql_token.specs.Depth.{statements, span_of, has_keyword, nothing}
 use Rattle.sql_token.specs.Sound.{is_sound}
 use Rattle.sql_tree.specs.declared.kinds.StmtKind.{StmtKind}
 use Rattle.sql_tree.specs.declared.kinds.StmtKind.TheVariants as stmt
+use Rattle.sql_tree.specs.declared.forms.Captures.{Captures}
 use Rattle.sql_tree.specs.declared.nodes.Body.{Body}
 use Rattle.sql_tree.specs.declared.nodes.Body.TheVariants as body
 use Rattle.sql_tree.specs.declared.nodes.Stmt.{Stmt}
 use Rattle.sql_tree.specs.Forms.{State, rows_of, first_led}
+use Rattle.sql_tree.specs.Split.{from_mark, verb}
+use Rattle.sql_tree.specs.Action.{add_constraints}
 
 abbrev pub last_of : List Terminal → Terminal
 last_of ts = slice_index_or ts (length ts - 1) nothing
@@ -36,25 +39,54 @@ unfoldable pub kind_of : StmtKind → State → StmtKind
 kind_of stmt.CreateTable s = table_kind s.left
 kind_of kind s = kind
 
-unfoldable pub body_of : StmtKind → State → Body
-body_of stmt.Commit s = body.End true s.kept.chain
-body_of stmt.Rollback s = body.End true s.kept.chain
-body_of stmt.CreateTable s = body.Table s.kept.temp s.kept.guarded false s.kept.word s.kept.path []
-body_of stmt.CreateIndex s = body.Index s.kept.word s.kept.unique s.kept.concurrently s.kept.guarded s.kept.name s.kept.path
-body_of kind s = body.Kept
+abbrev pub table_body : Captures → Option Body
+table_body c =
+    option_and_then (λ word. option_and_then (λ path. Some (body.Table c.temp c.guarded false word path [])) c.path) c.word
+
+abbrev pub index_body : Captures → Option Body
+index_body c =
+    option_and_then (λ word. option_and_then (λ path.
+    Some (body.Index word c.unique c.concurrently c.guarded c.name path)) c.path) c.word
+
+-- What SELECT INTO gives is not read yet: it has no targets.
+abbrev pub into_body : Captures → Option Body
+into_body c = option_and_then (λ path. Some (body.Into path [])) c.path
+
+-- So far an ALTER TABLE only adds constraints.
+abbrev pub alter_body : State → Option Body
+alter_body s = option_and_then (λ actions. Some (body.Alter s.kept.path actions)) (add_constraints s.left)
+
+-- None where its tail is none of its kind
+unfoldable pub body_of : StmtKind → State → Option Body
+body_of stmt.Commit s = Some (body.End true s.kept.chain)
+body_of stmt.Rollback s = Some (body.End true s.kept.chain)
+body_of stmt.CreateTable s = table_body s.kept
+body_of stmt.CreateIndex s = index_body s.kept
+body_of stmt.SelectInto s = into_body s.kept
+body_of stmt.AlterTable s = alter_body s
+body_of kind s = Some body.Kept
+
+unfoldable pub told : StmtKind × State → Option (StmtKind × Body)
+told f = option_and_then (λ b. Some (kind_of f.0 f.1, b)) (body_of f.0 f.1)
 
 -- the kind of a statement that begins with this symbol, and what its form keeps
-unfoldable pub form_by : Symbol → List Terminal → Option (StmtKind × State)
-form_by (symbol.Keyword w) ts = first_led (rows_of w) ts
-form_by _ ts = None
+unfoldable pub front_by : Symbol → List Terminal → Option (StmtKind × State)
+front_by (symbol.Keyword w) ts = first_led (rows_of w) ts
+front_by _ ts = None
 
-abbrev pub told : StmtKind × State → StmtKind × Body
-told f = (kind_of f.0 f.1, body_of f.0 f.1)
+-- A statement led by WITH is read from its verb on, the first one at depth 0.
+unfoldable pub from_verb : List Terminal → List Terminal
+from_verb [] = []
+from_verb (t ∷ ts) = if is_keyword k.With t then from_mark verb ts else t ∷ ts
+
+unfoldable pub front_of : List Terminal → Option (StmtKind × State)
+front_of [] = None
+front_of (t ∷ ts) = front_by t.symbol ts
 
 -- the kind of a statement without its semicolon, and what is known of it
 unfoldable pub form_of : List Terminal → Option (StmtKind × Body)
 form_of [] = Some (stmt.Empty, body.Kept)
-form_of (t ∷ ts) = option_and_then (λ f. Some (told f)) (form_by t.symbol ts)
+form_of (t ∷ ts) = option_and_then told (front_of (from_verb (t ∷ ts)))
 
 -- ---- statements and trees
 

@@ -6,8 +6,10 @@
 //!
 //! The forms are those of the PostgreSQL manual, part VI, SQL Commands, as far as the linter looks into them.
 
-use crate::kinds::StmtKind::{self, Begin, Commit, CreateIndex, CreateTable, Rollback};
-use sql_token::{Keyword as K, Span, Terminal};
+use crate::kinds::StmtKind::{
+    self, AlterTable, Begin, Commit, CreateIndex, CreateTable, Rollback, SelectInto,
+};
+use sql_token::{Keyword as K, Span};
 
 /// What a form tells by words that stand or do not.
 #[derive(Clone, Copy, Debug, PartialEq, Eq)]
@@ -25,6 +27,7 @@ pub enum Mark {
 /// Words that stand together.
 #[derive(Clone, Copy, Debug, PartialEq, Eq)]
 pub enum Phrase {
+    IfExists,
     IfNotExists,
     AndChain,
     AndNoChain,
@@ -53,15 +56,19 @@ pub enum Part {
     Mods,
     /// Names with dots between them, as far as they go: the first and the last one are kept.
     Path,
+    /// `[*]`.
+    Star,
+    /// Any terminals and the word INTO, the first one at depth 0 that follows neither the word AS nor a dot.
+    Into,
     /// Any terminals to the end: the tail of the statement.
     Rest,
 }
 
-/// What reading a form keeps, by token numbers. What a form does not have is 0 or false.
+/// What reading a form keeps, by token numbers. What a form does not have is `None` or false.
 #[derive(Clone, Copy, Debug, PartialEq, Eq)]
 pub struct Captures {
-    pub word: u32,
-    pub path: Span,
+    pub word: Option<u32>,
+    pub path: Option<Span>,
     pub name: Option<u32>,
     pub concurrently: Option<u32>,
     pub unique: bool,
@@ -70,13 +77,6 @@ pub struct Captures {
     pub chain: bool,
     /// Whether any terminals may follow.
     pub open_ended: bool,
-}
-
-/// What reading has kept so far, and the terminals that are left.
-#[derive(Clone, Copy)]
-pub struct Reading<'a> {
-    pub kept: Captures,
-    pub left: &'a [Terminal],
 }
 
 /// A table of rows: kind, lead words behind the first, what follows.
@@ -130,3 +130,28 @@ pub const CREATE: [(StmtKind, &[Part], &[Part]); 2] = [
         ],
     ),
 ];
+
+/// ALTER.
+pub const ALTER: [(StmtKind, &[Part], &[Part]); 1] = [(
+    AlterTable,
+    &[Part::Object(K::Table)],
+    &[
+        Part::Maybe(Phrase::IfExists, Mark::Guarded),
+        Part::Flag(K::Only, Mark::Nothing),
+        Part::Path,
+        Part::Star,
+        Part::Rest,
+    ],
+)];
+
+/// SELECT.
+pub const SELECT: [(StmtKind, &[Part], &[Part]); 1] = [(
+    SelectInto,
+    &[
+        Part::Into,
+        Part::Mods,
+        Part::Flag(K::Table, Mark::Nothing),
+        Part::Path,
+    ],
+    &[Part::Rest],
+)];

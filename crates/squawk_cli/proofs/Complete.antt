@@ -4,7 +4,7 @@ use Rattle.std.specs.declared.option.Option.{Option}
 use Rattle.std.specs.Str.{IsUtf8}
 use Rattle.squawk_stream.specs.Faults.{Rose}
 use Rattle.squawk_stream.specs.Reading.{Took}
-use Rattle.squawk_cli.specs.Accepted.{IsAccepted}
+use Rattle.squawk_words.specs.Config.{IsAccepted}
 use Rattle.sql_token.specs.Token.{Text, Lexed}
 use Rattle.sql_token.proofs.TokenLaws as tokens
 use Rattle.sql_tree.specs.Statement.{IsValid, IsTree}
@@ -19,7 +19,7 @@ took_fits t None n k = absurd k.taken
 took_fits t (Some y) n k = omega (arith, k.many, ap length k.taken, length-append k.bytes y)
 
 pub is_done : (s : Status) (words : List (List ℕ)) (a b : Option (List ℕ)) (f g h k : ℕ) → WordsFor s words → ReadFor s a b
-    → IfSome a (λ t. InputFor s t) → SourceCause s f g → SinkCause s h k → IsAccepted words → ¬ (Rose f g) → ¬ (Rose h k)
+    → IfSome a (λ t. InputFor s words t) → SourceCause s f g → SinkCause s h k → IsAccepted words → ¬ (Rose f g) → ¬ (Rose h k)
     → IfSome a (λ t. IsUtf8 t → IsValid t → IsDone s)
 is_done s words None b f g h k w r i source sink taken ns nk = tt
 is_done Clean words (Some t) b f g h k w r i source sink taken ns nk = λ u v. tt

@@ -1,4 +1,2 @@
 pub mod Complete
-pub mod Cuts
-pub mod Joins
-pub mod Reported
+pub mod Pages

@@ -1,6 +1,3 @@
-pub mod Accepted
-pub mod Headline
+pub mod Answer
 pub mod Outcome
-pub mod Printed
-pub mod PrintedForm
 pub mod StatusLine

@@ -8,10 +8,13 @@ use Rattle.squawk_stream.specs.Parts.{AppendsPart}
 use Rattle.squawk_stream.specs.Reading.{Took}
 use Rattle.sql_token.specs.Token.{OpenAt}
 use Rattle.sql_tree.specs.Statement.{IsValid, IsSyntaxAt}
-use Rattle.squawk_cli.specs.Accepted.{IsAccepted}
-use Rattle.squawk_cli.specs.Headline.{AreReports}
-use Rattle.squawk_cli.specs.declared.lint.Violation.{Violation}
-use Rattle.squawk_cli.specs.Printed.{printed}
+use Rattle.lint_base.specs.declared.violation.Violation.{Violation}
+use Rattle.squawk_print.specs.Printed.{printed}
+use Rattle.lint_base.specs.declared.settings.LinterSettings.{LinterSettings}
+use Rattle.lint_base.specs.RuleSets.{Rules}
+use Rattle.squawk_linter.specs.Answers.{IsAnswer}
+use Rattle.squawk_words.specs.Config.{IsAccepted}
+use Rattle.squawk_cli.specs.Answer.{AreReports, HasHeadline}
 use Rattle.squawk_cli.specs.declared.status.Status.{Status}
 use Rattle.squawk_cli.specs.declared.status.Status.TheVariants.{Clean, Found, BadArguments, NotUtf8, TooLong, Unterminated, Syntax, ReadFault, WriteFault, NoMemory}
 
@@ -30,45 +33,46 @@ ReadFor NoMemory old new = ⊤
 ReadFor _ old new = IsAtEnd new
 
 -- the text has reports, at least one
-abbrev pub HasReports : List ℕ → Type 0
-HasReports t = (violations : List Violation) × AreReports t violations × (violations ≢ [])
+abbrev pub HasReports : List (List ℕ) → List ℕ → Type 0
+HasReports words t = (violations : List Violation) × AreReports words t violations × (violations ≢ [])
 
 -- what was appended is the printed form of the reports of the text
-pub record AppendsReports (t : List ℕ) (old new : Option (List ℕ)) : Type 0 where
+pub record AppendsReports (words : List (List ℕ)) (t : List ℕ) (old new : Option (List ℕ)) : Type 0 where
   pub violations : List Violation
-  pub reports : AreReports t violations
+  pub reports : AreReports words t violations
   pub appended : Appends old new (printed violations)
 
 -- what was appended is a front of it
-pub record AppendsPartOfReports (t : List ℕ) (old new : Option (List ℕ)) : Type 0 where
+pub record AppendsPartOfReports (words : List (List ℕ)) (t : List ℕ) (old new : Option (List ℕ)) : Type 0 where
   pub violations : List Violation
-  pub reports : AreReports t violations
+  pub reports : AreReports words t violations
   pub appended : AppendsPart old new (printed violations)
 
--- these bytes are the printed form of the reports of the text, and tell whether there are none
-pub record IsPage (t bytes : List ℕ) (clean : Bool) : Type 0 where
+-- these bytes are the printed form of the reports of a linter on the text, and tell whether there are none
+pub record IsPage (rules : Rules) (settings : LinterSettings) (t bytes : List ℕ) (clean : Bool) : Type 0 where
   pub violations : List Violation
-  pub reports : AreReports t violations
+  pub answer : IsAnswer t rules settings violations
+  pub headline : HasHeadline t rules settings violations
   pub printed_form : bytes ≡ printed violations
   pub cleans : clean ≡ true → violations ≡ []
   pub finds : clean ≡ false → violations ≢ []
 
 -- what the whole input is
-abbrev pub InputFor : Status → List ℕ → Type 0
-InputFor Clean t = IsUtf8 t × AreReports t []
-InputFor Found t = IsUtf8 t × HasReports t
-InputFor NotUtf8 t = (¬ (IsUtf8 t)) × (length t < 2 ^ 32)
-InputFor (Unterminated at) t = IsUtf8 t × (length t < 2 ^ 32) × OpenAt t at
-InputFor (Syntax at) t = IsUtf8 t × IsSyntaxAt t at
-InputFor WriteFault t = IsUtf8 t × IsValid t
-InputFor _ t = ⊤
+abbrev pub InputFor : Status → List (List ℕ) → List ℕ → Type 0
+InputFor Clean words t = IsUtf8 t × AreReports words t []
+InputFor Found words t = IsUtf8 t × HasReports words t
+InputFor NotUtf8 words t = (¬ (IsUtf8 t)) × (length t < 2 ^ 32)
+InputFor (Unterminated at) words t = IsUtf8 t × (length t < 2 ^ 32) × OpenAt t at
+InputFor (Syntax at) words t = IsUtf8 t × IsSyntaxAt t at
+InputFor WriteFault words t = IsUtf8 t × IsValid t
+InputFor _ words t = ⊤
 
 -- what was written of the printed reports
-abbrev pub WrittenFor : Status → List ℕ → Option (List ℕ) → Option (List ℕ) → Type 0
-WrittenFor Clean t old new = AppendsReports t old new
-WrittenFor Found t old new = AppendsReports t old new
-WrittenFor WriteFault t old new = AppendsPartOfReports t old new
-WrittenFor _ t old new = ⊤
+abbrev pub WrittenFor : Status → List (List ℕ) → List ℕ → Option (List ℕ) → Option (List ℕ) → Type 0
+WrittenFor Clean words t old new = AppendsReports words t old new
+WrittenFor Found words t old new = AppendsReports words t old new
+WrittenFor WriteFault words t old new = AppendsPartOfReports words t old new
+WrittenFor _ words t old new = ⊤
 
 -- nothing was written but where the printed reports were
 abbrev pub KeptFor : Status → Option (List ℕ) → Option (List ℕ) → Type 0

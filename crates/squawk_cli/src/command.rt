@@ -4,7 +4,7 @@ ghost use Rattle.std.specs.Str.{IsUtf8};
 ghost use Rattle.std.specs.Io.KnownBytes.{Appends};
 ghost use Rattle.squawk_stream.specs.Faults.{Rose};
 ghost use Rattle.squawk_stream.specs.Parts.{AppendsPart};
-ghost use Rattle.squawk_cli.specs.Accepted.{IsAccepted};
+ghost use Rattle.squawk_words.specs.Config.{IsAccepted};
 ghost use Rattle.sql_tree.specs.Statement.{IsValid};
 ghost use Rattle.squawk_cli.specs.StatusLine.{line_of};
 ghost use Rattle.squawk_cli.specs.Outcome.{WordsFor, ReadFor, InputFor, WrittenFor, KeptFor, SourceCause, SinkCause, IsDone};
@@ -12,8 +12,8 @@ ghost use Rattle.squawk_cli.specs.Outcome.{WordsFor, ReadFor, InputFor, WrittenF
 use crate::page::make_page;
 use crate::status::Status;
 use crate::status_line::say;
-use crate::words::{Words, read_words};
 use squawk_stream::{ReadError, Sink, Source, read_to_end, write_all};
+use squawk_words::{Words, read_words};
 use std::alloc::Global;
 
 /// All of a run but the line on the error sink.
@@ -21,22 +21,24 @@ fn work<S: Source, K: Sink>(alloc: Global, words: &Words, src: &mut S, out: &mut
     ensures words { WordsFor result words.now }
     ensures unread { result ≡ Status.BadArguments → src.new ≡ src.old }
     ensures read { ReadFor result (S.left src.old) (S.left src.new) }
-    ensures input { IfSome (S.left src.old) (λ t. InputFor result t) }
-    ensures written { IfSome (S.left src.old) (λ t. WrittenFor result t (K.held out.old) (K.held out.new)) }
+    ensures input { IfSome (S.left src.old) (λ t. InputFor result words.now t) }
+    ensures written { IfSome (S.left src.old) (λ t. WrittenFor result words.now t (K.held out.old) (K.held out.new)) }
     ensures kept { KeptFor result (K.held out.old) (K.held out.new) }
     ensures source { SourceCause result (S.faults src.old) (S.faults src.new) }
     ensures sink { SinkCause result (K.faults out.old) (K.faults out.new) }
 {
-    if !read_words(words) {
-        return Status::BadArguments;
-    }
+    let mut linter = match read_words(alloc, words) {
+        Ok(Some(config)) => config.linter,
+        Ok(None) => return Status::BadArguments,
+        Err(_) => return Status::NoMemory,
+    };
     let input = match read_to_end(alloc, src) {
         Ok(input) => input,
         Err(ReadError::TooLong) => return Status::TooLong,
         Err(ReadError::Fault) => return Status::ReadFault,
         Err(ReadError::NoMemory) => return Status::NoMemory,
     };
-    let page = match make_page(alloc, input.as_slice()) {
+    let page = match make_page(alloc, &mut linter, input.as_slice()) {
         Ok(page) => page,
         Err(refused) => return refused,
     };
@@ -50,7 +52,7 @@ fn work<S: Source, K: Sink>(alloc: Global, words: &Words, src: &mut S, out: &mut
     }
 }
 
-/// Reads the words, then all of the input, lints it, prints the reports into memory and writes them to `out`. The line of
+/// Reads the words, then all of the input, lints it as they say, prints the reports into memory and writes them to `out`. The line of
 /// the status goes to `err`, and a failure there changes no status.
 ///
 /// The clauses say by each status what the words and the input are (`words`, `input`), what was read and written (`read`,
@@ -66,8 +68,8 @@ pub fn run<S: Source, K: Sink, E: Sink>(
     ensures words { WordsFor result words.now }
     ensures unread { result ≡ Status.BadArguments → src.new ≡ src.old }
     ensures read { ReadFor result (S.left src.old) (S.left src.new) }
-    ensures input { IfSome (S.left src.old) (λ t. InputFor result t) }
-    ensures written { IfSome (S.left src.old) (λ t. WrittenFor result t (K.held out.old) (K.held out.new)) }
+    ensures input { IfSome (S.left src.old) (λ t. InputFor result words.now t) }
+    ensures written { IfSome (S.left src.old) (λ t. WrittenFor result words.now t (K.held out.old) (K.held out.new)) }
     ensures kept { KeptFor result (K.held out.old) (K.held out.new) }
     ensures source { SourceCause result (S.faults src.old) (S.faults src.new) }
     ensures sink { SinkCause result (K.faults out.old) (K.faults out.new) }

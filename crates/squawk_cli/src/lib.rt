@@ -3,18 +3,15 @@
 #![tactic(auto)]
 
 mod command;
-mod lint;
 mod page;
-mod print;
 mod status;
 mod status_line;
-mod words;
 
 pub use command::run;
-pub use print::printed_form_is_exact;
+pub use squawk_print::{print_violations, printed_form_is_exact};
 pub use squawk_stream::{
     Failed, MemSink, MemSource, Sink, SliceSource, Source, StdSink, StdSource,
 };
+pub use squawk_words::{Config, Words, read_words};
 pub use status::Status;
 pub use status_line::say;
-pub use words::Words;

@@ -1,26 +1,14 @@
-//! Tests on the public calls of the other crates. The expected values come from the PostgreSQL manual and from examples
-//! that were worked by hand, never from what the code answered.
+//! Tests on the command: its sources and sinks, its runs, and what is reported of whole texts. The expected values come
+//! from examples that were worked by hand, never from what the code answered.
 #![tactic(auto)]
 
 #[cfg(test)]
 mod command;
 #[cfg(test)]
-mod fronts;
+mod ignores;
 #[cfg(test)]
-mod keywords;
+mod outcome;
 #[cfg(test)]
-mod names;
-#[cfg(test)]
-mod paths;
-#[cfg(test)]
-mod statements;
+mod reports;
 #[cfg(test)]
 mod streams;
-#[cfg(test)]
-mod terminals;
-#[cfg(test)]
-mod tokens;
-#[cfg(test)]
-mod transactions;
-#[cfg(test)]
-mod trees;

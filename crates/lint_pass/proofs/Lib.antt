@@ -1,0 +1,4 @@
+pub mod BlockLaws
+pub mod Counts
+pub mod PartLaws
+pub mod RangeLaws

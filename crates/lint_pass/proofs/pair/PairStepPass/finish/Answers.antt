@@ -1,0 +1,7 @@
+use Rattle.lint_base.specs.Grown.{at_err}
+use Rattle.lint_pass.specs.PairLaws.{pair_kept}
+use Rattle.lint_pass.proofs.pair.PairStepPass.finish.Goals as goal
+
+pub returns-in_err-append-clause-err : goal.returns-in_err-append-clause-err
+returns-in_err-append-clause-err g c =
+    at_err _ (pair_kept _ _ _ _ _ _ _ _ c.in_ok-finish.ensures.ok c.in_err-append.ensures.err c.requires.state.2 (g.met.B.StepPass.whole _ _ _ _))

@@ -1,0 +1,79 @@
+//! The walk that feeds a step pass.
+
+ghost use Rattle.std.specs.Prelude.{◌≡◌, ◌+◌, ◌*◌, ◌<◌, ◌≤◌, ◌++◌, length, OnOk, OnErr};
+ghost use Rattle.lint_base.specs.Grown.{GrownBy};
+ghost use Rattle.lint_pass.specs.Cleared.{IsCleared};
+
+use crate::blocks::find_blocks;
+use crate::cursor::Cursor;
+use crate::step::StepPass;
+use crate::steps::Steps;
+use lint_base::{LinterSettings, Reports, RuleSet};
+use sql_tree::Parse;
+use std::alloc::Global;
+use std::marker::Brand;
+use std::sync::ledger::{Blank, Ledger};
+use text_pos::NoMemory;
+
+/// Feeds a pass with the statements of a tree, in order, and adds its reports. It goes over the statements twice: once for
+/// the blocks, and once for the pass. The error is want of memory; then a first part of the reports has been added.
+pub fn drive<P: StepPass, L: Ledger>(
+    alloc: Global,
+    pass: &P,
+    p: &Parse<'_>,
+    rules: &RuleSet,
+    set: &LinterSettings,
+    out: &mut Reports,
+    steps: &mut Steps<L>,
+) -> Result<(), NoMemory>
+    requires { IsCleared p.now set.now }
+    ensures ok { OnOk result (out.new ≡ out.old ++ P.table pass.now p.now rules.now set.now) }
+    ensures err { OnErr result (GrownBy out.old out.new (P.table pass.now p.now rules.now set.now)) }
+    ensures steps { steps.new ≤ steps.old + 2 * length p.now.stmts }
+{
+    let mut cursor = Cursor::new(p);
+    let blocks = find_blocks(alloc, &mut cursor, steps)?;
+    cursor.rewind();
+    let mut state = pass.start(alloc, set)?;
+    while let Some((i, s)) = cursor.next(steps) {
+        pass.step(&mut state, p, i, s, blocks.as_slice(), rules, set, out)?;
+    }
+    pass.finish(alloc, state, p, rules, set, out)
+}
+
+// The walk over a new ledger, which the caller picks.
+fn drive_blank<P: StepPass, L: Ledger>(
+    blank: Blank,
+    alloc: Global,
+    pass: &P,
+    p: &Parse<'_>,
+    rules: &RuleSet,
+    set: &LinterSettings,
+    out: &mut Reports,
+) -> Result<(), NoMemory>
+    requires name { blank.name ≡ L.name }
+    requires parts { blank.parts ≡ L.parts }
+    requires some { 0 < blank.parts }
+    requires cleared { IsCleared p.now set.now }
+    ensures ok { OnOk result (out.new ≡ out.old ++ P.table pass.now p.now rules.now set.now) }
+    ensures err { OnErr result (GrownBy out.old out.new (P.table pass.now p.now rules.now set.now)) }
+{
+    let mut steps = Steps::<L>::new(blank);
+    drive(alloc, pass, p, rules, set, out, &mut steps)
+}
+
+/// The same walk, whose steps nobody counts.
+pub fn walk<P: StepPass>(
+    alloc: Global,
+    pass: &P,
+    p: &Parse<'_>,
+    rules: &RuleSet,
+    set: &LinterSettings,
+    out: &mut Reports,
+) -> Result<(), NoMemory>
+    requires { IsCleared p.now set.now }
+    ensures ok { OnOk result (out.new ≡ out.old ++ P.table pass.now p.now rules.now set.now) }
+    ensures err { OnErr result (GrownBy out.old out.new (P.table pass.now p.now rules.now set.now)) }
+{
+    drive_blank::<P, Brand>(Blank::new(1), alloc, pass, p, rules, set, out)
+}

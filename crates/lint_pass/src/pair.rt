@@ -1,0 +1,110 @@
+//! Two passes as one.
+
+ghost use Rattle.std.specs.Prelude.{◌≡◌, ◌+◌, ◌<◌, ◌++◌, length, OnOk, OnErr, IfOk};
+ghost use Rattle.lint_base.specs.Grown.{GrownBy};
+ghost use Rattle.lint_track.specs.Earlier.{pieces_below};
+
+use crate::blocks::Block;
+use crate::step::StepPass;
+use lint_base::{LinterSettings, Reports, RuleSet};
+use sql_tree::{Parse, Stmt};
+use std::alloc::Global;
+use text_pos::NoMemory;
+
+/// Two passes, the first's reports before the second's. Its rules are those of both.
+#[derive(Drop)]
+pub struct Pair<A, B> {
+    pub first: A,
+    pub second: B,
+}
+
+/// The states of two passes, and the second's reports so far.
+#[derive(Drop)]
+pub struct PairState<S, T> {
+    first: S,
+    second: T,
+    later: Reports,
+}
+
+impl<A: StepPass, B: StepPass> StepPass for Pair<A, B> {
+    ghost use Rattle.lint_base.specs.RuleSets.{both_rules};
+    ghost use Rattle.lint_pass.specs.PairLaws.{pair_whole};
+
+    type State = PairState<A::State, B::State>;
+
+    ghost own = { λ x. both_rules (A.own x.first) (B.own x.second) };
+
+    ghost at = { λ x state tree r s i. A.at x.first state.first tree r s i × B.at x.second state.second tree r s i × (state.later ≡ pieces_below (B.piece x.second tree r s) i) };
+
+    ghost piece = { λ x tree r s i. A.piece x.first tree r s i };
+
+    ghost tail = { λ x tree r s. A.tail x.first tree r s ++ B.table x.second tree r s };
+
+    ghost table = { λ x tree r s. A.table x.first tree r s ++ B.table x.second tree r s };
+
+    fn rules(&self) -> RuleSet {
+        self.first.rules().union(self.second.rules())
+    }
+
+    fn start(
+        &self,
+        alloc: Global,
+        set: &LinterSettings,
+    ) -> Result<PairState<A::State, B::State>, NoMemory> {
+        let first = self.first.start(alloc, set)?;
+        let second = self.second.start(alloc, set)?;
+        Ok(PairState {
+            first,
+            second,
+            later: Reports::new(alloc),
+        })
+    }
+
+    fn step(
+        &self,
+        state: &mut PairState<A::State, B::State>,
+        p: &Parse<'_>,
+        i: u32,
+        s: &Stmt,
+        blocks: &[Block],
+        rules: &RuleSet,
+        set: &LinterSettings,
+        out: &mut Reports,
+    ) -> Result<(), NoMemory> {
+        self.first
+            .step(&mut state.first, p, i, s, blocks, rules, set, out)?;
+        self.second.step(
+            &mut state.second,
+            p,
+            i,
+            s,
+            blocks,
+            rules,
+            set,
+            &mut state.later,
+        )?;
+        Ok(())
+    }
+
+    fn finish(
+        &self,
+        alloc: Global,
+        state: PairState<A::State, B::State>,
+        p: &Parse<'_>,
+        rules: &RuleSet,
+        set: &LinterSettings,
+        out: &mut Reports,
+    ) -> Result<(), NoMemory> {
+        let PairState {
+            first,
+            second,
+            later,
+        } = state;
+        self.first.finish(alloc, first, p, rules, set, out)?;
+        out.append(later)?;
+        self.second.finish(alloc, second, p, rules, set, out)?;
+        Ok(())
+    }
+
+    ghost whole = { λ x tree r s. pair_whole _ _ _ _ (A.whole x.first tree r s) };
+}

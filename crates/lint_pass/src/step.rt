@@ -1,0 +1,94 @@
+//! Passes that are told one statement after another.
+
+ghost use Rattle.std.specs.Prelude.{◌≡◌, ◌+◌, ◌<◌, ◌++◌, length, OnOk, OnErr, IfOk};
+ghost use Rattle.lint_base.specs.Grown.{GrownBy};
+ghost use Rattle.lint_track.specs.Transaction.{stmt_at};
+ghost use Rattle.lint_pass.specs.Cleared.{IsCleared};
+
+use crate::blocks::Block;
+use lint_base::{LinterSettings, Reports, RuleSet};
+use sql_tree::{Parse, Stmt};
+use std::alloc::Global;
+use text_pos::NoMemory;
+
+/// A pass that is told one statement after another, so that one walk can feed many. It reports its pieces, one for each
+/// statement, and then its tail.
+///
+/// A state belongs to one walk: the pass, tree, rules and settings of all its calls are the same. It holds no text of the
+/// tree, which is at hand in each call.
+pub trait StepPass {
+    ghost use Rattle.std.specs.Prelude.{ℕ, List};
+    ghost use Rattle.sql_tree.specs.Statement.{Tree};
+    ghost use Rattle.lint_base.specs.RuleSets.{Rules};
+    ghost use Rattle.lint_base.specs.declared.settings.LinterSettings.{LinterSettings};
+    ghost use Rattle.lint_base.specs.declared.violation.Violation.{Violation};
+    ghost use Rattle.lint_track.specs.Earlier.{pieces_below};
+    ghost use Rattle.lint_pass.specs.Blocks.{blocks_of};
+
+    /// The rules that it reports.
+    ghost own: { Self → Rules };
+
+    /// What the pass remembers of the statements that it was told.
+    type State: Drop;
+
+    /// A state is the one behind the first statements of a tree, under rules and settings; the number says how many.
+    ghost at: { Self → Self.State → Tree → Rules → LinterSettings → ℕ → Type 0 };
+
+    /// The reports on the statement of this number.
+    ghost piece: { Self → Tree → Rules → LinterSettings → ℕ → List Violation };
+
+    /// The reports behind the last statement.
+    ghost tail: { Self → Tree → Rules → LinterSettings → List Violation };
+
+    /// All reports for a tree, rules and settings.
+    ghost table: { Self → Tree → Rules → LinterSettings → List Violation };
+
+    /// The rules that it reports.
+    fn rules(&self) -> RuleSet
+        ensures { result ≡ own self.now };
+
+    /// The state before the first statement of any text that the settings fit. The error is want of memory.
+    fn start(&self, alloc: Global, set: &LinterSettings) -> Result<Self::State, NoMemory>
+        ensures { IfOk result (λ state. (tree : Tree) (r : Rules) → IsCleared tree set.now → at self.now state tree r set.now 0) };
+
+    /// Tells the pass statement `i`, counted from 0, with the blocks of the tree, and adds its piece. The error is want of
+    /// memory; then a first part of the piece has been added, and the state is of no use any more.
+    fn step(
+        &self,
+        state: &mut Self::State,
+        p: &Parse<'_>,
+        i: u32,
+        s: &Stmt,
+        blocks: &[Block],
+        rules: &RuleSet,
+        set: &LinterSettings,
+        out: &mut Reports,
+    ) -> Result<(), NoMemory>
+        requires cleared { IsCleared p.now set.now }
+        requires state { at self.now state.old p.now rules.now set.now i }
+        requires within { i < length p.now.stmts }
+        requires stmt { s.now ≡ stmt_at p.now i }
+        requires blocks { blocks.now ≡ blocks_of p.now }
+        ensures state { OnOk result (at self.now state.new p.now rules.now set.now (i + 1)) }
+        ensures ok { OnOk result (out.new ≡ out.old ++ piece self.now p.now rules.now set.now i) }
+        ensures err { OnErr result (GrownBy out.old out.new (piece self.now p.now rules.now set.now i)) };
+
+    /// Takes the state behind the last statement, and adds the tail. The error is want of memory; then a first part of the
+    /// tail has been added.
+    fn finish(
+        &self,
+        alloc: Global,
+        state: Self::State,
+        p: &Parse<'_>,
+        rules: &RuleSet,
+        set: &LinterSettings,
+        out: &mut Reports,
+    ) -> Result<(), NoMemory>
+        requires cleared { IsCleared p.now set.now }
+        requires state { at self.now state p.now rules.now set.now (length p.now.stmts) }
+        ensures ok { OnOk result (out.new ≡ out.old ++ tail self.now p.now rules.now set.now) }
+        ensures err { OnErr result (GrownBy out.old out.new (tail self.now p.now rules.now set.now)) };
+
+    /// The pieces in order, and then the tail, are the table.
+    ghost whole: { (x : Self) (tree : Tree) (r : Rules) (s : LinterSettings) → pieces_below (piece x tree r s) (length tree.stmts) ++ tail x tree r s ≡ table x tree r s };
+}

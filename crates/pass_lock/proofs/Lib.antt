@@ -1,0 +1,2 @@
+pub mod ConstraintLaws
+pub mod Ranges

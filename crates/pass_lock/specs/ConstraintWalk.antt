@@ -1,0 +1,17 @@
+-- What a walk over the statements knows of the constraints that the open transaction added as not valid.
+use Rattle.std.specs.Prelude.{◌≡◌, ℕ, Bool, List, [], ◌∷◌}
+use Rattle.sql_tree.specs.Statement.{Tree}
+use Rattle.lint_track.specs.SpanSet.{Spans, has_span}
+use Rattle.lint_track.specs.Transaction.{is_open}
+use Rattle.lint_track.specs.declared.span_set.SpanKey.TheVariants as by
+use Rattle.pass_lock.specs.ConstraintMissingNotValid.{is_added}
+
+-- a constraint of this name is in the set
+abbrev pub has_name : Tree → Spans → List ℕ → Bool
+has_name tree set name = has_span tree set (name ∷ [])
+
+-- what is known is right before statement i
+pub record IsWatching (tree : Tree) (assumed : Bool) (i : ℕ) (is_open_here : Bool) (set : Spans) : Type 0 where
+  pub open_here : is_open_here ≡ is_open assumed tree i
+  pub by_name : set.key ≡ by.LastName
+  pub added_here : (name : List ℕ) → has_name tree set name ≡ is_added assumed tree name i

@@ -1,0 +1,4 @@
+pub mod ConstraintMissingNotValid
+pub mod ConstraintWalk
+pub mod Fixes
+pub mod RequireConcurrentIndexCreation

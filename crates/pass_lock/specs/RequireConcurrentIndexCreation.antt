@@ -1,0 +1,49 @@
+-- What is reported of index builds: each CREATE INDEX without CONCURRENTLY, except on a table that an earlier statement of
+-- the same open transaction creates (PostgreSQL manual, CREATE INDEX, "Building Indexes Concurrently").
+use Rattle.std.specs.Prelude.{ℕ, ◌&&◌, not, List, [], ◌∷◌, length, codes, if◌then◌else◌, Option, Some, None}
+use Rattle.sql_token.specs.declared.token.Span.{Span}
+use Rattle.sql_tree.specs.declared.nodes.Body.{Body}
+use Rattle.sql_tree.specs.declared.nodes.Body.TheVariants as body
+use Rattle.sql_tree.specs.declared.nodes.Stmt.{Stmt}
+use Rattle.sql_tree.specs.Path.{path_cuts}
+use Rattle.sql_tree.specs.Range.{span_range_of, stmt_range_of}
+use Rattle.sql_tree.specs.Statement.{Tree}
+use Rattle.lint_base.specs.declared.rule.Rule.TheVariants as rule
+use Rattle.lint_base.specs.declared.settings.LinterSettings.{LinterSettings}
+use Rattle.lint_base.specs.declared.violation.Violation.{Violation}
+use Rattle.lint_base.specs.RuleSets.{Rules, has}
+use Rattle.lint_track.specs.Earlier.{pieces_below}
+use Rattle.lint_track.specs.Transaction.{stmt_at, is_new}
+use Rattle.pass_lock.specs.Fixes.{insertion_fix}
+
+-- the report of an index build whose word INDEX has this number
+unfoldable pub report : Tree → Stmt → ℕ → Violation
+report tree s word = record {
+  code = rule.RequireConcurrentIndexCreation;
+  message = codes "during normal index creation, table updates are blocked, but reads are still allowed";
+  text_range = stmt_range_of tree.toks s;
+  note = None;
+  help = Some (codes "use `concurrently` to avoid blocking writes");
+  fix = Some (insertion_fix (codes "Add `concurrently`") (codes " concurrently") (span_range_of tree.toks word word).end);
+}
+
+abbrev pub unless_new : LinterSettings → Tree → ℕ → Stmt → ℕ → Span → List Violation
+unless_new settings tree i s word path =
+    if is_new settings.assume_in_transaction tree (path_cuts tree.text tree.toks path) i then [] else report tree s word ∷ []
+
+abbrev pub reports_by : LinterSettings → Tree → ℕ → Stmt → Body → List Violation
+reports_by settings tree i s (body.Index word unique None guarded name path) = unless_new settings tree i s word path
+reports_by settings tree i s _ = []
+
+-- the reports of s, which is statement i
+abbrev pub reports_of : LinterSettings → Tree → ℕ → Stmt → List Violation
+reports_of settings tree i s = reports_by settings tree i s s.body
+
+abbrev pub reports_at : Tree → Rules → LinterSettings → ℕ → List Violation
+reports_at tree rules settings i =
+    if has rules rule.RequireConcurrentIndexCreation then reports_of settings tree i (stmt_at tree i) else []
+
+-- all reports, statement by statement
+abbrev pub reports_of_require_concurrent_index_creation : Tree → Rules → LinterSettings → List Violation
+reports_of_require_concurrent_index_creation tree rules settings =
+    pieces_below (reports_at tree rules settings) (length tree.stmts)

@@ -1,0 +1,32 @@
+//! Parts that passes share: fixes, and sets of one rule.
+
+ghost use Rattle.std.specs.Prelude.{◌≡◌, IfOk};
+ghost use Rattle.lint_base.specs.RuleSets.{no_rules, with_rule};
+ghost use Rattle.pass_lock.specs.Fixes.{insertion_fix};
+
+use lint_base::{Edit, Fix, Rule, RuleSet, Text};
+use std::alloc::Global;
+use text_pos::{NoMemory, TextSize};
+
+/// A fix that inserts one text before a place.
+pub(crate) fn insertion_fix(
+    alloc: Global,
+    title: Text,
+    text: Text,
+    at: TextSize,
+) -> Result<Fix, NoMemory>
+    ensures { IfOk result (λ fix. fix ≡ insertion_fix title text at) }
+{
+    let mut edits = Vec::new(alloc);
+    edits.push(Edit::insert(text, at))?;
+    Ok(Fix { title, edits })
+}
+
+/// The set of one rule.
+pub(crate) fn only(rule: Rule) -> RuleSet
+    ensures { result ≡ with_rule no_rules rule }
+{
+    let mut rules = RuleSet::empty();
+    rules.insert(rule);
+    rules
+}

@@ -1,0 +1,210 @@
+-- Fronts of statements under other numbers: one lemma for each shape of part, then parts, rows and tables of rows.
+use Rattle.std.proofs.Common.{◌≡◌, ℕ, ◌==◌, Bool, true, false, not, ◌&&◌, ◌||◌, cond, List, [], ◌∷◌, length, map, refl, ap, Option, Some, None}
+use Rattle.std.specs.Option.{option_map, option_and_then}
+use Rattle.std.proofs.lemmas.List.{length-map}
+use Rattle.sql_keyword.specs.declared.words.Keyword.{Keyword}
+use Rattle.sql_keyword.specs.declared.words.Keyword.TheVariants as k
+use Rattle.sql_token.specs.declared.terminal.Terminal.{Terminal}
+use Rattle.sql_token.specs.Terminal.{is_keyword, is_name, is_dot}
+use Rattle.sql_tree.specs.declared.kinds.StmtKind.{StmtKind}
+use Rattle.sql_tree.specs.declared.forms.Mark.{Mark}
+use Rattle.sql_tree.specs.declared.forms.Mark.TheVariants as m
+use Rattle.sql_tree.specs.declared.forms.Phrase.{Phrase}
+use Rattle.sql_tree.specs.declared.forms.Phrase.TheVariants as phrase
+use Rattle.sql_tree.specs.declared.forms.Part.{Part}
+use Rattle.sql_tree.specs.declared.forms.Part.TheVariants as p
+use Rattle.sql_tree.specs.declared.forms.Captures.{Captures}
+use Rattle.sql_tree.specs.Split.{from_mark, into}
+use Rattle.sql_tree.specs.Forms.{State, at, one, nothing_kept, word_kept, name_kept, concurrently_kept, tell, or_here, words_of, behind_word, behind_words, take_phrase, either_of, names_end, take_path, is_temp, is_other_mod, take_mods, index_name, guard, take_index_name, take_chain, is_star_symbol, take_into, take_part, in_turn, all_taken, Row, finished, led_or, fresh, first_led}
+use Rattle.sql_law.specs.Renumber.{renumber, captures_moved, state_moved, front_moved, PartRenumbers, PartsRenumber, FrontRenumbers}
+use Rattle.sql_law.proofs.Basics.{bind_moved, cond_under, keyword_sees, name_sees, dot_sees, behind_word_moved}
+use Rattle.sql_law.proofs.Marks.{into_is_blind, from_mark_moved}
+
+-- ---- one terminal
+
+tell_moved : (f : ℕ → ℕ) (mark : Mark) (c : Captures) → tell mark (captures_moved f c) ≡ captures_moved f (tell mark c)
+tell_moved f m.Nothing c = refl
+tell_moved f m.Unique c = refl
+tell_moved f m.Guarded c = refl
+tell_moved f m.Chain c = refl
+
+one_moved : (f : ℕ → ℕ) (test : Terminal → Bool) (keep : Terminal → Captures → Captures) →
+    ((t : Terminal) → test (renumber f t) ≡ test t) →
+    ((t : Terminal) (c : Captures) → keep (renumber f t) (captures_moved f c) ≡ captures_moved f (keep t c)) →
+    (c : Captures) (ts : List Terminal) →
+    one test keep (captures_moved f c) (map (renumber f) ts) ≡ option_map (state_moved f) (one test keep c ts)
+one_moved f test keep sees keeps c [] = refl
+one_moved f test keep sees keeps c (t ∷ ts) =
+    rw (sees t, keeps t c) (cond_under (option_map (state_moved f)) (test t) (Some (at (keep t c) ts)) None)
+
+or_here_moved : (f : ℕ → ℕ) (r : Option State) (c : Captures) (ts : List Terminal) →
+    or_here (option_map (state_moved f) r) (captures_moved f c) (map (renumber f) ts) ≡ state_moved f (or_here r c ts)
+or_here_moved f None c ts = refl
+or_here_moved f (Some s) c ts = refl
+
+-- a terminal that passes the test, where it stands
+maybe_moved : (f : ℕ → ℕ) (test : Terminal → Bool) (keep : Terminal → Captures → Captures) →
+    ((t : Terminal) → test (renumber f t) ≡ test t) →
+    ((t : Terminal) (c : Captures) → keep (renumber f t) (captures_moved f c) ≡ captures_moved f (keep t c)) →
+    (c : Captures) (ts : List Terminal) →
+    or_here (one test keep (captures_moved f c) (map (renumber f) ts)) (captures_moved f c) (map (renumber f) ts)
+    ≡ state_moved f (or_here (one test keep c ts) c ts)
+maybe_moved f test keep sees keeps c ts = rw (one_moved f test keep sees keeps c ts) (or_here_moved f (one test keep c ts) c ts)
+
+-- ---- phrases
+
+behind_words_moved : (f : ℕ → ℕ) (ws : List Keyword) (ts : List Terminal) →
+    behind_words ws (map (renumber f) ts) ≡ option_map (map (renumber f)) (behind_words ws ts)
+behind_words_moved f [] ts = refl
+behind_words_moved f (w ∷ ws) ts =
+    rw (behind_word_moved f w ts)
+    (bind_moved (map (renumber f)) (map (renumber f)) (behind_words ws) (behind_words ws) (behind_words_moved f ws) (behind_word w ts))
+
+phrase_moved : (f : ℕ → ℕ) (x : Phrase) (mark : Mark) (c : Captures) (ts : List Terminal) →
+    take_phrase x mark (captures_moved f c) (map (renumber f) ts) ≡ option_map (state_moved f) (take_phrase x mark c ts)
+phrase_moved f x mark c ts =
+    rw (behind_words_moved f (words_of x) ts)
+    (bind_moved (map (renumber f)) (state_moved f)
+    (λ rest. Some (at (tell mark c) rest)) (λ rest. Some (at (tell mark (captures_moved f c)) rest))
+    (λ rest. ap (λ d. Some (at d (map (renumber f) rest))) (tell_moved f mark c)) (behind_words (words_of x) ts))
+
+maybe_phrase_moved : (f : ℕ → ℕ) (x : Phrase) (mark : Mark) (c : Captures) (ts : List Terminal) →
+    or_here (take_phrase x mark (captures_moved f c) (map (renumber f) ts)) (captures_moved f c) (map (renumber f) ts)
+    ≡ state_moved f (or_here (take_phrase x mark c ts) c ts)
+maybe_phrase_moved f x mark c ts = rw (phrase_moved f x mark c ts) (or_here_moved f (take_phrase x mark c ts) c ts)
+
+either_moved : (f : ℕ → ℕ) (r s : Option State) →
+    either_of (option_map (state_moved f) r) (option_map (state_moved f) s) ≡ option_map (state_moved f) (either_of r s)
+either_moved f (Some r) s = refl
+either_moved f None s = refl
+
+chain_moved : (f : ℕ → ℕ) (c : Captures) (ts : List Terminal) →
+    take_chain (captures_moved f c) (map (renumber f) ts) ≡ state_moved f (take_chain c ts)
+chain_moved f c ts =
+    let some = take_phrase phrase.AndChain m.Chain c ts in
+    let none = take_phrase phrase.AndNoChain m.Nothing c ts in
+    rw (phrase_moved f phrase.AndChain m.Chain c ts, phrase_moved f phrase.AndNoChain m.Nothing c ts, either_moved f some none)
+    (or_here_moved f (either_of some none) c ts)
+
+-- ---- names
+
+index_name_moved : (f : ℕ → ℕ) (c : Captures) (ts : List Terminal) →
+    index_name (captures_moved f c) (map (renumber f) ts) ≡ option_map (state_moved f) (index_name c ts)
+index_name_moved f c ts =
+    one_moved f (λ t. is_name t && not (is_keyword k.On t)) name_kept
+    (λ t. rw (name_sees f t, keyword_sees f k.On t) refl) (λ t c. refl) c ts
+
+index_name_from : (f : ℕ → ℕ) (g h : State) (c : Captures) (ts : List Terminal) → h ≡ state_moved f g →
+    or_here (index_name h.kept h.left) (captures_moved f c) (map (renumber f) ts)
+    ≡ state_moved f (or_here (index_name g.kept g.left) c ts)
+index_name_from f g h c ts e =
+    rw (e, index_name_moved f g.kept g.left) (or_here_moved f (index_name g.kept g.left) c ts)
+
+take_index_name_moved : (f : ℕ → ℕ) (c : Captures) (ts : List Terminal) →
+    take_index_name (captures_moved f c) (map (renumber f) ts) ≡ state_moved f (take_index_name c ts)
+take_index_name_moved f c ts =
+    index_name_from f (guard c ts) (guard (captures_moved f c) (map (renumber f) ts)) c ts
+    (maybe_phrase_moved f phrase.IfNotExists m.Guarded c ts)
+
+abbrev end_moved : (ℕ → ℕ) → ℕ × List Terminal → ℕ × List Terminal
+end_moved f e = (f e.0, map (renumber f) e.1)
+
+names_end_moved : (f : ℕ → ℕ) (n : ℕ) (ts : List Terminal) →
+    names_end (f n) (map (renumber f) ts) ≡ end_moved f (names_end n ts)
+names_end_moved f n [] = refl
+names_end_moved f n (d ∷ []) = refl
+names_end_moved f n (d ∷ t ∷ ts) =
+    rw (dot_sees f d, name_sees f t, names_end_moved f t.number ts)
+    (cond_under (end_moved f) (is_dot d && is_name t) (names_end t.number ts) (n, d ∷ t ∷ ts))
+
+path_moved : (f : ℕ → ℕ) (c : Captures) (ts : List Terminal) →
+    take_path (captures_moved f c) (map (renumber f) ts) ≡ option_map (state_moved f) (take_path c ts)
+path_moved f c [] = refl
+path_moved f c (t ∷ ts) =
+    rw (name_sees f t, names_end_moved f t.number ts)
+    (cond_under (option_map (state_moved f)) (is_name t)
+    (Some (at (record c { path = Some (record { first = t.number; last = (names_end t.number ts).0 }) }) (names_end t.number ts).1)) None)
+
+-- ---- modifiers
+
+three_ways : (f : ℕ → ℕ) (a b : Bool) (x y z : State) →
+    cond a (state_moved f x) (cond b (state_moved f y) (state_moved f z)) ≡ state_moved f (cond a x (cond b y z))
+three_ways f true b x y z = refl
+three_ways f false true x y z = refl
+three_ways f false false x y z = refl
+
+temp_sees : (f : ℕ → ℕ) (t : Terminal) → is_temp (renumber f t) ≡ is_temp t
+temp_sees f t = rw (keyword_sees f k.Temp t, keyword_sees f k.Temporary t) refl
+
+other_mod_sees : (f : ℕ → ℕ) (t : Terminal) → is_other_mod (renumber f t) ≡ is_other_mod t
+other_mod_sees f t = rw (keyword_sees f k.Global t, keyword_sees f k.Local t, keyword_sees f k.Unlogged t) refl
+
+mods_moved : (f : ℕ → ℕ) (c : Captures) (ts : List Terminal) →
+    take_mods (captures_moved f c) (map (renumber f) ts) ≡ state_moved f (take_mods c ts)
+mods_moved f c [] = refl
+mods_moved f c (t ∷ ts) =
+    rw (temp_sees f t, other_mod_sees f t, mods_moved f (record c { temp = true }) ts, mods_moved f c ts)
+    (three_ways f (is_temp t) (is_other_mod t) (take_mods (record c { temp = true }) ts) (take_mods c ts) (at c (t ∷ ts)))
+
+-- ---- parts
+
+into_moved : (f : ℕ → ℕ) (c : Captures) (ts : List Terminal) →
+    take_into (captures_moved f c) (map (renumber f) ts) ≡ option_map (state_moved f) (take_into c ts)
+into_moved f c ts =
+    rw (from_mark_moved into into_is_blind f ts)
+    (one_moved f (is_keyword k.Into) nothing_kept (keyword_sees f k.Into) (λ t c. refl) c (from_mark into ts))
+
+pub part_renumbers : PartRenumbers
+unfolding take_part
+part_renumbers f (p.Word w) c ts = one_moved f (is_keyword w) nothing_kept (keyword_sees f w) (λ t c. refl) c ts
+part_renumbers f (p.Object w) c ts = one_moved f (is_keyword w) word_kept (keyword_sees f w) (λ t c. refl) c ts
+part_renumbers f (p.Flag w mark) c ts =
+    ap Some (maybe_moved f (is_keyword w) (λ t c. tell mark c) (keyword_sees f w) (λ t c. tell_moved f mark c) c ts)
+part_renumbers f (p.Either v w) c ts =
+    ap Some (maybe_moved f (λ t. is_keyword v t || is_keyword w t) nothing_kept
+    (λ t. rw (keyword_sees f v t, keyword_sees f w t) refl) (λ t c. refl) c ts)
+part_renumbers f (p.Maybe x mark) c ts = ap Some (maybe_phrase_moved f x mark c ts)
+part_renumbers f p.Chain c ts = ap Some (chain_moved f c ts)
+part_renumbers f p.Concurrently c ts =
+    ap Some (maybe_moved f (is_keyword k.Concurrently) concurrently_kept (keyword_sees f k.Concurrently) (λ t c. refl) c ts)
+part_renumbers f p.IndexName c ts = ap Some (take_index_name_moved f c ts)
+part_renumbers f p.Mods c ts = ap Some (mods_moved f c ts)
+part_renumbers f p.Path c ts = path_moved f c ts
+part_renumbers f p.Star c ts =
+    ap Some (maybe_moved f (λ t. is_star_symbol t.symbol) nothing_kept (λ t. refl) (λ t c. refl) c ts)
+part_renumbers f p.Into c ts = into_moved f c ts
+part_renumbers f p.Rest c ts = refl
+
+pub parts_renumber : PartsRenumber
+parts_renumber f [] c ts = refl
+parts_renumber f (x ∷ xs) c ts =
+    rw (part_renumbers f x c ts)
+    (bind_moved (state_moved f) (state_moved f) (λ s. in_turn xs s.kept s.left) (λ s. in_turn xs s.kept s.left)
+    (λ s. parts_renumber f xs s.kept s.left) (take_part x c ts))
+
+-- ---- rows
+
+all_taken_moved : (f : ℕ → ℕ) (s : State) → all_taken (state_moved f s) ≡ option_map (state_moved f) (all_taken s)
+all_taken_moved f s =
+    rw (length-map s.left (renumber f))
+    (cond_under (option_map (state_moved f)) (s.kept.open_ended || length s.left == 0) (Some s) None)
+
+finished_moved : (f : ℕ → ℕ) (kind : StmtKind) (parts : List Part) (s : State) →
+    finished kind parts (state_moved f s) ≡ option_map (front_moved f) (finished kind parts s)
+finished_moved f kind parts s =
+    rw (parts_renumber f parts s.kept s.left)
+    (bind_moved (state_moved f) (front_moved f)
+    (λ e. option_and_then (λ w. Some (kind, w)) (all_taken e)) (λ e. option_and_then (λ w. Some (kind, w)) (all_taken e))
+    (λ e. rw (all_taken_moved f e)
+    (bind_moved (state_moved f) (front_moved f) (λ w. Some (kind, w)) (λ w. Some (kind, w)) (λ w. refl) (all_taken e)))
+    (in_turn parts s.kept s.left))
+
+led_or_moved : (f : ℕ → ℕ) (lead : Option State) (r : Row) (other : Option (StmtKind × State)) →
+    led_or (option_map (state_moved f) lead) r (option_map (front_moved f) other) ≡ option_map (front_moved f) (led_or lead r other)
+led_or_moved f None r other = refl
+led_or_moved f (Some s) r other = finished_moved f r.0 r.2 s
+
+pub front_renumbers : FrontRenumbers
+front_renumbers f [] ts = refl
+front_renumbers f (r ∷ rs) ts =
+    rw (parts_renumber f r.1 fresh ts, front_renumbers f rs ts) (led_or_moved f (in_turn r.1 fresh ts) r (first_led rs ts))

@@ -1,0 +1,6 @@
+pub mod Basics
+pub mod Marks
+pub mod Constraints
+pub mod Fronts
+pub mod Soundness
+pub mod Statements

@@ -1,0 +1,261 @@
+//! The fronts of statements, as their forms read them (PostgreSQL manual, part VI, SQL Commands), and words outside
+//! brackets.
+
+ghost use Rattle.std.specs.Prelude.{◌<◌, ◌^◌, length};
+
+use crate::terminals::terminals_of;
+use sql_part::{has_keyword, nothing_kept, read_front};
+use sql_token::{Keyword as K, Span};
+use sql_tree::forms::Captures;
+use std::alloc::Global;
+use std::test::Fail;
+
+/// A first word, what stands behind it, and the form that reads it: the kind, how many tokens the form leaves open, and
+/// what it keeps, by token numbers. What stands behind the word begins with a blank, so that no number is 0.
+const FRONTS: &[(K, &str, &str)] = &[
+    (
+        K::Begin,
+        " isolation level serializable",
+        "Begin left 3 open",
+    ),
+    (K::Begin, "", "Begin left 0 open"),
+    (K::Start, " transaction read only", "Begin left 2 open"),
+    (K::Start, " transaction", "Begin left 0 open"),
+    (K::Start, " read only", "none"),
+    (K::Commit, "", "Commit left 0"),
+    (K::Commit, " work", "Commit left 0"),
+    (K::Commit, " work and chain", "Commit left 0 chain"),
+    (K::Commit, " transaction and no chain", "Commit left 0"),
+    (K::Commit, " and chain", "Commit left 0 chain"),
+    (K::Commit, " and no chain", "Commit left 0"),
+    (K::Commit, " and no", "none"),
+    (K::Commit, " and", "none"),
+    (K::Commit, " chain", "none"),
+    (K::Commit, " work transaction", "none"),
+    (K::End, " and chain work", "none"),
+    (K::End, "", "Commit left 0"),
+    (K::Rollback, " transaction and no chain", "Rollback left 0"),
+    (K::Rollback, " and chain", "Rollback left 0 chain"),
+    (K::Abort, "", "Rollback left 0"),
+    (
+        K::Create,
+        " index on t",
+        "CreateIndex left 0 word 1 path 5-5 open",
+    ),
+    (
+        K::Create,
+        " index i on t",
+        "CreateIndex left 0 word 1 name 3 path 7-7 open",
+    ),
+    (
+        K::Create,
+        " index \"on\" on t",
+        "CreateIndex left 0 word 1 name 3 path 7-7 open",
+    ),
+    (
+        K::Create,
+        " index if on t",
+        "CreateIndex left 0 word 1 name 3 path 7-7 open",
+    ),
+    (
+        K::Create,
+        " index if not exists i on t",
+        "CreateIndex left 0 word 1 name 9 guarded path 13-13 open",
+    ),
+    (K::Create, " index if not exists on t", "none"),
+    (
+        K::Create,
+        " index concurrently on t",
+        "CreateIndex left 0 word 1 concurrently 3 path 7-7 open",
+    ),
+    (
+        K::Create,
+        " index concurrently concurrently on t",
+        "CreateIndex left 0 word 1 name 5 concurrently 3 path 9-9 open",
+    ),
+    (
+        K::Create,
+        " unique index on only t (a)",
+        "CreateIndex left 3 word 3 unique path 9-9 open",
+    ),
+    (
+        K::Create,
+        " unique index concurrently if not exists i on only s.t (a)",
+        "CreateIndex left 3 word 3 name 13 concurrently 5 unique guarded path 19-21 open",
+    ),
+    (K::Create, " index on", "none"),
+    (K::Create, " index on only (a)", "none"),
+    (K::Create, " index i \"on\" t", "none"),
+    (K::Create, " unique unique index on t", "none"),
+    (
+        K::Create,
+        " table t",
+        "CreateTable left 0 word 1 path 3-3 open",
+    ),
+    (
+        K::Create,
+        " table if not exists t",
+        "CreateTable left 0 word 1 guarded path 9-9 open",
+    ),
+    (
+        K::Create,
+        " table if not t",
+        "CreateTable left 2 word 1 path 3-3 open",
+    ),
+    (
+        K::Create,
+        " global temp unlogged table t",
+        "CreateTable left 0 word 7 temp path 9-9 open",
+    ),
+    (
+        K::Create,
+        " local temporary table t (a int)",
+        "CreateTable left 4 word 5 temp path 7-7 open",
+    ),
+    (
+        K::Create,
+        " local table t",
+        "CreateTable left 0 word 3 path 5-5 open",
+    ),
+    (
+        K::Create,
+        " table a.b c",
+        "CreateTable left 1 word 1 path 3-5 open",
+    ),
+    (
+        K::Create,
+        " table a . \"b\".c (",
+        "CreateTable left 1 word 1 path 3-9 open",
+    ),
+    (
+        K::Create,
+        " table a.",
+        "CreateTable left 1 word 1 path 3-3 open",
+    ),
+    (K::Create, " table (a)", "none"),
+    (K::Create, " table 'a'", "none"),
+    (K::Create, " table", "none"),
+    (K::Create, "", "none"),
+    (K::And, " chain", "none"),
+    (
+        K::Alter,
+        " table if exists only a.b * add x",
+        "AlterTable left 2 word 1 guarded path 9-11 open",
+    ),
+    (K::Alter, " table only", "none"),
+    (K::Alter, " index i", "none"),
+    (
+        K::Select,
+        " a into temp table t b",
+        "SelectInto left 1 temp path 9-9 open",
+    ),
+    (
+        K::Select,
+        " a as into into t",
+        "SelectInto left 0 path 9-9 open",
+    ),
+    (K::Select, " a", "none"),
+];
+
+/// A text, and whether the word AS stands in it outside all brackets.
+const AS_OUTSIDE: &[(&str, bool)] = &[
+    ("a as b", true),
+    ("AS", true),
+    ("(a) As", true),
+    ("a [b] as", true),
+    ("a (as) b", false),
+    ("a [as] b", false),
+    ("(a as", false),
+    ("a) as", false),
+    ("\"as\"", false),
+    ("'as'", false),
+    ("a", false),
+    ("", false),
+];
+
+fn push_numbers(alloc: Global, out: &mut String, kept: Captures) -> Result<(), Fail> {
+    for (number, word) in [
+        (kept.word, "word"),
+        (kept.name, "name"),
+        (kept.concurrently, "concurrently"),
+    ] {
+        if let Some(number) = number {
+            out.push_str(format!(in alloc; " {word} {number}")?.as_str())?;
+        }
+    }
+    Ok(())
+}
+
+fn push_marks(out: &mut String, kept: Captures) -> Result<(), Fail> {
+    for (is_so, word) in [
+        (kept.unique, " unique"),
+        (kept.temp, " temp"),
+        (kept.guarded, " guarded"),
+        (kept.chain, " chain"),
+    ] {
+        if is_so {
+            out.push_str(word)?;
+        }
+    }
+    Ok(())
+}
+
+fn push_path(alloc: Global, out: &mut String, path: Option<Span>) -> Result<(), Fail> {
+    if let Some(path) = path {
+        let numbers = format!(in alloc; " path {}-{}", path.first, path.last)?;
+        out.push_str(numbers.as_str())?;
+    }
+    Ok(())
+}
+
+// How many terminals are left and what was kept, in the form of the rows.
+fn shown(alloc: Global, left: usize, kept: Captures) -> Result<String, Fail> {
+    let mut out = format!(in alloc; "left {left}")?;
+    push_numbers(alloc, &mut out, kept)?;
+    push_marks(&mut out, kept)?;
+    push_path(alloc, &mut out, kept.path)?;
+    if kept.open_ended {
+        out.push_str(" open")?;
+    }
+    Ok(out)
+}
+
+// The form that reads what stands behind a word, in the form of the rows.
+fn front_of(alloc: Global, first: K, text: &str) -> Result<String, Fail>
+    requires { length text.now < 2 ^ 32 }
+{
+    let terminals = terminals_of(alloc, text)?;
+    let mut kept = nothing_kept();
+    match read_front(first, &mut kept, terminals.as_slice()) {
+        Some((kind, left)) => {
+            let shown = shown(alloc, left.len(), kept)?;
+            Ok(format!(in alloc; "{kind:?} {}", shown.as_str())?)
+        }
+        None => Ok(String::from_str(alloc, "none")?),
+    }
+}
+
+#[test]
+fn fronts(rt: HostRuntime) -> Result<(), Fail> {
+    for row in FRONTS {
+        assert!(rt; row.1.len() < 1000);
+        let answer = front_of(rt.alloc(), row.0, row.1)?;
+        assert_eq!(rt; answer.as_str(), row.2, "at {:?}", row.1);
+    }
+    Ok(())
+}
+
+#[test]
+fn words_outside_brackets(rt: HostRuntime) -> Result<(), Fail> {
+    for row in AS_OUTSIDE {
+        assert!(rt; row.0.len() < 1000);
+        let terminals = terminals_of(rt.alloc(), row.0)?;
+        assert_eq!(rt;
+            has_keyword(K::As, terminals.as_slice()),
+            row.1,
+            "at {:?}",
+            row.0
+        );
+    }
+    Ok(())
+}

@@ -1,0 +1,226 @@
+-- What the reports of the linter's own passes are.
+use Rattle.std.proofs.Common.{◌≡◌, ◌≢◌, ℕ, zero, suc, Bool, true, false, List, [], ◌∷◌, ◌++◌, length, max, take, refl, sym, ap, ◌∙◌, subst, inl, inr, arith, rules, Option, Some, None}
+use Rattle.std.proofs.lemmas.Bool.{cases_Bool, cases_lt}
+use Rattle.std.proofs.lemmas.List.Elements.{All-append, All-cons, All-head, All-nil, All-tail, All-weaker, filter-append}
+use Rattle.std.proofs.lemmas.List.{get_or_past}
+use Rattle.std.proofs.lemmas.Str.{IsCharBoundary-start}
+use Rattle.std.specs.List.{flat_map, list_any}
+use Rattle.std.specs.Prelude.{All, ◌&&◌, ◌||◌, if◌then◌else◌, slice_get}
+use Rattle.std.specs.Str.{IsCharBoundary, IsUtf8}
+use denote.Enum.Bare.{same_true}
+use Rattle.lint_base.specs.contracts.rule.Rule.{the_type}
+use Rattle.sql_token.proofs.Boundaries.{token_between}
+use Rattle.sql_token.specs.Token.{Text}
+use Rattle.sql_tree.specs.declared.nodes.Action.{Action}
+use Rattle.sql_tree.specs.declared.nodes.Body.{Body}
+use Rattle.sql_tree.specs.declared.nodes.Body.TheVariants as body
+use Rattle.sql_tree.specs.declared.nodes.Stmt.{Stmt}
+use Rattle.sql_tree.specs.Range.{span_range_of, token_at}
+use Rattle.sql_tree.specs.Statement.{Tree, IsTree, no_token}
+use Rattle.lint_base.specs.declared.rule.Rule.{Rule}
+use Rattle.lint_base.specs.declared.rule.Rule.TheVariants as rule
+use Rattle.lint_base.specs.declared.settings.LinterSettings.{LinterSettings}
+use Rattle.lint_base.specs.declared.violation.Violation.{Violation}
+use Rattle.lint_base.specs.RuleNames.{same_rule}
+use Rattle.lint_base.specs.RuleSets.{Rules, has, with_rule}
+use Rattle.lint_base.proofs.RuleSets.{has-with_rule_other}
+use Rattle.lint_ignore.specs.Places.{IsPlace}
+use Rattle.lint_pass.specs.Ranges.{LiesIn}
+use Rattle.lint_track.specs.Earlier.{pieces_below}
+use Rattle.lint_track.specs.Transaction.{is_open, stmt_at}
+use Rattle.pass_lock.specs.ConstraintMissingNotValid as constraint
+use Rattle.pass_lock.specs.ConstraintMissingNotValid.{addition_report, validation_report}
+use Rattle.pass_lock.specs.RequireConcurrentIndexCreation as build
+use Rattle.pass_lock.specs.RequireConcurrentIndexCreation.{report}
+use Rattle.squawk_linter.specs.Answers.{reports}
+use Rattle.squawk_linter.specs.Laws.{reports_by}
+use Rattle.squawk_linter.specs.OwnTable.{own_table}
+use Rattle.squawk_linter.specs.Reports.{cleared}
+use Rattle.squawk_linter.proofs.Gathering.{answer_placed}
+
+-- ---- lists made by cases
+
+pub pieces_all : {X : Type 0} (P : X → Type 0) (f : ℕ → List X) (n : ℕ) → ((i : ℕ) → All P (f i)) → All P (pieces_below f n)
+pieces_all P f zero h = All-nil P
+pieces_all P f (suc n) h = All-append P (pieces_below f n) (f n) (pieces_all P f n h) (h n)
+
+where_all : {X : Type 0} (P : X → Type 0) (b : Bool) (xs : List X) → All P xs → All P (if b then xs else [])
+where_all P true xs h = h
+where_all P false xs h = All-nil P
+
+unless_all : {X : Type 0} (P : X → Type 0) (b : Bool) (xs : List X) → All P xs → All P (if b then [] else xs)
+unless_all P true xs h = All-nil P
+unless_all P false xs h = h
+
+flat_all : {X Y : Type 0} (P : Y → Type 0) (f : X → List Y) (xs : List X) → ((x : X) → All P (f x)) → All P (flat_map f xs)
+flat_all P f [] h = All-nil P
+flat_all P f (x ∷ xs) h = All-append P (f x) (flat_map f xs) (h x) (flat_all P f xs h)
+
+one_all : {X : Type 0} (P : X → Type 0) (x : X) → P x → All P (x ∷ [])
+one_all P x h = All-cons P x [] h (All-nil P)
+
+-- ---- index builds
+
+-- what holds of each report of an index build
+pub builds_all : (P : Violation → Type 0) (tree : Tree) (rules : Rules) (settings : LinterSettings) → ((s : Stmt) (word : ℕ) → P (build.report tree s word))
+    → All P (build.reports_of_require_concurrent_index_creation tree rules settings)
+builds_all P tree rules settings h =
+    pieces_all P (build.reports_at tree rules settings) (length tree.stmts)
+    (λ i. where_all P (has rules rule.RequireConcurrentIndexCreation) (build.reports_of settings tree i (stmt_at tree i)) (by_body i (stmt_at tree i) (stmt_at tree i).body))
+  where
+    by_body : (i : ℕ) (s : Stmt) (b : Body) → All P (build.reports_by settings tree i s b)
+    by_body i s (body.Index word unique None guarded name path) = unless_all P _ (build.report tree s word ∷ []) (one_all P (build.report tree s word) (h s word))
+    by_body i s _ = All-nil P
+
+-- ---- constraints
+
+-- what holds of each report of a validation
+pub validations_all : (P : Violation → Type 0) (tree : Tree) (rules : Rules) (settings : LinterSettings) → ((a : Action) → P (constraint.validation_report tree a))
+    → All P (constraint.reports_of_validations tree rules settings)
+validations_all P tree rules settings h =
+    pieces_all P (constraint.validations_at tree rules settings) (length tree.stmts)
+    (λ i.
+    where_all P (has rules rule.ConstraintMissingNotValid && is_open settings.assume_in_transaction tree i) (constraint.validations tree (λ name. constraint.is_added settings.assume_in_transaction tree name i) (constraint.actions_of (stmt_at tree i)))
+    (of_statement (λ name. constraint.is_added settings.assume_in_transaction tree name i) (constraint.actions_of (stmt_at tree i))))
+  where
+    of_action : (known : List ℕ → Bool) (o : Option Action) → All P (constraint.validation tree known o)
+    of_action known None = All-nil P
+    of_action known (Some a) = where_all P (constraint.is_known_path tree known (constraint.validated a)) (constraint.validation_report tree a ∷ []) (one_all P (constraint.validation_report tree a) (h a))
+
+    of_statement : (known : List ℕ → Bool) (actions : List Action) → All P (constraint.validations tree known actions)
+    of_statement known actions =
+        pieces_all P (constraint.validation_at tree known actions) (length actions) (λ k. of_action (λ name. known name || list_any (constraint.adds_not_valid tree name) (take k actions)) (slice_get actions k))
+
+-- what holds of each report of an added constraint
+pub additions_all : (P : Violation → Type 0) (tree : Tree) (rules : Rules) (settings : LinterSettings) → ((a : Action) → P (constraint.addition_report tree a))
+    → All P (constraint.reports_of_additions tree rules settings)
+additions_all P tree rules settings h =
+    pieces_all P (constraint.additions_at tree rules settings) (length tree.stmts)
+    (λ i. where_all P (has rules rule.ConstraintMissingNotValid) (constraint.additions_of settings tree i (stmt_at tree i)) (of_statement i (stmt_at tree i)))
+  where
+    of_action : (a : Action) → All P (constraint.addition tree a)
+    of_action a = where_all P (constraint.is_checked (constraint.added a)) (constraint.addition_report tree a ∷ []) (one_all P (constraint.addition_report tree a) (h a))
+
+    of_statement : (i : ℕ) (s : Stmt) → All P (constraint.additions_of settings tree i s)
+    of_statement i s =
+        unless_all P (constraint.is_new_table settings tree i (constraint.table_of s)) (flat_map (constraint.addition tree) (constraint.actions_of s)) (flat_all P (constraint.addition tree) (constraint.actions_of s) of_action)
+
+pub constraints_all : (P : Violation → Type 0) (tree : Tree) (rules : Rules) (settings : LinterSettings) → ((a : Action) → P (constraint.validation_report tree a)) → ((a : Action) → P (constraint.addition_report tree a))
+    → All P (constraint.reports_of_constraint_missing_not_valid tree rules settings)
+constraints_all P tree rules settings first second =
+    All-append P (constraint.reports_of_validations tree rules settings) (constraint.reports_of_additions tree rules settings) (validations_all P tree rules settings first) (additions_all P tree rules settings second)
+
+-- ---- places
+
+-- a token begins and ends between characters, and so does no token
+token_place : (tree : Tree) (n : ℕ) → IsTree tree → IsUtf8 tree.text → IsCharBoundary tree.text (token_at tree.toks n).start × IsCharBoundary tree.text (token_at tree.toks n).end
+token_place tree n is utf8 =
+    elim (cases_lt n (length tree.toks)) [
+      | inl lt ↦ token_between tree.text tree.toks n no_token utf8 is.lexed lt
+      | inr past ↦
+          let none : token_at tree.toks n ≡ no_token = get_or_past tree.toks n no_token past in
+          let start : IsCharBoundary tree.text 0 = IsCharBoundary-start tree.text utf8 in
+          (subst (λ k. IsCharBoundary tree.text k.start) (sym none) start, subst (λ k. IsCharBoundary tree.text k.end) (sym none) start)
+    ]
+
+later : (t : Text) (a b : ℕ) → IsCharBoundary t a → IsCharBoundary t b → IsCharBoundary t (max a b)
+later t a b first second =
+    elim (cases_lt a b) [
+      | inl lt ↦ let same : b ≡ max a b = omega arith in subst (λ n. IsCharBoundary t n) same second
+      | inr ge ↦ let same : a ≡ max a b = omega arith in subst (λ n. IsCharBoundary t n) same first
+    ]
+
+-- a slice of tokens has a place in the text
+span_place : (tree : Tree) (first last : ℕ) → IsTree tree → IsUtf8 tree.text → IsPlace tree.text (span_range_of tree.toks first last)
+span_place tree first last is utf8 =
+    let a = token_place tree first is utf8 in
+    let b = token_place tree last is utf8 in
+    record { ordered = omega arith; start = a.0; end = later tree.text (token_at tree.toks first).start (token_at tree.toks last).end a.0 b.1 }
+
+build_place : (tree : Tree) (s : Stmt) (word : ℕ) → IsTree tree → IsUtf8 tree.text → IsPlace tree.text (report tree s word).text_range
+unfolding report
+build_place tree s word is utf8 = span_place tree s.first s.last is utf8
+
+validation_place : (tree : Tree) (a : Action) → IsTree tree → IsUtf8 tree.text → IsPlace tree.text (validation_report tree a).text_range
+unfolding validation_report
+validation_place tree a is utf8 = span_place tree a.first a.last is utf8
+
+addition_place : (tree : Tree) (a : Action) → IsTree tree → IsUtf8 tree.text → IsPlace tree.text (addition_report tree a).text_range
+unfolding addition_report
+addition_place tree a is utf8 = span_place tree a.first a.last is utf8
+
+-- the reports of the passes have places in the text
+pub own_placed : (tree : Tree) (rules : Rules) (settings : LinterSettings) → IsTree tree → IsUtf8 tree.text → All (λ v. IsPlace tree.text v.text_range) (own_table tree rules settings)
+own_placed tree rules settings is utf8 =
+    let P : Violation → Type 0 = λ v. IsPlace tree.text v.text_range in
+    All-append P (constraint.reports_of_constraint_missing_not_valid tree rules settings) (build.reports_of_require_concurrent_index_creation tree rules settings)
+    (constraints_all P tree rules settings (λ a. validation_place tree a is utf8) (λ a. addition_place tree a is utf8)) (builds_all P tree rules settings (λ s word. build_place tree s word is utf8))
+
+pub own_lie : (tree : Tree) (rules : Rules) (settings : LinterSettings) → IsTree tree → IsUtf8 tree.text → All (LiesIn tree) (own_table tree rules settings)
+own_lie tree rules settings is utf8 =
+    All-weaker (λ v. IsPlace tree.text v.text_range) (LiesIn tree) (λ v h. record { ordered = h.ordered; within = h.end.0 }) (own_table tree rules settings) (own_placed tree rules settings is utf8)
+
+-- the reports of the linter's answer have places in the text
+pub reports_placed : (tree : Tree) (rules : Rules) (settings : LinterSettings) (v : List Violation) → IsTree tree → IsUtf8 tree.text → v ≡ reports tree rules settings → All (λ r. IsPlace tree.text r.text_range) v
+reports_placed tree rules settings v is utf8 same =
+    let set : LinterSettings = cleared tree settings in
+    subst (λ vs. All (λ r. IsPlace tree.text r.text_range) vs) (sym same) (answer_placed tree (own_table tree rules set) rules is utf8 (own_placed tree rules set is utf8))
+
+-- ---- rules apart
+
+abbrev HasCode : Rule → Violation → Type 0
+HasCode r v = v.code ≡ r
+
+build_code : (tree : Tree) (s : Stmt) (word : ℕ) → HasCode rule.RequireConcurrentIndexCreation (report tree s word)
+unfolding report
+build_code tree s word = refl
+
+validation_code : (tree : Tree) (a : Action) → HasCode rule.ConstraintMissingNotValid (validation_report tree a)
+unfolding validation_report
+validation_code tree a = refl
+
+addition_code : (tree : Tree) (a : Action) → HasCode rule.ConstraintMissingNotValid (addition_report tree a)
+unfolding addition_report
+addition_code tree a = refl
+
+same_is : (q r : Rule) → same_rule q r ≡ true → q ≡ r
+unfolding same_rule
+same_is q r e = same_true the_type (search rules) q r e
+
+none_by : (q c : Rule) (vs : List Violation) → same_rule q c ≡ false → All (HasCode c) vs → reports_by q vs ≡ []
+none_by q c [] other all = refl
+none_by q c (v ∷ vs) other all =
+    let is : v.code ≡ c = All-head (HasCode c) v vs all in
+    (λ i. if same_rule q (is i) then v ∷ reports_by q vs else reports_by q vs)
+    ∙ ((λ i. if other i then v ∷ reports_by q vs else reports_by q vs) ∙ none_by q c vs other (All-tail (HasCode c) v vs all))
+
+-- the reports of one rule, under two sets of rules which agree on it unless it is the new one
+apart : (c r q : Rule) (some others : List Violation) → q ≢ r → (c ≢ r → some ≡ others) → All (HasCode c) some → All (HasCode c) others → reports_by q some ≡ reports_by q others
+apart c r q some others differ same first second =
+    elim (cases_Bool (same_rule q c)) [
+      | inl is ↦ ap (λ vs. reports_by q vs) (same (λ e. differ (same_is q c is ∙ e)))
+      | inr other ↦ none_by q c some other first ∙ sym (none_by q c others other second)
+    ]
+
+builds_same : (tree : Tree) (some others : Rules) (settings : LinterSettings) → has some rule.RequireConcurrentIndexCreation ≡ has others rule.RequireConcurrentIndexCreation
+    → build.reports_of_require_concurrent_index_creation tree some settings ≡ build.reports_of_require_concurrent_index_creation tree others settings
+builds_same tree some others settings e = λ i. pieces_below (λ k. if e i then build.reports_of settings tree k (stmt_at tree k) else []) (length tree.stmts)
+
+constraints_same : (tree : Tree) (some others : Rules) (settings : LinterSettings) → has some rule.ConstraintMissingNotValid ≡ has others rule.ConstraintMissingNotValid
+    → constraint.reports_of_constraint_missing_not_valid tree some settings ≡ constraint.reports_of_constraint_missing_not_valid tree others settings
+constraints_same tree some others settings e = λ i.
+    pieces_below (λ k. if e i && is_open settings.assume_in_transaction tree k then constraint.validations tree (λ name. constraint.is_added settings.assume_in_transaction tree name k) (constraint.actions_of (stmt_at tree k)) else []) (length tree.stmts)
+    ++ pieces_below (λ k. if e i then constraint.additions_of settings tree k (stmt_at tree k) else []) (length tree.stmts)
+
+pub rules_apart : (tree : Tree) (rules : Rules) (settings : LinterSettings) (r q : Rule) → q ≢ r → reports_by q (own_table tree (with_rule rules r) settings) ≡ reports_by q (own_table tree rules settings)
+rules_apart tree rules settings r q differ =
+    let more : Rules = with_rule rules r in
+    let constraints : Rules → List Violation = λ rs. constraint.reports_of_constraint_missing_not_valid tree rs settings in
+    let builds : Rules → List Violation = λ rs. build.reports_of_require_concurrent_index_creation tree rs settings in
+    let first : reports_by q (constraints more) ≡ reports_by q (constraints rules) =
+    apart rule.ConstraintMissingNotValid r q (constraints more) (constraints rules) differ (λ other. constraints_same tree more rules settings (has-with_rule_other rules rule.ConstraintMissingNotValid r other))
+    (constraints_all (HasCode rule.ConstraintMissingNotValid) tree more settings (validation_code tree) (addition_code tree)) (constraints_all (HasCode rule.ConstraintMissingNotValid) tree rules settings (validation_code tree) (addition_code tree)) in
+    let second : reports_by q (builds more) ≡ reports_by q (builds rules) =
+    apart rule.RequireConcurrentIndexCreation r q (builds more) (builds rules) differ (λ other. builds_same tree more rules settings (has-with_rule_other rules rule.RequireConcurrentIndexCreation r other))
+    (builds_all (HasCode rule.RequireConcurrentIndexCreation) tree more settings (build_code tree)) (builds_all (HasCode rule.RequireConcurrentIndexCreation) tree rules settings (build_code tree)) in
+    filter-append (λ x. same_rule q x.code) (constraints more) (builds more) ∙ ((λ i. first i ++ second i) ∙ sym (filter-append (λ x. same_rule q x.code) (constraints rules) (builds rules)))

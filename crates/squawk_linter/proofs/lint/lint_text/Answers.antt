@@ -1,0 +1,16 @@
+use Rattle.std.proofs.Common.{◌∙◌, ap}
+use Rattle.squawk_linter.specs.Answers.{reports}
+use Rattle.squawk_linter.specs.Headline.{headline_of}
+use Rattle.squawk_linter.proofs.HeadlineLaws.{headline_in}
+use Rattle.squawk_linter.proofs.lint.lint_text.Goals as goal
+
+pub returns-in-Ok-clause-unterminated : goal.returns-in-Ok-clause-unterminated
+returns-in-Ok-clause-unterminated c = λ at opens. c.in_ok-file.ensures.unterminated at opens
+
+pub returns-in-Ok-clause-syntax : goal.returns-in-Ok-clause-syntax
+returns-in-Ok-clause-syntax c = λ at fault. c.in_ok-file.ensures.syntax at fault
+
+pub returns-in-Ok-clause-headline : goal.returns-in-Ok-clause-headline
+returns-in-Ok-clause-headline c = λ tree is none.
+    ap headline_of (c.in-Ok.ensures.ok ∙ ap (λ t. reports t c.args.linter.now.rules c.args.linter.now.settings) (c.in_ok-file.ensures.valid tree is))
+    ∙ headline_in tree c.args.linter.now.rules c.args.linter.now.settings none

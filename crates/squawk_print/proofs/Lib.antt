@@ -1,0 +1,4 @@
+pub mod Escaping
+pub mod Cuts
+pub mod Edits
+pub mod Reports

@@ -1,0 +1,5 @@
+pub mod Each
+pub mod Ends
+pub mod Lookup
+pub mod Numbers
+pub mod Walks

@@ -1,0 +1,120 @@
+//! The values of the words, read by `clap`.
+ghost use Rattle.std.specs.Prelude.{◌≡◌, IfOk, map, option_map, string_bytes};
+ghost use Rattle.std.specs.List.{list_all};
+ghost use Rattle.clap.specs.Words.{app_of, found_of, with_rule};
+ghost use Rattle.squawk_words.specs.Command.{IsGiven, app, flag_rule, is_tidy, option_rule, said_by};
+ghost use Rattle.squawk_words.specs.Config.{said_of};
+
+use clap::error::ErrorKind;
+use clap::{Arg, ArgAction, ArgMatches, Command};
+use std::alloc::{AllocError, Global};
+use text_pos::NoMemory;
+
+/// The values of the words, not yet read.
+#[derive(Clone, Copy)]
+pub(crate) struct Given<'w> {
+    pub(crate) only: Option<&'w str>,
+    pub(crate) include: Option<&'w str>,
+    pub(crate) exclude: Option<&'w str>,
+    pub(crate) non_volatile: Option<&'w str>,
+    pub(crate) pg_major: Option<&'w str>,
+    pub(crate) pg_minor: Option<&'w str>,
+    pub(crate) pg_patch: Option<&'w str>,
+    pub(crate) assume_in_transaction: bool,
+}
+
+/// The values of the words, or `None` exactly where the words are refused. The error is want of
+/// memory.
+pub(crate) fn given_words<'w>(
+    alloc: Global,
+    words: &'w [String],
+) -> Result<Option<Given<'w>>, NoMemory>
+    ensures { IfOk result (λ given. option_map said_by given ≡ said_of (map string_bytes words.entry.now)) }
+{
+    if !all_tidy(words) {
+        return Ok(None);
+    }
+    let command = command(alloc)?;
+    match command.try_get_matches_from(words) {
+        Ok(matches) => Ok(Some(given_of(&matches))),
+        Err(error) => match error.kind() {
+            ErrorKind::OutOfMemory => Err(NoMemory),
+            _ => Ok(None),
+        },
+    }
+}
+
+// `clap` would take `--` at the end of the words, and `-` as a value: no word begins with `-` but
+// those that have a name behind `--`.
+fn all_tidy(words: &[String]) -> bool
+    ensures { result ≡ list_all (λ word. is_tidy (string_bytes word)) words.now }
+{
+    words.iter().all(|word| is_tidy(word.as_str()))
+}
+
+// Whether a word does not begin with `-`, or is `--` and at least one byte more.
+fn is_tidy(word: &str) -> bool
+    ensures { result ≡ is_tidy word.now }
+{
+    match word.as_bytes() {
+        [] => true,
+        [x] => *x != b'-',
+        [x, _] => *x != b'-',
+        [x, y, _, ..] => *x != b'-' || *y == b'-',
+    }
+}
+
+// The command: the words that there are, and no other.
+fn command<'w>(alloc: Global) -> Result<Command<'w>, AllocError>
+    ensures { IfOk result (λ c. app_of c ≡ app) }
+{
+    let bare = Command::new(alloc, "squawk")
+        .no_binary_name(true)
+        .disable_help_flag(true);
+    let with_only = with_option(bare, alloc, "only")?;
+    let with_include = with_option(with_only, alloc, "include")?;
+    let with_exclude = with_option(with_include, alloc, "exclude")?;
+    let with_non_volatile = with_option(with_exclude, alloc, "non-volatile")?;
+    let with_pg_major = with_option(with_non_volatile, alloc, "pg-major")?;
+    let with_pg_minor = with_option(with_pg_major, alloc, "pg-minor")?;
+    let with_pg_patch = with_option(with_pg_minor, alloc, "pg-patch")?;
+    with_flag(with_pg_patch, alloc, "assume-in-transaction")
+}
+
+// A command and one more name that takes a value.
+fn with_option<'w>(
+    command: Command<'w>,
+    alloc: Global,
+    name: &'w str,
+) -> Result<Command<'w>, AllocError>
+    ensures { IfOk result (λ c. app_of c ≡ with_rule (app_of command.entry) (option_rule name.entry.now)) }
+{
+    command.arg(Arg::new(alloc, name).long(name))
+}
+
+// A command and one more name that takes no value.
+fn with_flag<'w>(
+    command: Command<'w>,
+    alloc: Global,
+    name: &'w str,
+) -> Result<Command<'w>, AllocError>
+    ensures { IfOk result (λ c. app_of c ≡ with_rule (app_of command.entry) (flag_rule name.entry.now)) }
+{
+    command.arg(Arg::new(alloc, name).long(name).action(ArgAction::SetTrue))
+}
+
+// The values that were found.
+fn given_of<'w>(matches: &ArgMatches<'w>) -> Given<'w>
+    ensures { IsGiven (found_of matches.now) (said_by result) }
+{
+    Given {
+        only: matches.get_str("only"),
+        include: matches.get_str("include"),
+        exclude: matches.get_str("exclude"),
+        non_volatile: matches.get_str("non-volatile"),
+        pg_major: matches.get_str("pg-major"),
+        pg_minor: matches.get_str("pg-minor"),
+        pg_patch: matches.get_str("pg-patch"),
+        assume_in_transaction: matches.get_flag("assume-in-transaction"),
+    }
+}

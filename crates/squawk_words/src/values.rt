@@ -1,0 +1,92 @@
+//! The values of words: lists and numbers.
+ghost use Rattle.std.specs.Prelude.{◌≡◌, [], IfOk, map, option_map, pos};
+ghost use Rattle.std.specs.Char.{is_ascii_digit};
+ghost use Rattle.std.specs.List.{list_all};
+ghost use Rattle.squawk_words.specs.Config.{name_list, names_by, number, pieces, read_or, rule_list};
+
+use lint_base::{Names, Rule, UnknownName};
+use std::alloc::{AllocError, Global};
+use text_pos::NoMemory;
+
+/// The rules whose names a list has, `Some` of none where there is no list, or `None` where a piece
+/// of the list names no rule. The error is want of memory.
+pub(crate) fn rules_or_none(
+    alloc: Global,
+    list: Option<&str>,
+) -> Result<Option<Vec<Rule>>, NoMemory>
+    ensures { IfOk result (λ rules. option_map (λ r. r.items) rules ≡ read_or [] rule_list (option_map (λ s. s.now) list.entry)) }
+{
+    match list {
+        None => Ok(Some(Vec::new(alloc))),
+        Some(list) => rule_list(alloc, list),
+    }
+}
+
+/// The rules whose names a list has, or `None` where a piece of the list names no rule. The error
+/// is want of memory.
+pub(crate) fn rule_list(alloc: Global, list: &str) -> Result<Option<Vec<Rule>>, NoMemory>
+    ensures { IfOk result (λ rules. option_map (λ r. r.items) rules ≡ rule_list list.now) }
+{
+    let pieces = pieces(alloc, list)?;
+    let mut rules = Vec::new(alloc);
+    for piece in &pieces {
+        match Rule::try_from(*piece) {
+            Ok(rule) => rules.push(rule)?,
+            Err(UnknownName) => return Ok(None),
+        }
+    }
+    Ok(Some(rules))
+}
+
+/// The names that count as not volatile: the standard ones and those of a list, if there is one, or
+/// `None` where a piece of the list is empty. The error is want of memory.
+pub(crate) fn names_by(alloc: Global, list: Option<&str>) -> Result<Option<Names>, NoMemory>
+    ensures { IfOk result (λ names. names ≡ names_by (option_map (λ s. s.now) list.entry)) }
+{
+    let mut names = Names::standard(alloc)?;
+    if let Some(list) = list {
+        let pieces = pieces(alloc, list)?;
+        for piece in &pieces {
+            if piece.is_empty() {
+                return Ok(None);
+            }
+            names.push(piece)?;
+        }
+    }
+    Ok(Some(names))
+}
+
+// The pieces of a list, between its commas.
+fn pieces(alloc: Global, list: &str) -> Result<Vec<&str>, AllocError>
+    ensures { IfOk result (λ v. map (λ s. s.now) v.items ≡ pieces list.now) }
+{
+    list.split(',').collect(alloc)
+}
+
+/// The number that a text is, or a default where there is no text; `None` where the text is not one
+/// to ten digits, or the number is above 2147483647.
+pub(crate) fn number_or(default: i32, text: Option<&str>) -> Option<i32>
+    ensures { result ≡ read_or default number (option_map (λ s. s.now) text.entry) }
+{
+    match text {
+        None => Some(default),
+        Some(text) => number(text),
+    }
+}
+
+// The number that a text of one to ten digits is, if it is at most 2147483647.
+fn number(text: &str) -> Option<i32>
+    ensures { result ≡ number text.now }
+{
+    if text.len() > 10 || !has_digits_alone(text) {
+        return None;
+    }
+    text.parse::<i32>().ok()
+}
+
+// Whether each byte of a text is a digit.
+fn has_digits_alone(text: &str) -> bool
+    ensures { result ≡ list_all is_ascii_digit text.now }
+{
+    text.bytes().all(|b| b.is_ascii_digit())
+}
