@@ -1,6 +1,6 @@
 -- Which transaction a statement stands in, and which tables were created in it (PostgreSQL manual, section 3.4 and
 -- the pages of BEGIN, COMMIT and ROLLBACK).
-use Rattle.std.specs.Prelude.{ℕ, Bool, true, false, ◌&&◌, ◌||◌, not, List, slice_index_or, Option, Some, None}
+use Rattle.std.specs.Prelude.{ℕ, Bool, true, false, ◌&&◌, ◌||◌, not, List, slice_index_or, if◌then◌else◌, Option, Some, None}
 use Rattle.std.specs.Cmp.Lexicographic.{pointwise}
 use Rattle.std.specs.Str.{bytes_eq}
 use Rattle.sql_token.specs.declared.token.Span.{Span}
@@ -39,14 +39,18 @@ chains_by _ = false
 abbrev pub chains : Stmt → Bool
 chains s = chains_by s.body
 
-abbrev pub created_by : Body → Option Span
-created_by (body.Table temp guarded on_commit_drop word path elems) = Some path
-created_by (body.Into path targets) = Some path
-created_by _ = None
+abbrev pub is_foreign_kind : StmtKind → Bool
+is_foreign_kind stmt.CreateForeignTable = true
+is_foreign_kind _ = false
 
--- the path of the table that the statement creates
+abbrev pub created_by : StmtKind → Body → Option Span
+created_by kind (body.Table temp guarded on_commit_drop word path elems) = if is_foreign_kind kind then None else Some path
+created_by kind (body.Into path targets) = Some path
+created_by kind _ = None
+
+-- the path of the table that the statement creates, which is not a foreign one
 abbrev pub created : Stmt → Option Span
-created s = created_by s.body
+created s = created_by s.kind s.body
 
 -- ---- paths
 

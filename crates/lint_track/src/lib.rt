@@ -1,7 +1,7 @@
 //! What is known about a position in a text: the open transaction and the tables that it created.
 //!
 //! [`TablesCreatedInTransaction`] borrows from the text; [`CreatedTables`] does not, so a pass may keep it. Both say the
-//! same. `specs/` says what each call means: `Transaction` has the conditions on earlier statements, `Tracking` and
+//! same. What a statement does to the traffic on its table, [`LockKind`] and [`analyze`], stands in `lint_lock`. `specs/` says what each call means: `Transaction` has the conditions on earlier statements, `Tracking` and
 //! `Created` what a walk knows of them, `SpanSet` sets of names.
 #![tactic(auto)]
 
@@ -13,6 +13,7 @@ mod statement;
 mod tables;
 
 pub use created_tables::CreatedTables;
+pub use lint_lock::{LockKind, analyze};
 pub use name::name_at;
 pub use open::OpenTransaction;
 pub use span_set::{SpanKey, SpanSet};

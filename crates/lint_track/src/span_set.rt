@@ -1,6 +1,7 @@
 //! Sets of spans of a text, told apart by the names that stand in them.
 
 ghost use Rattle.std.specs.Prelude.{◌≡◌, ◌||◌, ℕ, List, [], false, fold, IfOk, OnOk, OnErr};
+ghost use Rattle.std.specs.Bool.{OnTrue};
 ghost use Rattle.std.specs.Hash.FoldHasher as folding;
 ghost use Rattle.sql_tree.specs.Statement.{Tree};
 ghost use Rattle.lint_track.specs.Transaction.{same_path};
@@ -20,7 +21,7 @@ use text_pos::NoMemory;
 
 /// The greatest capacity of a table whose memory is kept when a set is cleared. Clearing takes time by the capacity, so
 /// one set that grew large must not slow down the small ones behind it.
-const KEPT_CAPACITY: usize = 64;
+pub(crate) const KEPT_CAPACITY: usize = 64;
 
 /// What a set tells spans apart by.
 #[derive(Clone, Copy, Debug, PartialEq, Eq)]
@@ -120,33 +121,46 @@ impl SpanSet {
             others: Vec::new(alloc),
         }
     }
-
     /// Whether a span of the set has the same names as this one. The error is want of memory, which paths of more than
     /// two names take.
+
+    #[tactic(auto, using(crate::proofs::SpanLaws::empty_span))]
     pub fn contains(&self, p: &Parse<'_>, span: Span) -> Result<bool, NoMemory>
         ensures { IfOk result (λ b. b ≡ has_span p.now self.now (key_of self.now.key p.now span)) }
     {
+        if self.is_empty() {
+            return Ok(false);
+        }
         let key = read_key(self.alloc, p, self.key, span)?;
-        self.has_key(p, &key)
+        self.has_key(p, &key, hash(&key))
+    }
+
+    fn is_empty(&self) -> bool
+        ensures hashed { OnTrue result (self.now.hashed ≡ []) }
+        ensures others { OnTrue result (self.now.others ≡ []) }
+    {
+        self.hashed.is_empty() && self.others.is_empty()
     }
 
     #[tactic(auto, unfolding(crate::specs::SpanSet::has_span))]
-    fn has_key<'t>(&self, p: &Parse<'t>, key: &KeyText<'t>) -> Result<bool, NoMemory>
-        requires { kind_of key.now ≡ self.now.key }
+    fn has_key<'t>(&self, p: &Parse<'t>, key: &KeyText<'t>, hash: u64) -> Result<bool, NoMemory>
+        requires kind { kind_of key.now ≡ self.now.key }
+        requires hash { hash ≡ hash_of (kind_of key.now) (texts_of key.now) }
         ensures { IfOk result (λ b. b ≡ has_span p.now self.now (texts_of key.now)) }
     {
-        if self.is_hashed(p, key)? {
+        if self.is_hashed(p, key, hash)? {
             Ok(true)
         } else {
             self.is_other(p, key)
         }
     }
 
-    fn is_hashed<'t>(&self, p: &Parse<'t>, key: &KeyText<'t>) -> Result<bool, NoMemory>
-        requires { kind_of key.now ≡ self.now.key }
+    fn is_hashed<'t>(&self, p: &Parse<'t>, key: &KeyText<'t>, hash: u64) -> Result<bool, NoMemory>
+        requires kind { kind_of key.now ≡ self.now.key }
+        requires hash { hash ≡ hash_of (kind_of key.now) (texts_of key.now) }
         ensures { IfOk result (λ b. b ≡ spec.is_hashed p.now self.now (texts_of key.now)) }
     {
-        match self.hashed.get(&hash(key)) {
+        match self.hashed.get(&hash) {
             Some(span) => is_same(self.alloc, p, key, *span),
             None => Ok(false),
         }
@@ -172,10 +186,11 @@ impl SpanSet {
         ensures err { OnErr result (self.new ≡ self.old) }
     {
         let key = read_key(self.alloc, p, self.key, span)?;
-        if self.has_key(p, &key)? {
+        let hashed = hash(&key);
+        if self.has_key(p, &key, hashed)? {
             Ok(())
         } else {
-            self.add(hash(&key), span)
+            self.add(hashed, span)
         }
     }
 

@@ -36,12 +36,26 @@ pub fn chains(s: &Stmt) -> bool
     }
 }
 
-/// The path of the table that the statement creates.
+fn is_foreign_kind(kind: StmtKind) -> bool
+    ensures { result ≡ spec.is_foreign_kind kind }
+{
+    match kind {
+        StmtKind::CreateForeignTable => true,
+        _ => false,
+    }
+}
+/// The path of the table that the statement creates, which is not a foreign one.
 pub fn created(s: &Stmt) -> Option<Span>
     ensures { result ≡ spec.created s.now }
 {
     match s.body {
-        Body::Table { path, .. } => Some(path),
+        Body::Table { path, .. } => {
+            if is_foreign_kind(s.kind) {
+                None
+            } else {
+                Some(path)
+            }
+        }
         Body::Into { path, .. } => Some(path),
         _ => None,
     }

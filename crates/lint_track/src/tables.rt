@@ -8,16 +8,13 @@ ghost use Rattle.lint_track.specs.Transaction.{is_new, same_path, creates, stmt_
 ghost use Rattle.lint_track.specs.Tracking.{IsTracking, IsAfter, holds};
 
 use crate::open::OpenTransaction;
+use crate::span_set::KEPT_CAPACITY;
 use crate::statement::{created, ends};
 use sql_tree::{NamePath, Parse, Stmt};
 use std::alloc::Global;
 use std::collections::HashSet;
 use std::marker::Model;
 use text_pos::NoMemory;
-
-/// The greatest capacity of a set whose memory is kept for the next transaction. Clearing takes time by the capacity, so
-/// one long transaction must not slow down the short ones behind it.
-const KEPT_CAPACITY: usize = 64;
 
 /// The tables that the open transaction created, as a walk over the statements of one tree knows them.
 #[derive(Drop)]

@@ -1,10 +1,16 @@
 //! What a linter answers for a tree.
 
+ghost use Rattle.std.specs.Prelude.{◌≡◌, ◌<◌};
+
+use crate::mark::Mark;
 use lint_base::{LinterSettings, Names, Rule, Violation};
-use lint_pass::NoPass;
+use lint_pass::{NoPass, Steps};
 use sql_read::parse;
+use sql_tree::Parse;
 use squawk_linter::{Linter, lint_text};
 use std::alloc::Global;
+use std::marker::Brand;
+use std::sync::ledger::{Blank, Ledger};
 use std::test::Fail;
 
 /// Whether a transaction is assumed, a text, and its reports: where each begins and ends, its rule, and whether a
@@ -90,6 +96,37 @@ fn of_no_pass(alloc: Global, text: &str) -> Result<String, Fail> {
     Ok(out)
 }
 
+// The reports of a text by the pass that reports each statement, in place of the linter's own ones.
+fn of_marks(alloc: Global, linter: &mut Linter, p: &Parse<'_>) -> Result<String, Fail> {
+    let mut out = String::new(alloc);
+    let _text = p.text();
+    let reports = linter.lint_with(alloc, p, &Mark)?;
+    push_reports(alloc, &mut out, reports.as_slice())?;
+    Ok(out)
+}
+
+// The reports of a tree by the call that counts the steps of the walk, over a new ledger.
+fn counted_by<L: Ledger>(
+    blank: Blank,
+    alloc: Global,
+    linter: &mut Linter,
+    p: &Parse<'_>,
+) -> Result<String, Fail>
+    requires name { blank.name ≡ L.name }
+    requires parts { blank.parts ≡ L.parts }
+    requires some { 0 < blank.parts }
+{
+    let mut out = String::new(alloc);
+    let mut steps = Steps::<L>::new(blank);
+    let reports = linter.lint_counted(alloc, p, &mut steps)?;
+    push_reports(alloc, &mut out, reports.as_slice())?;
+    Ok(out)
+}
+
+fn counted(alloc: Global, linter: &mut Linter, p: &Parse<'_>) -> Result<String, Fail> {
+    counted_by::<Brand>(Blank::new(1), alloc, linter, p)
+}
+
 #[test]
 fn answers(rt: HostRuntime) -> Result<(), Fail> {
     for row in ANSWERS {
@@ -115,6 +152,33 @@ fn another_pass(rt: HostRuntime) -> Result<(), Fail> {
     assert_eq!(rt;
         of_no_pass(rt.alloc(), text)?.as_str(),
         "17..20 unused-ignore "
+    );
+    Ok(())
+}
+
+#[test]
+fn marks(rt: HostRuntime) -> Result<(), Fail> {
+    let text = "-- squawk-ignore ban-drop-table\nSELECT 1;\nSELECT 2;";
+    let p = parse(rt.alloc(), text)?;
+    let mut linter = linter_of(rt.alloc(), false)?;
+    assert_eq!(rt;
+        of_marks(rt.alloc(), &mut linter, &p)?.as_str(),
+        "42..51 ban-drop-table "
+    );
+    Ok(())
+}
+
+#[test]
+fn counts(rt: HostRuntime) -> Result<(), Fail> {
+    let text = "BEGIN; CREATE TABLE t (id int); CREATE INDEX i ON t (id); COMMIT;";
+    let p = parse(rt.alloc(), text)?;
+    let mut linter = linter_of(rt.alloc(), false)?;
+    assert_eq!(rt; counted(rt.alloc(), &mut linter, &p)?.as_str(), "");
+    let text = "BEGIN;\nCREATE INDEX i ON t (id);\nCOMMIT;";
+    let p = parse(rt.alloc(), text)?;
+    assert_eq!(rt;
+        counted(rt.alloc(), &mut linter, &p)?.as_str(),
+        "7..32 require-concurrent-index-creation "
     );
     Ok(())
 }

@@ -5,6 +5,8 @@
 #[cfg(test)]
 mod answers;
 #[cfg(test)]
+mod mark;
+#[cfg(test)]
 mod printed;
 #[cfg(test)]
 mod transactions;

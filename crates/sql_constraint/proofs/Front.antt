@@ -1,4 +1,4 @@
--- The actions that were read, before those still to be read.
+-- The constraints that were read, before those still to be read.
 use Rattle.std.proofs.Common.{List, ◌++◌, Option, Some, None}
 
 abbrev pub with_front : {A : Type 0} → List A → Option (List A) → Option (List A)

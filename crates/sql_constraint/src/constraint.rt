@@ -1,30 +1,21 @@
-//! Constraints of a table (PostgreSQL manual, CREATE TABLE and ALTER TABLE, table_constraint).
+//! Constraints of tables and of columns (PostgreSQL manual, CREATE TABLE, table_constraint and column_constraint).
 
-ghost use Rattle.std.specs.Prelude.{◌≡◌};
+ghost use Rattle.std.specs.Prelude.{◌≡◌, IfOk};
 ghost use Rattle.std.specs.Option.{option_map, option_copied};
-ghost use Rattle.sql_token.specs.Depth as depth;
 ghost use Rattle.sql_tree.specs.Constraint as spec;
 ghost use Rattle.sql_constraint.specs.Views.{beside};
 
-use sql_part::{Mark, behind_word, has_mark};
-use sql_token::{Keyword, Span, Symbol, Terminal};
+use crate::value::{value_in, value_of, value_span};
+use sql_mark::{Mark, has_mark, span_of};
+use sql_part::behind_word;
+use sql_token::{Keyword, Symbol, Terminal};
 use sql_tree::{ConKind, Constraint};
+use std::alloc::Global;
+use text_pos::NoMemory;
 
-/// From the first token to the last one; tokens 0 to 0 where there is none.
-pub(crate) fn span_of(terminals: &[Terminal]) -> Span
-    ensures { result ≡ depth.span_of terminals.now }
-{
-    match terminals {
-        [] => Span { first: 0, last: 0 },
-        [first, ..] => Span {
-            first: first.number,
-            last: terminals[terminals.len() - 1].number,
-        },
-    }
-}
-
+/// What follows these two words, where they stand first.
 #[tactic(auto, unfolding(sql_tree::specs::Constraint::behind_two))]
-fn behind_two<'a>(
+pub fn behind_two<'a>(
     first: Keyword,
     second: Keyword,
     terminals: &'a [Terminal],
@@ -49,7 +40,9 @@ fn named<'a>(terminals: &'a [Terminal]) -> Option<(Option<u32>, &'a [Terminal])>
 
 /// The number of the name behind CONSTRAINT, where this word stands, and what follows.
 #[tactic(auto, unfolding(sql_tree::specs::Constraint::constraint_name))]
-fn constraint_name<'a>(terminals: &'a [Terminal]) -> Option<(Option<u32>, &'a [Terminal])>
+pub(crate) fn constraint_name<'a>(
+    terminals: &'a [Terminal],
+) -> Option<(Option<u32>, &'a [Terminal])>
     ensures { option_map beside result ≡ spec.constraint_name terminals.entry.now }
 {
     match terminals {
@@ -60,7 +53,8 @@ fn constraint_name<'a>(terminals: &'a [Terminal]) -> Option<(Option<u32>, &'a [T
 
 // ---- its kind
 
-fn is_exclusion(rest: &[Terminal]) -> bool
+/// Whether what follows EXCLUDE makes it a constraint.
+pub fn is_exclusion(rest: &[Terminal]) -> bool
     ensures { result ≡ spec.is_exclusion rest.now }
 {
     match rest {
@@ -125,25 +119,48 @@ fn is_by_index(kind: ConKind, rest: &[Terminal]) -> bool
     is_key(kind) && behind_two(Keyword::Using, Keyword::Index, rest).is_some()
 }
 
-/// The table constraint that these terminals are, all of them; `None` where they are none.
-///
-/// `first` and `last` are the numbers of the first and the last token, the words CONSTRAINT and its name among them.
-/// No expression is read: `expr` and `expr_span` are `None`.
-#[tactic(auto, unfolding(sql_tree::specs::Constraint::table_constraint))]
-pub fn table_constraint(terminals: &[Terminal]) -> Option<Constraint>
-    ensures { result ≡ spec.table_constraint terminals.now }
+/// The constraint that all of `terminals` is, by its name, its kind, and what follows the words of the kind.
+#[tactic(auto, unfolding(sql_tree::specs::Constraint::constraint_in))]
+pub(crate) fn constraint_in(
+    alloc: Global,
+    terminals: &[Terminal],
+    name: Option<u32>,
+    kind: ConKind,
+    rest: &[Terminal],
+) -> Result<Constraint, NoMemory>
+    ensures { IfOk result (λ c. c ≡ spec.constraint_in terminals.now name (kind, rest.now)) }
 {
-    let (name, behind) = constraint_name(terminals)?;
-    let (kind, rest) = constraint_kind(behind)?;
     let span = span_of(terminals);
-    Some(Constraint {
+    let value = value_in(kind, rest);
+    let expr = value_of(alloc, value)?;
+    Ok(Constraint {
         kind,
         name,
         first: span.first,
         last: span.last,
         not_valid: has_mark(Mark::NotValid, terminals),
         by_index: is_by_index(kind, rest),
-        expr: None,
-        expr_span: None,
+        expr,
+        expr_span: value_span(value),
     })
+}
+
+/// The table constraint that these terminals are, all of them; `Ok(None)` where they are none.
+///
+/// `first` and `last` are the numbers of the first and the last token, the words CONSTRAINT and its name among them.
+#[tactic(auto, unfolding(sql_tree::specs::Constraint::table_constraint))]
+pub fn read_table_constraint(
+    alloc: Global,
+    terminals: &[Terminal],
+) -> Result<Option<Constraint>, NoMemory>
+    ensures { IfOk result (λ c. c ≡ spec.table_constraint terminals.now) }
+{
+    let Some((name, behind)) = constraint_name(terminals) else {
+        return Ok(None);
+    };
+    let Some((kind, rest)) = constraint_kind(behind) else {
+        return Ok(None);
+    };
+    let constraint = constraint_in(alloc, terminals, name, kind, rest)?;
+    Ok(Some(constraint))
 }

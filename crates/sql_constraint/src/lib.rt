@@ -1,8 +1,9 @@
-//! What stands in the tail of ALTER TABLE: table constraints, and the actions that add them.
+//! Reads constraints of tables, of columns and of domains.
 #![tactic(auto)]
 
-mod actions;
+mod column;
 mod constraint;
+mod value;
 
-pub use actions::{add_constraint, read_added_constraints};
-pub use constraint::table_constraint;
+pub use column::read_column_constraints;
+pub use constraint::{behind_two, is_exclusion, read_table_constraint};

@@ -1,13 +1,18 @@
--- What reading sees of terminals with other numbers.
-use Rattle.std.proofs.Common.{◌≡◌, ℕ, ◌<◌, Bool, true, false, cond, List, [], ◌∷◌, length, map, get_or, refl, arith, Option, Some, None}
+-- What reading sees of terminals with other numbers. A law of a definition that reads by steps is mostly one `simp` with
+-- the set `moves` and the laws of the definitions that it calls: each step's change of numbers moves to its result.
+use Rattle.std.proofs.Common.{◌≡◌, ℕ, zero, suc, ◌-◌, Bool, true, false, cond, List, [], ◌∷◌, length, map, get_or, refl, ap, arith, Option, Some, None}
+use Rattle.std.specs.List.{cons_option, filter_map}
 use Rattle.std.specs.Option.{option_map, option_and_then, is_some}
-use Rattle.std.proofs.lemmas.List.{get_or-map, length-map}
+use Rattle.std.proofs.lemmas.List.{get_or-map, length-map, take-map, drop-map, map-append}
 use Rattle.sql_keyword.specs.declared.words.Keyword.{Keyword}
 use Rattle.sql_token.specs.declared.terminal.Terminal.{Terminal}
 use Rattle.sql_token.specs.Terminal.{is_keyword, is_name, is_dot, is_opener, is_closer}
 use Rattle.sql_token.specs.Depth.{nothing, span_of}
-use Rattle.sql_tree.specs.Forms.{behind_word}
+use Rattle.sql_tree.specs.Forms.{behind_word, behind_words, either_of}
+use Rattle.sql_tree.specs.Split.{and_others, all_of}
 use Rattle.sql_law.specs.Renumber.{renumber}
+
+-- ---- steps
 
 -- two ways to go on, over a value and over its image
 pub bind_moved : {A B C D : Type 0} (g : A → B) (h : C → D) (k : A → Option C) (k' : B → Option D) →
@@ -16,13 +21,69 @@ pub bind_moved : {A B C D : Type 0} (g : A → B) (h : C → D) (k : A → Optio
 bind_moved g h k k' each None = refl
 bind_moved g h k k' each (Some a) = each a
 
+pub then_map : {A B C : Type 0} (k : B → Option C) (g : A → B) (r : Option A) →
+    option_and_then k (option_map g r) ≡ option_and_then (λ a. k (g a)) r
+then_map k g None = refl
+then_map k g (Some a) = refl
+
+pub map_then : {A B C : Type 0} (h : B → C) (k : A → Option B) (r : Option A) →
+    option_map h (option_and_then k r) ≡ option_and_then (λ a. option_map h (k a)) r
+map_then h k None = refl
+map_then h k (Some a) = refl
+
 pub cond_under : {A B : Type 0} (h : A → B) (b : Bool) (x y : A) → cond b (h x) (h y) ≡ h (cond b x y)
 cond_under h true x y = refl
 cond_under h false x y = refl
 
+pub option_map_cond : {A B : Type 0} (h : A → B) (b : Bool) (x y : Option A) →
+    option_map h (cond b x y) ≡ cond b (option_map h x) (option_map h y)
+option_map_cond h true x y = refl
+option_map_cond h false x y = refl
+
+pub map_cond : {A B : Type 0} (h : A → B) (b : Bool) (x y : List A) → map h (cond b x y) ≡ cond b (map h x) (map h y)
+map_cond h true x y = refl
+map_cond h false x y = refl
+
 pub is_some_moved : {A B : Type 0} (g : A → B) (o : Option A) → is_some (option_map g o) ≡ is_some o
 is_some_moved g None = refl
 is_some_moved g (Some a) = refl
+
+pub either_moved : {A B : Type 0} (g : A → B) (r s : Option A) →
+    either_of (option_map g r) (option_map g s) ≡ option_map g (either_of r s)
+either_moved g (Some r) s = refl
+either_moved g None s = refl
+
+-- ---- lists
+
+pub others_moved : {A B : Type 0} (g : A → B) (x : Option A) (others : Option (List A)) →
+    and_others (option_map g x) (option_map (map g) others) ≡ option_map (map g) (and_others x others)
+others_moved g None others = refl
+others_moved g (Some x) None = refl
+others_moved g (Some x) (Some others) = refl
+
+-- what each of a list gives, where a function gives it under other numbers
+pub all_moved : {X A B : Type 0} (r : X → X) (g : A → B) (k : X → Option A) (k' : X → Option B) →
+    ((x : X) → k' (r x) ≡ option_map g (k x)) → (xs : List X) →
+    all_of k' (map r xs) ≡ option_map (map g) (all_of k xs)
+all_moved r g k k' each [] = refl
+all_moved r g k k' each (x ∷ xs) = rw (each x, all_moved r g k k' each xs) (others_moved g (k x) (all_of k xs))
+
+pub map_moved : {X A B : Type 0} (r : X → X) (g : A → B) (k : X → A) (k' : X → B) →
+    ((x : X) → k' (r x) ≡ g (k x)) → (xs : List X) → map k' (map r xs) ≡ map g (map k xs)
+map_moved r g k k' each [] = refl
+map_moved r g k k' each (x ∷ xs) = rw (each x, map_moved r g k k' each xs) refl
+
+cons_moved : {A B : Type 0} (g : A → B) (x : Option A) (others : List A) →
+    cons_option (option_map g x) (map g others) ≡ map g (cons_option x others)
+cons_moved g None others = refl
+cons_moved g (Some x) others = refl
+
+-- what a function gives of each of a list, where it gives something
+pub filter_map_moved : {X A B : Type 0} (r : X → X) (g : A → B) (k : X → Option A) (k' : X → Option B) →
+    ((x : X) → k' (r x) ≡ option_map g (k x)) → (xs : List X) →
+    filter_map k' (map r xs) ≡ map g (filter_map k xs)
+filter_map_moved r g k k' each [] = refl
+filter_map_moved r g k k' each (x ∷ xs) = rw (each x, filter_map_moved r g k k' each xs) (cons_moved g (k x) (filter_map k xs))
 
 -- ---- terminals
 
@@ -46,20 +107,61 @@ pub dot_sees : (f : ℕ → ℕ) (t : Terminal) → is_dot (renumber f t) ≡ is
 unfolding is_dot
 dot_sees f t = refl
 
+pub ruleset moves = (
+  then_map,
+  map_then,
+  option_map_cond,
+  map_cond,
+  is_some_moved,
+  either_moved,
+  length-map,
+  take-map,
+  drop-map,
+  keyword_sees,
+  name_sees,
+  opener_sees,
+  closer_sees,
+  dot_sees,
+)
+
 -- ---- words
 
 pub behind_word_moved : (f : ℕ → ℕ) (w : Keyword) (ts : List Terminal) →
     behind_word w (map (renumber f) ts) ≡ option_map (map (renumber f)) (behind_word w ts)
 behind_word_moved f w [] = refl
-behind_word_moved f w (t ∷ ts) =
-    rw (keyword_sees f w t) (cond_under (option_map (map (renumber f))) (is_keyword w t) (Some ts) None)
+behind_word_moved f w (t ∷ ts) = simp moves
+
+pub behind_words_moved : (f : ℕ → ℕ) (ws : List Keyword) (ts : List Terminal) →
+    behind_words ws (map (renumber f) ts) ≡ option_map (map (renumber f)) (behind_words ws ts)
+behind_words_moved f [] ts = refl
+behind_words_moved f (w ∷ ws) ts =
+    rw (behind_word_moved f w ts) (bind_moved _ _ _ _ (behind_words_moved f ws) (behind_word w ts))
+
+-- ---- single terminals
+
+pub at_sees : (f : ℕ → ℕ) (w : Keyword) (ts : List Terminal) (i : ℕ) →
+    is_keyword w (get_or (map (renumber f) ts) i nothing) ≡ is_keyword w (get_or ts i nothing)
+at_sees f w [] i = refl
+at_sees f w (t ∷ ts) zero = keyword_sees f w t
+at_sees f w (t ∷ ts) (suc i) = at_sees f w ts i
 
 -- ---- spans
 
-pub at_moved : (f : ℕ → ℕ) (ts : List Terminal) (i j : ℕ) → i ≡ j → j < length ts →
-    (get_or (map (renumber f) ts) i nothing).number ≡ f (get_or ts j nothing).number
-at_moved f ts i j e h = rw (e, get_or-map (renumber f) ts j nothing nothing h) refl
+-- the terminal at the end, where the list has one
+pub last_terminal : (f : ℕ → ℕ) (t : Terminal) (ts : List Terminal) →
+    get_or (map (renumber f) (t ∷ ts)) (length (map (renumber f) (t ∷ ts)) - 1) nothing
+    ≡ renumber f (get_or (t ∷ ts) (length (t ∷ ts) - 1) nothing)
+last_terminal f t ts =
+    rw (length-map (t ∷ ts) (renumber f)) (get_or-map (renumber f) (t ∷ ts) (length (t ∷ ts) - 1) nothing nothing (omega arith))
+
+-- The ends of a list are those of its terminals, which a list without terminals has not.
+pub record HasEnds (f : ℕ → ℕ) (ts : List Terminal) : Type 0 where
+  pub first : (get_or (map (renumber f) ts) 0 nothing).number ≡ f (get_or ts 0 nothing).number
+  pub last : (get_or (map (renumber f) ts) (length ts - 1) nothing).number ≡ f (get_or ts (length ts - 1) nothing).number
+
+pub ends : (f : ℕ → ℕ) (t : Terminal) (ts : List Terminal) → HasEnds f (t ∷ ts)
+ends f t ts = record { first = refl; last = rw (length-map (t ∷ ts) (renumber f)) at (ap (λ x. x.number) (last_terminal f t ts)) }
 
 pub last_moved : (f : ℕ → ℕ) (t : Terminal) (ts : List Terminal) →
     (span_of (map (renumber f) (t ∷ ts))).last ≡ f (span_of (t ∷ ts)).last
-last_moved f t ts = at_moved f (t ∷ ts) _ _ (omega (arith, length-map (t ∷ ts) (renumber f))) (omega arith)
+last_moved f t ts = ap (λ x. x.number) (last_terminal f t ts)

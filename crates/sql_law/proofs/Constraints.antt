@@ -1,46 +1,45 @@
--- Table constraints and the actions that add them, under other numbers.
-use Rattle.std.proofs.Common.{◌≡◌, ℕ, cond, List, [], ◌∷◌, map, refl, ap, Option, Some, None}
-use Rattle.std.specs.Option.{option_map}
+-- Constraints of tables and of columns under other numbers.
+use Rattle.std.proofs.Common.{◌≡◌, ℕ, List, [], ◌∷◌, map, refl, ap, Option, Some, None}
+use Rattle.std.specs.Option.{option_map, option_and_then}
+use Rattle.std.proofs.lemmas.List.{length-map}
 use Rattle.sql_keyword.specs.declared.words.Keyword.{Keyword}
 use Rattle.sql_keyword.specs.declared.words.Keyword.TheVariants as k
+use Rattle.sql_token.specs.declared.terminal.Symbol.{Symbol}
+use Rattle.sql_token.specs.declared.terminal.Symbol.TheVariants as s
 use Rattle.sql_token.specs.declared.terminal.Terminal.{Terminal}
-use Rattle.sql_token.specs.Terminal.{is_keyword, is_name}
 use Rattle.sql_tree.specs.declared.nodes.ConKind.{ConKind}
-use Rattle.sql_tree.specs.declared.nodes.ConKind.TheVariants.{Check, Unique, PrimaryKey, Exclude, ForeignKey, NotNull}
-use Rattle.sql_tree.specs.declared.nodes.Constraint.{Constraint}
-use Rattle.sql_tree.specs.declared.nodes.Action.{Action}
-use Rattle.sql_tree.specs.Forms.{behind_word}
-use Rattle.sql_tree.specs.Split.{comma, not_valid, split, and_others, all_of}
-use Rattle.sql_tree.specs.Constraint.{named, constraint_name, is_exclusion, behind_exclude, behind_two, kind_or, two_word_kind, constraint_kind, by_index, constraint_in, constraint_behind, table_constraint}
-use Rattle.sql_tree.specs.Action.{adding, adding_behind, add_constraint, add_constraints}
-use Rattle.sql_law.specs.Renumber.{renumber, constraint_moved, action_moved, ConstraintRenumbers, ActionRenumbers, ActionsRenumber}
-use Rattle.sql_law.proofs.Basics.{bind_moved, cond_under, is_some_moved, keyword_sees, name_sees, behind_word_moved, last_moved}
-use Rattle.sql_law.proofs.Marks.{comma_is_blind, not_valid_is_blind, split_renumbers, has_moved}
+use Rattle.sql_tree.specs.declared.nodes.ConKind.TheVariants as con
+use Rattle.sql_tree.specs.Split.{not_valid}
+use Rattle.sql_tree.specs.Pieces.{pieces}
+use Rattle.sql_tree.specs.ColumnMarks.{value_end, kind_of_word, kind_of_symbol, kind_led, first_kind, follows, is_bound, kind_behind_name, constraint_start, constraint_head}
+use Rattle.sql_tree.specs.Constraint.{named, constraint_name, is_exclusion, behind_exclude, behind_two, kind_or, two_word_kind, constraint_kind, by_index, default_value, value_in, value_of, value_span, constraint_in, constraint_behind, table_constraint, behind_kind, column_kind, column_constraint_in, column_constraint_behind, column_constraint, column_constraints}
+use Rattle.sql_law.specs.Moved.{span_moved, expr_moved, constraint_moved}
+use Rattle.sql_law.specs.Renumber.{renumber, IsBlind}
+use Rattle.sql_law.specs.Trees.{ConstraintRenumbers}
+use Rattle.sql_law.proofs.Basics.{bind_moved, moves, all_moved, behind_word_moved, HasEnds, ends}
+use Rattle.sql_law.proofs.Marks.{begins_sees, not_valid_is_blind, before_renumbers}
+use Rattle.sql_law.proofs.Groups.{is_empty_moved, inside_list_moved}
+use Rattle.sql_law.proofs.Pieces.{before_behind_sees, IsBlindHead, pieces_moved}
+use Rattle.sql_law.proofs.Expressions.{expression_renumbers}
+use Rattle.sql_law.proofs.Types.{value_end_is_blind}
 
 -- ---- words
 
-behind_two_moved : (f : ℕ → ℕ) (v w : Keyword) (ts : List Terminal) →
+pub behind_two_moved : (f : ℕ → ℕ) (v w : Keyword) (ts : List Terminal) →
     behind_two v w (map (renumber f) ts) ≡ option_map (map (renumber f)) (behind_two v w ts)
 unfolding behind_two
-behind_two_moved f v w ts =
-    rw (behind_word_moved f v ts)
-    (bind_moved (map (renumber f)) (map (renumber f)) (behind_word w) (behind_word w) (behind_word_moved f w) (behind_word v ts))
+behind_two_moved f v w ts = simp (moves, behind_word_moved)
 
-exclusion_sees : (f : ℕ → ℕ) (ts : List Terminal) → is_exclusion (map (renumber f) ts) ≡ is_exclusion ts
+pub exclusion_sees : (f : ℕ → ℕ) (ts : List Terminal) → is_exclusion (map (renumber f) ts) ≡ is_exclusion ts
 exclusion_sees f [] = refl
-exclusion_sees f (t ∷ ts) = rw (keyword_sees f k.Using t) refl
+exclusion_sees f (t ∷ ts) = simp moves
 
 behind_exclude_moved : (f : ℕ → ℕ) (ts : List Terminal) →
     behind_exclude (map (renumber f) ts) ≡ option_map (map (renumber f)) (behind_exclude ts)
 unfolding behind_exclude
-behind_exclude_moved f ts =
-    rw (behind_word_moved f k.Exclude ts)
-    (bind_moved (map (renumber f)) (map (renumber f))
-    (λ rest. cond (is_exclusion rest) (Some rest) None) (λ rest. cond (is_exclusion rest) (Some rest) None)
-    (λ rest. rw (exclusion_sees f rest) (cond_under (option_map (map (renumber f))) (is_exclusion rest) (Some rest) None))
-    (behind_word k.Exclude ts))
+behind_exclude_moved f ts = simp (moves, behind_word_moved, exclusion_sees)
 
--- ---- names and kinds
+-- ---- names
 
 abbrev name_moved : (ℕ → ℕ) → Option ℕ × List Terminal → Option ℕ × List Terminal
 name_moved f p = (option_map f p.0, map (renumber f) p.1)
@@ -48,119 +47,180 @@ name_moved f p = (option_map f p.0, map (renumber f) p.1)
 named_moved : (f : ℕ → ℕ) (ts : List Terminal) → named (map (renumber f) ts) ≡ option_map (name_moved f) (named ts)
 unfolding named
 named_moved f [] = refl
-named_moved f (t ∷ ts) = rw (name_sees f t) (cond_under (option_map (name_moved f)) (is_name t) (Some (Some t.number, ts)) None)
+named_moved f (t ∷ ts) = simp moves
 
 constraint_name_moved : (f : ℕ → ℕ) (ts : List Terminal) →
     constraint_name (map (renumber f) ts) ≡ option_map (name_moved f) (constraint_name ts)
 unfolding constraint_name
 constraint_name_moved f [] = refl
-constraint_name_moved f (t ∷ ts) =
-    rw (keyword_sees f k.Constraint t, named_moved f ts)
-    (cond_under (option_map (name_moved f)) (is_keyword k.Constraint t) (named ts) (Some (None, t ∷ ts)))
+constraint_name_moved f (t ∷ ts) = simp (named_moved f ts, moves)
+
+-- ---- kinds
 
 abbrev kind_moved : (ℕ → ℕ) → ConKind × List Terminal → ConKind × List Terminal
 kind_moved f p = (p.0, map (renumber f) p.1)
 
-three_kinds : (f : ℕ → ℕ) (u v w : ConKind) (x y z : Option (List Terminal)) (other : Option (ConKind × List Terminal)) →
-    kind_or u (option_map (map (renumber f)) x) (kind_or v (option_map (map (renumber f)) y)
-    (kind_or w (option_map (map (renumber f)) z) (option_map (kind_moved f) other)))
-    ≡ option_map (kind_moved f) (kind_or u x (kind_or v y (kind_or w z other)))
-three_kinds f u v w (Some x) y z other = refl
-three_kinds f u v w None (Some y) z other = refl
-three_kinds f u v w None None (Some z) other = refl
-three_kinds f u v w None None None other = refl
+kind_or_moved : (f : ℕ → ℕ) (kind : ConKind) (x : Option (List Terminal)) (other : Option (ConKind × List Terminal)) →
+    kind_or kind (option_map (map (renumber f)) x) (option_map (kind_moved f) other) ≡ option_map (kind_moved f) (kind_or kind x other)
+kind_or_moved f kind (Some x) other = refl
+kind_or_moved f kind None other = refl
 
 two_word_kind_moved : (f : ℕ → ℕ) (ts : List Terminal) →
     two_word_kind (map (renumber f) ts) ≡ option_map (kind_moved f) (two_word_kind ts)
 unfolding two_word_kind
-two_word_kind_moved f ts =
-    rw (behind_two_moved f k.Primary k.Key ts, behind_two_moved f k.Foreign k.Key ts, behind_two_moved f k.Not k.Null ts)
-    (three_kinds f PrimaryKey ForeignKey NotNull (behind_two k.Primary k.Key ts) (behind_two k.Foreign k.Key ts) (behind_two k.Not k.Null ts) None)
+two_word_kind_moved f ts = simp (behind_two_moved, kind_or_moved f con.NotNull (behind_two k.Not k.Null ts) None, kind_or_moved)
 
 constraint_kind_moved : (f : ℕ → ℕ) (ts : List Terminal) →
     constraint_kind (map (renumber f) ts) ≡ option_map (kind_moved f) (constraint_kind ts)
 unfolding constraint_kind
-constraint_kind_moved f ts =
-    rw (behind_word_moved f k.Check ts, behind_word_moved f k.Unique ts, behind_exclude_moved f ts, two_word_kind_moved f ts)
-    (three_kinds f Check Unique Exclude (behind_word k.Check ts) (behind_word k.Unique ts) (behind_exclude ts) (two_word_kind ts))
+constraint_kind_moved f ts = simp (behind_word_moved, behind_exclude_moved, two_word_kind_moved, kind_or_moved)
 
 by_index_moved : (f : ℕ → ℕ) (kind : ConKind) (rest : List Terminal) → by_index kind (map (renumber f) rest) ≡ by_index kind rest
 unfolding by_index
-by_index_moved f kind rest =
-    rw (behind_two_moved f k.Using k.Index rest, is_some_moved (map (renumber f)) (behind_two k.Using k.Index rest)) refl
+by_index_moved f kind rest = simp (moves, behind_two_moved)
+
+-- ---- where constraints of columns begin
+
+word_sees : (f : ℕ → ℕ) (w : Keyword) (after : List Terminal) → kind_of_word w (map (renumber f) after) ≡ kind_of_word w after
+word_sees f k.Not after = simp begins_sees
+word_sees f k.Primary after = simp begins_sees
+word_sees f _ after = refl
+
+symbol_sees : (f : ℕ → ℕ) (x : Symbol) (after : List Terminal) → kind_of_symbol x (map (renumber f) after) ≡ kind_of_symbol x after
+symbol_sees f (s.Keyword w) after = word_sees f w after
+symbol_sees f _ after = refl
+
+kind_led_sees : (f : ℕ → ℕ) (t : Terminal) (after : List Terminal) → kind_led (renumber f t) (map (renumber f) after) ≡ kind_led t after
+unfolding kind_led
+kind_led_sees f t after = symbol_sees f t.symbol after
+
+first_kind_sees : (f : ℕ → ℕ) (ts : List Terminal) → first_kind (map (renumber f) ts) ≡ first_kind ts
+unfolding first_kind
+first_kind_sees f [] = refl
+first_kind_sees f (t ∷ ts) = kind_led_sees f t ts
+
+follows_sees : (f : ℕ → ℕ) (w : Keyword) (earlier : Option Terminal) → follows w (option_map (renumber f) earlier) ≡ follows w earlier
+follows_sees f w None = refl
+follows_sees f w (Some t) = simp moves
+
+bound_sees : (f : ℕ → ℕ) (earlier : Option Terminal) (t : Terminal) → is_bound (option_map (renumber f) earlier) (renumber f t) ≡ is_bound earlier t
+unfolding is_bound
+bound_sees f earlier t = simp (moves, follows_sees)
+
+kind_behind_name_sees : (f : ℕ → ℕ) (ts : List Terminal) → kind_behind_name (map (renumber f) ts) ≡ kind_behind_name ts
+unfolding kind_behind_name
+kind_behind_name_sees f [] = refl
+kind_behind_name_sees f (t ∷ ts) = simp (first_kind_sees f ts, moves)
+
+pub start_is_blind : IsBlind constraint_start
+unfolding constraint_start
+start_is_blind f earlier t after = simp (kind_behind_name_sees, kind_led_sees, bound_sees, moves)
+
+head_is_blind : IsBlindHead constraint_head
+unfolding constraint_head
+head_is_blind f t after = simp (kind_behind_name_sees, kind_led_sees, moves)
+
+-- ---- expressions
+
+default_value_moved : (f : ℕ → ℕ) (rest : List Terminal) → default_value (map (renumber f) rest) ≡ map (renumber f) (default_value rest)
+unfolding default_value
+default_value_moved f rest = simp (before_behind_sees value_end value_end_is_blind f 1 None 0 0 rest, moves)
+
+value_in_moved : (f : ℕ → ℕ) (kind : ConKind) (rest : List Terminal) → value_in kind (map (renumber f) rest) ≡ map (renumber f) (value_in kind rest)
+unfolding value_in
+value_in_moved f con.Check rest = inside_list_moved f rest
+value_in_moved f con.Default rest = default_value_moved f rest
+value_in_moved f kind rest = refl
+
+value_of_moved : (f : ℕ → ℕ) (value : List Terminal) → value_of (map (renumber f) value) ≡ option_map (expr_moved f) (value_of value)
+value_of_moved f [] = refl
+value_of_moved f (t ∷ ts) = ap Some (expression_renumbers f (t ∷ ts))
+
+value_span_moved : (f : ℕ → ℕ) (value : List Terminal) → value_span (map (renumber f) value) ≡ option_map (span_moved f) (value_span value)
+value_span_moved f [] = refl
+value_span_moved f (t ∷ ts) = let e = ends f t ts in simp (length-map, e.last)
 
 -- ---- constraints
 
-in_moved : (f : ℕ → ℕ) (t : Terminal) (ts : List Terminal) (name : Option ℕ) (found : ConKind × List Terminal) →
-    constraint_in (map (renumber f) (t ∷ ts)) (option_map f name) (kind_moved f found)
-    ≡ constraint_moved f (constraint_in (t ∷ ts) name found)
-in_moved f t ts name found =
-    let last = last_moved f t ts in
-    let unproved = has_moved not_valid not_valid_is_blind f (t ∷ ts) in
-    let indexed = by_index_moved f found.0 found.1 in cc
+constraint_in_moved : (f : ℕ → ℕ) (ts : List Terminal) → HasEnds f ts → (name : Option ℕ) (found : ConKind × List Terminal) →
+    constraint_in (map (renumber f) ts) (option_map f name) (kind_moved f found) ≡ constraint_moved f (constraint_in ts name found)
+unfolding constraint_in
+constraint_in_moved f ts e name found =
+    rw (
+      value_in_moved f found.0 found.1,
+      value_of_moved f (value_in found.0 found.1),
+      value_span_moved f (value_in found.0 found.1),
+      by_index_moved f found.0 found.1,
+    )
+    (simp (before_renumbers not_valid not_valid_is_blind, length-map, e.first, e.last))
 
-behind_moved : (f : ℕ → ℕ) (t : Terminal) (ts : List Terminal) (called : Option ℕ × List Terminal) →
-    constraint_behind (map (renumber f) (t ∷ ts)) (name_moved f called)
-    ≡ option_map (constraint_moved f) (constraint_behind (t ∷ ts) called)
-behind_moved f t ts called =
+constraint_behind_moved : (f : ℕ → ℕ) (ts : List Terminal) → HasEnds f ts → (called : Option ℕ × List Terminal) →
+    constraint_behind (map (renumber f) ts) (name_moved f called) ≡ option_map (constraint_moved f) (constraint_behind ts called)
+constraint_behind_moved f ts e called =
     rw (constraint_kind_moved f called.1)
-    (bind_moved (kind_moved f) (constraint_moved f)
-    (λ found. Some (constraint_in (t ∷ ts) called.0 found))
-    (λ found. Some (constraint_in (map (renumber f) (t ∷ ts)) (option_map f called.0) found))
-    (λ found. ap Some (in_moved f t ts called.0 found)) (constraint_kind called.1))
+    (bind_moved _ _ _ _ (λ found. ap Some (constraint_in_moved f ts e called.0 found)) (constraint_kind called.1))
 
-nothing_read : table_constraint [] ≡ None
-unfolding table_constraint constraint_name constraint_kind two_word_kind behind_two behind_exclude
-nothing_read = refl
+no_constraint : table_constraint [] ≡ None
+unfolding table_constraint constraint_name constraint_kind behind_exclude two_word_kind behind_two
+no_constraint = refl
 
-some_renumbers : (f : ℕ → ℕ) (t : Terminal) (ts : List Terminal) →
-    table_constraint (map (renumber f) (t ∷ ts)) ≡ option_map (constraint_moved f) (table_constraint (t ∷ ts))
+some_constraint : (f : ℕ → ℕ) (ts : List Terminal) → HasEnds f ts →
+    table_constraint (map (renumber f) ts) ≡ option_map (constraint_moved f) (table_constraint ts)
 unfolding table_constraint
-some_renumbers f t ts =
-    rw (constraint_name_moved f (t ∷ ts))
-    (bind_moved (name_moved f) (constraint_moved f)
-    (constraint_behind (t ∷ ts)) (constraint_behind (map (renumber f) (t ∷ ts)))
-    (behind_moved f t ts) (constraint_name (t ∷ ts)))
+some_constraint f ts e =
+    rw (constraint_name_moved f ts) (bind_moved _ _ _ _ (constraint_behind_moved f ts e) (constraint_name ts))
 
 pub constraint_renumbers : ConstraintRenumbers
-constraint_renumbers f [] = rw nothing_read refl
-constraint_renumbers f (t ∷ ts) = some_renumbers f t ts
+constraint_renumbers f [] = rw no_constraint refl
+constraint_renumbers f (t ∷ ts) = some_constraint f (t ∷ ts) (ends f t ts)
 
--- ---- actions
+-- ---- of columns
 
-adding_moved : (f : ℕ → ℕ) (t : Terminal) (ts : List Terminal) (constraint : Constraint) →
-    adding (map (renumber f) (t ∷ ts)) (constraint_moved f constraint) ≡ action_moved f (adding (t ∷ ts) constraint)
-adding_moved f t ts constraint = let last = last_moved f t ts in cc
+behind_kind_moved : (f : ℕ → ℕ) (kind : ConKind) (ts : List Terminal) → behind_kind kind (map (renumber f) ts) ≡ map (renumber f) (behind_kind kind ts)
+behind_kind_moved f con.NotNull ts = simp moves
+behind_kind_moved f con.PrimaryKey ts = simp moves
+behind_kind_moved f _ ts = refl
 
-adding_behind_moved : (f : ℕ → ℕ) (t : Terminal) (ts rest : List Terminal) →
-    adding_behind (map (renumber f) (t ∷ ts)) (map (renumber f) rest) ≡ option_map (action_moved f) (adding_behind (t ∷ ts) rest)
-adding_behind_moved f t ts rest =
-    rw (constraint_renumbers f rest)
-    (bind_moved (constraint_moved f) (action_moved f)
-    (λ constraint. Some (adding (t ∷ ts) constraint)) (λ constraint. Some (adding (map (renumber f) (t ∷ ts)) constraint))
-    (λ constraint. ap Some (adding_moved f t ts constraint)) (table_constraint rest))
+with_rest_moved : (f : ℕ → ℕ) (ts : List Terminal) (r : Option ConKind) →
+    option_and_then (λ kind. Some (kind, behind_kind kind (map (renumber f) ts))) r
+    ≡ option_map (kind_moved f) (option_and_then (λ kind. Some (kind, behind_kind kind ts)) r)
+with_rest_moved f ts None = refl
+with_rest_moved f ts (Some kind) = ap (λ rest. Some (kind, rest)) (behind_kind_moved f kind ts)
 
-pub action_renumbers : ActionRenumbers
-unfolding add_constraint
-action_renumbers f [] = refl
-action_renumbers f (t ∷ ts) =
-    rw (behind_word_moved f k.Add (t ∷ ts))
-    (bind_moved (map (renumber f)) (action_moved f)
-    (adding_behind (t ∷ ts)) (adding_behind (map (renumber f) (t ∷ ts)))
-    (adding_behind_moved f t ts) (behind_word k.Add (t ∷ ts)))
+column_kind_moved : (f : ℕ → ℕ) (ts : List Terminal) → column_kind (map (renumber f) ts) ≡ option_map (kind_moved f) (column_kind ts)
+unfolding column_kind
+column_kind_moved f [] = refl
+column_kind_moved f (t ∷ ts) = rw (kind_led_sees f t ts) (with_rest_moved f ts (kind_led t ts))
 
-others_moved : (f : ℕ → ℕ) (action : Option Action) (others : Option (List Action)) →
-    and_others (option_map (action_moved f) action) (option_map (map (action_moved f)) others)
-    ≡ option_map (map (action_moved f)) (and_others action others)
-others_moved f None others = refl
-others_moved f (Some action) None = refl
-others_moved f (Some action) (Some others) = refl
+column_constraint_in_moved : (f : ℕ → ℕ) (ts : List Terminal) → HasEnds f ts → (name : Option ℕ) (found : ConKind × List Terminal) →
+    column_constraint_in (map (renumber f) ts) (option_map f name) (kind_moved f found)
+    ≡ option_map (constraint_moved f) (column_constraint_in ts name found)
+column_constraint_in_moved f ts e name found = rw (constraint_in_moved f ts e name found) (simp (is_empty_moved, moves))
 
-all_moved : (f : ℕ → ℕ) (parts : List (List Terminal)) →
-    all_of add_constraint (map (map (renumber f)) parts) ≡ option_map (map (action_moved f)) (all_of add_constraint parts)
-all_moved f [] = refl
-all_moved f (p ∷ ps) = rw (action_renumbers f p, all_moved f ps) (others_moved f (add_constraint p) (all_of add_constraint ps))
+column_constraint_behind_moved : (f : ℕ → ℕ) (ts : List Terminal) → HasEnds f ts → (called : Option ℕ × List Terminal) →
+    column_constraint_behind (map (renumber f) ts) (name_moved f called) ≡ option_map (constraint_moved f) (column_constraint_behind ts called)
+column_constraint_behind_moved f ts e called =
+    rw (column_kind_moved f called.1) (bind_moved _ _ _ _ (column_constraint_in_moved f ts e called.0) (column_kind called.1))
 
-pub actions_renumber : ActionsRenumber
-unfolding add_constraints
-actions_renumber f tail = rw (split_renumbers comma comma_is_blind f tail) (all_moved f (split comma tail))
+no_column_constraint : column_constraint [] ≡ None
+unfolding column_constraint constraint_name column_kind
+no_column_constraint = refl
+
+some_column_constraint : (f : ℕ → ℕ) (ts : List Terminal) → HasEnds f ts →
+    column_constraint (map (renumber f) ts) ≡ option_map (constraint_moved f) (column_constraint ts)
+unfolding column_constraint
+some_column_constraint f ts e =
+    rw (constraint_name_moved f ts) (bind_moved _ _ _ _ (column_constraint_behind_moved f ts e) (constraint_name ts))
+
+column_constraint_moved : (f : ℕ → ℕ) (ts : List Terminal) →
+    column_constraint (map (renumber f) ts) ≡ option_map (constraint_moved f) (column_constraint ts)
+column_constraint_moved f [] = rw no_column_constraint refl
+column_constraint_moved f (t ∷ ts) = some_column_constraint f (t ∷ ts) (ends f t ts)
+
+pub column_constraints_moved : (f : ℕ → ℕ) (earlier : Option Terminal) (ts : List Terminal) →
+    column_constraints (option_map (renumber f) earlier) (map (renumber f) ts)
+    ≡ option_map (map (constraint_moved f)) (column_constraints earlier ts)
+unfolding column_constraints
+column_constraints_moved f earlier ts =
+    rw (pieces_moved constraint_start start_is_blind constraint_head head_is_blind f earlier ts)
+    (all_moved _ _ _ _ (column_constraint_moved f) (pieces constraint_start constraint_head earlier ts))

@@ -2,10 +2,9 @@
 use Rattle.std.proofs.Common.{◌≡◌, ℕ, ◌==◌, Bool, true, false, not, ◌&&◌, ◌||◌, cond, List, [], ◌∷◌, length, map, refl, ap, Option, Some, None}
 use Rattle.std.specs.Option.{option_map, option_and_then}
 use Rattle.std.proofs.lemmas.List.{length-map}
-use Rattle.sql_keyword.specs.declared.words.Keyword.{Keyword}
 use Rattle.sql_keyword.specs.declared.words.Keyword.TheVariants as k
 use Rattle.sql_token.specs.declared.terminal.Terminal.{Terminal}
-use Rattle.sql_token.specs.Terminal.{is_keyword, is_name, is_dot}
+use Rattle.sql_token.specs.Terminal.{is_keyword, is_name}
 use Rattle.sql_tree.specs.declared.kinds.StmtKind.{StmtKind}
 use Rattle.sql_tree.specs.declared.forms.Mark.{Mark}
 use Rattle.sql_tree.specs.declared.forms.Mark.TheVariants as m
@@ -14,19 +13,25 @@ use Rattle.sql_tree.specs.declared.forms.Phrase.TheVariants as phrase
 use Rattle.sql_tree.specs.declared.forms.Part.{Part}
 use Rattle.sql_tree.specs.declared.forms.Part.TheVariants as p
 use Rattle.sql_tree.specs.declared.forms.Captures.{Captures}
-use Rattle.sql_tree.specs.Split.{from_mark, into}
-use Rattle.sql_tree.specs.Forms.{State, at, one, nothing_kept, word_kept, name_kept, concurrently_kept, tell, or_here, words_of, behind_word, behind_words, take_phrase, either_of, names_end, take_path, is_temp, is_other_mod, take_mods, index_name, guard, take_index_name, take_chain, is_star_symbol, take_into, take_part, in_turn, all_taken, Row, finished, led_or, fresh, first_led}
-use Rattle.sql_law.specs.Renumber.{renumber, captures_moved, state_moved, front_moved, PartRenumbers, PartsRenumber, FrontRenumbers}
-use Rattle.sql_law.proofs.Basics.{bind_moved, cond_under, keyword_sees, name_sees, dot_sees, behind_word_moved}
-use Rattle.sql_law.proofs.Marks.{into_is_blind, from_mark_moved}
+use Rattle.sql_tree.specs.declared.forms.WordClass.{WordClass}
+use Rattle.sql_tree.specs.Words.{is_of_class}
+use Rattle.sql_tree.specs.Split.{from_mark, into, privileges, behind_list}
+use Rattle.sql_tree.specs.Forms.{State, at, one, nothing_kept, word_kept, name_kept, concurrently_kept, tell, or_here, take_phrase, either_of, take_path, is_temp, is_other_mod, take_mods, index_name, guard, take_index_name, take_chain, is_star_symbol, take_into, is_str_symbol, take_list, some_left, opened, take_part, in_turn, all_taken, Row, finished, led_or, fresh, first_led, first_whole}
+use Rattle.sql_law.specs.Renumber.{renumber, captures_moved, state_moved, front_moved, PartRenumbers, PartsRenumber, FrontRenumbers, WholeRenumbers}
+use Rattle.sql_law.proofs.Basics.{moves, bind_moved, cond_under, either_moved, keyword_sees, name_sees, behind_words_moved}
+use Rattle.sql_law.proofs.Groups.{names_end_moved}
+use Rattle.sql_law.proofs.Marks.{into_is_blind, privileges_is_blind, from_mark_moved, behind_list_moved}
 
 -- ---- one terminal
 
-tell_moved : (f : ℕ → ℕ) (mark : Mark) (c : Captures) → tell mark (captures_moved f c) ≡ captures_moved f (tell mark c)
+pub tell_moved : (f : ℕ → ℕ) (mark : Mark) (c : Captures) → tell mark (captures_moved f c) ≡ captures_moved f (tell mark c)
 tell_moved f m.Nothing c = refl
 tell_moved f m.Unique c = refl
 tell_moved f m.Guarded c = refl
 tell_moved f m.Chain c = refl
+tell_moved f m.Replace c = refl
+tell_moved f m.NotPlain c = refl
+tell_moved f m.Placed c = refl
 
 one_moved : (f : ℕ → ℕ) (test : Terminal → Bool) (keep : Terminal → Captures → Captures) →
     ((t : Terminal) → test (renumber f t) ≡ test t) →
@@ -53,37 +58,21 @@ maybe_moved f test keep sees keeps c ts = rw (one_moved f test keep sees keeps c
 
 -- ---- phrases
 
-behind_words_moved : (f : ℕ → ℕ) (ws : List Keyword) (ts : List Terminal) →
-    behind_words ws (map (renumber f) ts) ≡ option_map (map (renumber f)) (behind_words ws ts)
-behind_words_moved f [] ts = refl
-behind_words_moved f (w ∷ ws) ts =
-    rw (behind_word_moved f w ts)
-    (bind_moved (map (renumber f)) (map (renumber f)) (behind_words ws) (behind_words ws) (behind_words_moved f ws) (behind_word w ts))
-
 phrase_moved : (f : ℕ → ℕ) (x : Phrase) (mark : Mark) (c : Captures) (ts : List Terminal) →
     take_phrase x mark (captures_moved f c) (map (renumber f) ts) ≡ option_map (state_moved f) (take_phrase x mark c ts)
-phrase_moved f x mark c ts =
-    rw (behind_words_moved f (words_of x) ts)
-    (bind_moved (map (renumber f)) (state_moved f)
-    (λ rest. Some (at (tell mark c) rest)) (λ rest. Some (at (tell mark (captures_moved f c)) rest))
-    (λ rest. ap (λ d. Some (at d (map (renumber f) rest))) (tell_moved f mark c)) (behind_words (words_of x) ts))
+phrase_moved f x mark c ts = simp (behind_words_moved, tell_moved, moves)
 
 maybe_phrase_moved : (f : ℕ → ℕ) (x : Phrase) (mark : Mark) (c : Captures) (ts : List Terminal) →
     or_here (take_phrase x mark (captures_moved f c) (map (renumber f) ts)) (captures_moved f c) (map (renumber f) ts)
     ≡ state_moved f (or_here (take_phrase x mark c ts) c ts)
 maybe_phrase_moved f x mark c ts = rw (phrase_moved f x mark c ts) (or_here_moved f (take_phrase x mark c ts) c ts)
 
-either_moved : (f : ℕ → ℕ) (r s : Option State) →
-    either_of (option_map (state_moved f) r) (option_map (state_moved f) s) ≡ option_map (state_moved f) (either_of r s)
-either_moved f (Some r) s = refl
-either_moved f None s = refl
-
 chain_moved : (f : ℕ → ℕ) (c : Captures) (ts : List Terminal) →
     take_chain (captures_moved f c) (map (renumber f) ts) ≡ state_moved f (take_chain c ts)
 chain_moved f c ts =
     let some = take_phrase phrase.AndChain m.Chain c ts in
     let none = take_phrase phrase.AndNoChain m.Nothing c ts in
-    rw (phrase_moved f phrase.AndChain m.Chain c ts, phrase_moved f phrase.AndNoChain m.Nothing c ts, either_moved f some none)
+    rw (phrase_moved f phrase.AndChain m.Chain c ts, phrase_moved f phrase.AndNoChain m.Nothing c ts, either_moved (state_moved f) some none)
     (or_here_moved f (either_of some none) c ts)
 
 -- ---- names
@@ -91,8 +80,7 @@ chain_moved f c ts =
 index_name_moved : (f : ℕ → ℕ) (c : Captures) (ts : List Terminal) →
     index_name (captures_moved f c) (map (renumber f) ts) ≡ option_map (state_moved f) (index_name c ts)
 index_name_moved f c ts =
-    one_moved f (λ t. is_name t && not (is_keyword k.On t)) name_kept
-    (λ t. rw (name_sees f t, keyword_sees f k.On t) refl) (λ t c. refl) c ts
+    one_moved f (λ t. is_name t && not (is_keyword k.On t)) name_kept (λ t. simp moves) (λ t c. refl) c ts
 
 index_name_from : (f : ℕ → ℕ) (g h : State) (c : Captures) (ts : List Terminal) → h ≡ state_moved f g →
     or_here (index_name h.kept h.left) (captures_moved f c) (map (renumber f) ts)
@@ -106,24 +94,10 @@ take_index_name_moved f c ts =
     index_name_from f (guard c ts) (guard (captures_moved f c) (map (renumber f) ts)) c ts
     (maybe_phrase_moved f phrase.IfNotExists m.Guarded c ts)
 
-abbrev end_moved : (ℕ → ℕ) → ℕ × List Terminal → ℕ × List Terminal
-end_moved f e = (f e.0, map (renumber f) e.1)
-
-names_end_moved : (f : ℕ → ℕ) (n : ℕ) (ts : List Terminal) →
-    names_end (f n) (map (renumber f) ts) ≡ end_moved f (names_end n ts)
-names_end_moved f n [] = refl
-names_end_moved f n (d ∷ []) = refl
-names_end_moved f n (d ∷ t ∷ ts) =
-    rw (dot_sees f d, name_sees f t, names_end_moved f t.number ts)
-    (cond_under (end_moved f) (is_dot d && is_name t) (names_end t.number ts) (n, d ∷ t ∷ ts))
-
 path_moved : (f : ℕ → ℕ) (c : Captures) (ts : List Terminal) →
     take_path (captures_moved f c) (map (renumber f) ts) ≡ option_map (state_moved f) (take_path c ts)
 path_moved f c [] = refl
-path_moved f c (t ∷ ts) =
-    rw (name_sees f t, names_end_moved f t.number ts)
-    (cond_under (option_map (state_moved f)) (is_name t)
-    (Some (at (record c { path = Some (record { first = t.number; last = (names_end t.number ts).0 }) }) (names_end t.number ts).1)) None)
+path_moved f c (t ∷ ts) = simp (names_end_moved f t.number ts, moves)
 
 -- ---- modifiers
 
@@ -134,10 +108,10 @@ three_ways f false true x y z = refl
 three_ways f false false x y z = refl
 
 temp_sees : (f : ℕ → ℕ) (t : Terminal) → is_temp (renumber f t) ≡ is_temp t
-temp_sees f t = rw (keyword_sees f k.Temp t, keyword_sees f k.Temporary t) refl
+temp_sees f t = simp moves
 
 other_mod_sees : (f : ℕ → ℕ) (t : Terminal) → is_other_mod (renumber f t) ≡ is_other_mod t
-other_mod_sees f t = rw (keyword_sees f k.Global t, keyword_sees f k.Local t, keyword_sees f k.Unlogged t) refl
+other_mod_sees f t = simp moves
 
 mods_moved : (f : ℕ → ℕ) (c : Captures) (ts : List Terminal) →
     take_mods (captures_moved f c) (map (renumber f) ts) ≡ state_moved f (take_mods c ts)
@@ -154,10 +128,28 @@ into_moved f c ts =
     rw (from_mark_moved into into_is_blind f ts)
     (one_moved f (is_keyword k.Into) nothing_kept (keyword_sees f k.Into) (λ t c. refl) c (from_mark into ts))
 
+pub class_sees : (f : ℕ → ℕ) (class : WordClass) (t : Terminal) → is_of_class class (renumber f t) ≡ is_of_class class t
+unfolding is_of_class
+class_sees f class t = refl
+
+list_moved : (f : ℕ → ℕ) (c : Captures) (ts : List Terminal) →
+    take_list (captures_moved f c) (map (renumber f) ts) ≡ option_map (state_moved f) (take_list c ts)
+list_moved f c ts =
+    rw (behind_list_moved f ts)
+    (bind_moved (map (renumber f)) (state_moved f)
+    (λ rest. Some (at c rest)) (λ rest. Some (at (captures_moved f c) rest)) (λ rest. refl) (behind_list ts))
+
+some_left_moved : (f : ℕ → ℕ) (c : Captures) (ts : List Terminal) →
+    some_left (captures_moved f c) (map (renumber f) ts) ≡ option_map (state_moved f) (some_left c ts)
+some_left_moved f c [] = refl
+some_left_moved f c (t ∷ ts) = refl
+
 pub part_renumbers : PartRenumbers
 unfolding take_part
 part_renumbers f (p.Word w) c ts = one_moved f (is_keyword w) nothing_kept (keyword_sees f w) (λ t c. refl) c ts
 part_renumbers f (p.Object w) c ts = one_moved f (is_keyword w) word_kept (keyword_sees f w) (λ t c. refl) c ts
+part_renumbers f (p.MaybeObject w) c ts = ap Some (maybe_moved f (is_keyword w) word_kept (keyword_sees f w) (λ t c. refl) c ts)
+part_renumbers f (p.Tell mark) c ts = ap (λ d. Some (at d (map (renumber f) ts))) (tell_moved f mark c)
 part_renumbers f (p.Flag w mark) c ts =
     ap Some (maybe_moved f (is_keyword w) (λ t c. tell mark c) (keyword_sees f w) (λ t c. tell_moved f mark c) c ts)
 part_renumbers f (p.Either v w) c ts =
@@ -169,11 +161,20 @@ part_renumbers f p.Concurrently c ts =
     ap Some (maybe_moved f (is_keyword k.Concurrently) concurrently_kept (keyword_sees f k.Concurrently) (λ t c. refl) c ts)
 part_renumbers f p.IndexName c ts = ap Some (take_index_name_moved f c ts)
 part_renumbers f p.Mods c ts = ap Some (mods_moved f c ts)
+part_renumbers f p.Name c ts = one_moved f is_name name_kept (name_sees f) (λ t c. refl) c ts
 part_renumbers f p.Path c ts = path_moved f c ts
+part_renumbers f p.Str c ts = one_moved f (λ t. is_str_symbol t.symbol) name_kept (λ t. refl) (λ t c. refl) c ts
+part_renumbers f (p.AnyOf class) c ts = one_moved f (is_of_class class) nothing_kept (class_sees f class) (λ t c. refl) c ts
+part_renumbers f p.AnyName c ts = one_moved f is_name nothing_kept (name_sees f) (λ t c. refl) c ts
+part_renumbers f p.List c ts = list_moved f c ts
+part_renumbers f p.MaybeList c ts = ap Some (rw (list_moved f c ts) (or_here_moved f (take_list c ts) c ts))
 part_renumbers f p.Star c ts =
     ap Some (maybe_moved f (λ t. is_star_symbol t.symbol) nothing_kept (λ t. refl) (λ t c. refl) c ts)
 part_renumbers f p.Into c ts = into_moved f c ts
+part_renumbers f p.Privileges c ts =
+    rw (from_mark_moved privileges privileges_is_blind f ts) (some_left_moved f c (from_mark privileges ts))
 part_renumbers f p.Rest c ts = refl
+part_renumbers f p.Tail c ts = some_left_moved f (opened c) ts
 
 pub parts_renumber : PartsRenumber
 parts_renumber f [] c ts = refl
@@ -189,7 +190,7 @@ all_taken_moved f s =
     rw (length-map s.left (renumber f))
     (cond_under (option_map (state_moved f)) (s.kept.open_ended || length s.left == 0) (Some s) None)
 
-finished_moved : (f : ℕ → ℕ) (kind : StmtKind) (parts : List Part) (s : State) →
+finished_moved : {K : Type 0} (f : ℕ → ℕ) (kind : K) (parts : List Part) (s : State) →
     finished kind parts (state_moved f s) ≡ option_map (front_moved f) (finished kind parts s)
 finished_moved f kind parts s =
     rw (parts_renumber f parts s.kept s.left)
@@ -208,3 +209,9 @@ pub front_renumbers : FrontRenumbers
 front_renumbers f [] ts = refl
 front_renumbers f (r ∷ rs) ts =
     rw (parts_renumber f r.1 fresh ts, front_renumbers f rs ts) (led_or_moved f (in_turn r.1 fresh ts) r (first_led rs ts))
+
+pub whole_renumbers : {K : Type 0} → WholeRenumbers K
+whole_renumbers f [] ts = refl
+whole_renumbers f (r ∷ rs) ts =
+    rw (finished_moved f r.0 r.1 (at fresh ts), whole_renumbers f rs ts)
+    (either_moved (front_moved f) (finished r.0 r.1 (at fresh ts)) (first_whole rs ts))

@@ -1,6 +1,15 @@
 pub mod Basics
 pub mod Marks
+pub mod Groups
+pub mod Expressions
+pub mod Types
+pub mod Pieces
 pub mod Constraints
+pub mod Columns
 pub mod Fronts
+pub mod ActionPieces
+pub mod Actions
+pub mod Writes
+pub mod Tails
 pub mod Soundness
 pub mod Statements

@@ -1,12 +1,12 @@
 -- Soundness sees no numbers.
-use Rattle.std.proofs.Common.{◌≡◌, ℕ, zero, suc, Bool, true, false, cond, List, [], ◌∷◌, map, refl, Option, Some, None}
+use Rattle.std.proofs.Common.{◌≡◌, ℕ, zero, suc, List, [], ◌∷◌, map, refl, Option, Some, None}
 use Rattle.std.specs.Option.{option_map}
-use Rattle.sql_keyword.specs.declared.words.Keyword.TheVariants as k
 use Rattle.sql_token.specs.declared.terminal.Terminal.{Terminal}
-use Rattle.sql_token.specs.Terminal.{is_opener, is_closer, is_round, is_unicode_name}
+use Rattle.sql_token.specs.Terminal.{is_round, is_unicode_name}
 use Rattle.sql_token.specs.Sound.{opened, closed, partner, matches, begins_atomic, may_stand, sound_from, is_sound}
-use Rattle.sql_law.specs.Renumber.{renumber, SoundRenumbers}
-use Rattle.sql_law.proofs.Basics.{keyword_sees, opener_sees, closer_sees}
+use Rattle.sql_law.specs.Renumber.{renumber}
+use Rattle.sql_law.specs.Trees.{SoundRenumbers}
+use Rattle.sql_law.proofs.Basics.{moves, opener_sees, closer_sees}
 
 round_sees : (f : ℕ → ℕ) (t : Terminal) → is_round (renumber f t) ≡ is_round t
 unfolding is_round
@@ -24,22 +24,11 @@ closed_sees : (f : ℕ → ℕ) (ts : List Terminal) → closed (map (renumber f
 closed_sees f [] = refl
 closed_sees f (t ∷ ts) = rw (closer_sees f t, closed_sees f ts) refl
 
-three_ways : (f : ℕ → ℕ) (a b : Bool) (x y z : Option Terminal) →
-    cond a (option_map (renumber f) x) (cond b (option_map (renumber f) y) (option_map (renumber f) z))
-    ≡ option_map (renumber f) (cond a x (cond b y z))
-three_ways f true b x y z = refl
-three_ways f false true x y z = refl
-three_ways f false false x y z = refl
-
 partner_moved : (f : ℕ → ℕ) (d : ℕ) (ts : List Terminal) → partner d (map (renumber f) ts) ≡ option_map (renumber f) (partner d ts)
 partner_moved f zero [] = refl
 partner_moved f (suc d) [] = refl
-partner_moved f zero (t ∷ ts) =
-    rw (opener_sees f t, closer_sees f t, partner_moved f 1 ts, partner_moved f zero ts)
-    (three_ways f (is_opener t) (is_closer t) (Some t) (partner 1 ts) (partner zero ts))
-partner_moved f (suc d) (t ∷ ts) =
-    rw (opener_sees f t, closer_sees f t, partner_moved f d ts, partner_moved f (suc (suc d)) ts, partner_moved f (suc d) ts)
-    (three_ways f (is_opener t) (is_closer t) (partner d ts) (partner (suc (suc d)) ts) (partner (suc d) ts))
+partner_moved f zero (t ∷ ts) = simp (partner_moved f 1 ts, partner_moved f zero ts, moves)
+partner_moved f (suc d) (t ∷ ts) = simp (partner_moved f d ts, partner_moved f (suc (suc d)) ts, partner_moved f (suc d) ts, moves)
 
 matches_sees : (f : ℕ → ℕ) (o : Option Terminal) (t : Terminal) → matches (option_map (renumber f) o) (renumber f t) ≡ matches o t
 matches_sees f None t = refl
@@ -48,7 +37,7 @@ matches_sees f (Some o) t = rw (round_sees f o, round_sees f t) refl
 atomic_sees : (f : ℕ → ℕ) (t : Terminal) (ts : List Terminal) → begins_atomic (renumber f t) (map (renumber f) ts) ≡ begins_atomic t ts
 unfolding begins_atomic
 atomic_sees f t [] = refl
-atomic_sees f t (u ∷ us) = rw (keyword_sees f k.Begin t, keyword_sees f k.Atomic u) refl
+atomic_sees f t (u ∷ us) = simp moves
 
 may_stand_sees : (f : ℕ → ℕ) (earlier : List Terminal) (t : Terminal) (ts : List Terminal) →
     may_stand (map (renumber f) earlier) (renumber f t) (map (renumber f) ts) ≡ may_stand earlier t ts

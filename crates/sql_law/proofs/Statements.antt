@@ -1,30 +1,37 @@
 -- Statements under other numbers.
-use Rattle.std.proofs.Common.{◌≡◌, ℕ, ◌+◌, ◌-◌, ◌<◌, false, List, [], ◌∷◌, length, map, take, get_or, refl, ap, arith, Option, Some, None}
-use Rattle.std.specs.Option.{option_map, option_and_then}
-use Rattle.std.proofs.lemmas.List.{get_or-map, length-map, take-map}
+use Rattle.std.proofs.Common.{◌≡◌, ℕ, ◌+◌, ◌-◌, List, [], ◌∷◌, length, map, take, refl, ap, Option, Some, None}
+use Rattle.std.specs.Option.{option_map, option_and_then, is_some}
+use Rattle.std.proofs.lemmas.List.{length-map, take-map}
 use Rattle.sql_keyword.specs.declared.words.Keyword.{Keyword}
 use Rattle.sql_keyword.specs.declared.words.Keyword.TheVariants as k
 use Rattle.sql_token.specs.declared.token.Span.{Span}
 use Rattle.sql_token.specs.declared.terminal.Symbol.{Symbol}
 use Rattle.sql_token.specs.declared.terminal.Symbol.TheVariants as symbol
 use Rattle.sql_token.specs.declared.terminal.Terminal.{Terminal}
-use Rattle.sql_token.specs.Terminal.{is_keyword, is_semicolon, is_semicolon_symbol, is_opener, is_closer}
-use Rattle.sql_token.specs.Depth.{one_if, has_keyword_from, has_keyword, nothing, span_of}
+use Rattle.sql_token.specs.Terminal.{is_semicolon, is_semicolon_symbol, is_opener, is_closer}
+use Rattle.sql_token.specs.Depth.{one_if, has_keyword_from, has_keyword, span_of}
 use Rattle.sql_token.specs.Sound.{is_sound}
 use Rattle.sql_tree.specs.declared.kinds.StmtKind.{StmtKind}
 use Rattle.sql_tree.specs.declared.kinds.StmtKind.TheVariants as stmt
 use Rattle.sql_tree.specs.declared.forms.Captures.{Captures}
 use Rattle.sql_tree.specs.declared.nodes.Body.{Body}
 use Rattle.sql_tree.specs.declared.nodes.Body.TheVariants as body
-use Rattle.sql_tree.specs.Forms.{State, rows_of}
-use Rattle.sql_tree.specs.Split.{from_mark, verb}
-use Rattle.sql_tree.specs.Action.{add_constraints}
-use Rattle.sql_tree.specs.Statement.{last_of, without_semicolon, kind_of, table_body, index_body, into_body, alter_body, body_of, told, front_by, from_verb, front_of, form_of, stmt_in, statement}
-use Rattle.sql_law.specs.Renumber.{renumber, span_moved, captures_moved, state_moved, front_moved, action_moved, body_moved, form_moved, stmt_moved, FormRenumbers, StatementRenumbers}
-use Rattle.sql_law.proofs.Basics.{bind_moved, cond_under, keyword_sees, opener_sees, closer_sees, last_moved}
+use Rattle.sql_tree.specs.declared.forms.Shape.{Shape}
+use Rattle.sql_tree.specs.declared.forms.Shape.TheVariants as shape
+use Rattle.sql_tree.specs.Forms.{State, Row, family_first, create_rows, alter_rows, drop_rows, rows_of, one_word_kind, kind_or_row, led_by}
+use Rattle.sql_tree.specs.Split.{verb}
+use Rattle.sql_tree.specs.Tails.{paths_from}
+use Rattle.sql_tree.specs.Statement.{last_of, without_semicolon, kind_of, shape_of, table_body, index_body, into_body, drop_body, alter_body, domain_body, made_body, write_body, body_by, told, front_by, from_verb, form_from, form_of, stmt_in, statement}
+use Rattle.sql_law.specs.Moved.{span_moved, body_moved, form_moved, stmt_moved}
+use Rattle.sql_law.specs.Renumber.{renumber, captures_moved, state_moved, front_moved}
+use Rattle.sql_law.specs.Trees.{FormRenumbers, StatementRenumbers}
+use Rattle.sql_law.proofs.Basics.{moves, is_some_moved, bind_moved, cond_under, last_terminal, last_moved}
 use Rattle.sql_law.proofs.Marks.{verb_is_blind, from_mark_moved}
-use Rattle.sql_law.proofs.Constraints.{actions_renumber}
+use Rattle.sql_law.proofs.Columns.{elements_renumber, drop_renumbers, domain_renumbers}
+use Rattle.sql_law.proofs.Actions.{actions_renumber}
+use Rattle.sql_law.proofs.Writes.{targets_renumber, view_renumbers, write_renumbers}
 use Rattle.sql_law.proofs.Fronts.{front_renumbers}
+use Rattle.sql_law.proofs.Tails.{paths_from_moved, reindex_moved, full_vacuum_sees, vacuum_tables_moved, last_cascade_moved, parameter_moved, lock_mode_sees}
 use Rattle.sql_law.proofs.Soundness.{sound_renumbers}
 
 -- ---- kinds
@@ -33,13 +40,7 @@ has_keyword_from_sees : (f : ℕ → ℕ) (w : Keyword) (o c : ℕ) (ts : List T
     has_keyword_from w o c (map (renumber f) ts) ≡ has_keyword_from w o c ts
 has_keyword_from_sees f w o c [] = refl
 has_keyword_from_sees f w o c (t ∷ ts) =
-    rw (
-      keyword_sees f w t,
-      opener_sees f t,
-      closer_sees f t,
-      has_keyword_from_sees f w (o + one_if (is_opener t)) (c + one_if (is_closer t)) ts,
-    )
-    refl
+    simp (has_keyword_from_sees f w (o + one_if (is_opener t)) (c + one_if (is_closer t)) ts, moves)
 
 has_keyword_sees : (f : ℕ → ℕ) (w : Keyword) (ts : List Terminal) → has_keyword w (map (renumber f) ts) ≡ has_keyword w ts
 unfolding has_keyword
@@ -52,97 +53,127 @@ kind_sees f kind s = refl
 
 -- ---- bodies
 
--- two values that a form keeps, and the body that is made of them
-both_moved : {A B : Type 0} (f : ℕ → ℕ) (g : A → A) (h : B → B) (make made : A → B → Body) →
-    ((a : A) (b : B) → made (g a) (h b) ≡ body_moved f (make a b)) → (x : Option A) (y : Option B) →
-    option_and_then (λ a. option_and_then (λ b. Some (made a b)) (option_map h y)) (option_map g x)
-    ≡ option_map (body_moved f) (option_and_then (λ a. option_and_then (λ b. Some (make a b)) y) x)
-both_moved f g h make made each None y = refl
-both_moved f g h make made each (Some a) None = refl
-both_moved f g h make made each (Some a) (Some b) = ap Some (each a b)
-
-table_body_moved : (f : ℕ → ℕ) (c : Captures) → table_body (captures_moved f c) ≡ option_map (body_moved f) (table_body c)
-table_body_moved f c =
-    let make : ℕ → Span → Body = λ word path. body.Table c.temp c.guarded false word path [] in
-    both_moved f f (span_moved f) make make (λ a b. refl) c.word c.path
+table_body_moved : (f : ℕ → ℕ) (s : State) → table_body (state_moved f s) ≡ option_map (body_moved f) (table_body s)
+table_body_moved f s = simp (elements_renumber, drop_renumbers, moves)
 
 index_body_moved : (f : ℕ → ℕ) (c : Captures) → index_body (captures_moved f c) ≡ option_map (body_moved f) (index_body c)
-index_body_moved f c =
-    let make : ℕ → Span → Body = λ word path. body.Index word c.unique c.concurrently c.guarded c.name path in
-    let made : ℕ → Span → Body =
-    λ word path. body.Index word c.unique (option_map f c.concurrently) c.guarded (option_map f c.name) path in
-    both_moved f f (span_moved f) make made (λ a b. refl) c.word c.path
+index_body_moved f c = simp moves
 
-into_body_moved : (f : ℕ → ℕ) (c : Captures) → into_body (captures_moved f c) ≡ option_map (body_moved f) (into_body c)
-into_body_moved f c =
-    bind_moved (span_moved f) (body_moved f) (λ path. Some (body.Into path [])) (λ path. Some (body.Into path [])) (λ path. refl) c.path
+into_body_moved : (f : ℕ → ℕ) (c : Captures) (query : List Terminal) →
+    into_body (captures_moved f c) (map (renumber f) query) ≡ option_map (body_moved f) (into_body c query)
+into_body_moved f c query = simp (targets_renumber, moves)
 
-alter_body_moved : (f : ℕ → ℕ) (s : State) → alter_body (state_moved f s) ≡ option_map (body_moved f) (alter_body s)
-alter_body_moved f s =
-    rw (actions_renumber f s.left)
-    (bind_moved (map (action_moved f)) (body_moved f)
-    (λ actions. Some (body.Alter s.kept.path actions))
-    (λ actions. Some (body.Alter (option_map (span_moved f) s.kept.path) actions))
-    (λ actions. refl) (add_constraints s.left))
+drop_body_moved : (f : ℕ → ℕ) (s : State) → drop_body (state_moved f s) ≡ option_map (body_moved f) (drop_body s)
+drop_body_moved f s = rw (is_some_moved f s.kept.concurrently) (dropped s.kept.word s.kept.path)
+  where
+    dropped : (word : Option ℕ) (path : Option Span) →
+        option_and_then (λ w. option_and_then (λ p.
+        Some (body.Drop w (is_some s.kept.concurrently) s.kept.guarded (paths_from p.first p.last (map (renumber f) s.left))))
+        (option_map (span_moved f) path)) (option_map f word)
+        ≡ option_map (body_moved f) (option_and_then (λ w. option_and_then (λ p.
+        Some (body.Drop w (is_some s.kept.concurrently) s.kept.guarded (paths_from p.first p.last s.left))) path) word)
+    dropped None path = refl
+    dropped (Some w) None = refl
+    dropped (Some w) (Some p) =
+        ap (λ paths. Some (body.Drop (f w) (is_some s.kept.concurrently) s.kept.guarded paths)) (paths_from_moved f p.first p.last s.left)
 
-body_of_moved : (f : ℕ → ℕ) (kind : StmtKind) (s : State) → body_of kind (state_moved f s) ≡ option_map (body_moved f) (body_of kind s)
-unfolding body_of
-body_of_moved f stmt.CreateTable s = table_body_moved f s.kept
-body_of_moved f stmt.CreateIndex s = index_body_moved f s.kept
-body_of_moved f stmt.SelectInto s = into_body_moved f s.kept
-body_of_moved f stmt.AlterTable s = alter_body_moved f s
-body_of_moved f kind s = refl
+alter_body_moved : (f : ℕ → ℕ) (kind : StmtKind) (s : State) →
+    alter_body kind (state_moved f s) ≡ option_map (body_moved f) (alter_body kind s)
+alter_body_moved f kind s = simp (actions_renumber, moves)
 
-told_moved : (f : ℕ → ℕ) (r : StmtKind × State) → told (front_moved f r) ≡ option_map (form_moved f) (told r)
+domain_body_moved : (f : ℕ → ℕ) (tail : List Terminal) → domain_body (map (renumber f) tail) ≡ option_map (body_moved f) (domain_body tail)
+domain_body_moved f tail = simp (domain_renumbers, moves)
+
+made_body_moved : (f : ℕ → ℕ) (c : Captures) → made_body (captures_moved f c) ≡ option_map (body_moved f) (made_body c)
+made_body_moved f c = simp moves
+
+write_body_moved : (f : ℕ → ℕ) (kind : StmtKind) (s : State) →
+    write_body kind (state_moved f s) ≡ option_map (body_moved f) (write_body kind s)
+write_body_moved f kind s = simp (write_renumbers, moves)
+
+body_by_moved : (f : ℕ → ℕ) (x : Shape) (kind : StmtKind) (s : State) (ts : List Terminal) →
+    body_by x kind (state_moved f s) (map (renumber f) ts) ≡ option_map (body_moved f) (body_by x kind s ts)
+unfolding body_by
+body_by_moved f shape.Kept kind s ts = refl
+body_by_moved f shape.End kind s ts = refl
+body_by_moved f shape.Table kind s ts = table_body_moved f s
+body_by_moved f shape.Into kind s ts = into_body_moved f s.kept ts
+body_by_moved f shape.Index kind s ts = index_body_moved f s.kept
+body_by_moved f shape.Drop kind s ts = drop_body_moved f s
+body_by_moved f shape.Reindex kind s ts = reindex_moved f s.left
+body_by_moved f shape.Alter kind s ts = alter_body_moved f kind s
+body_by_moved f shape.Domain kind s ts = domain_body_moved f s.left
+body_by_moved f shape.Made kind s ts = made_body_moved f s.kept
+body_by_moved f shape.View kind s ts = ap (λ v. Some (body.View v)) (view_renumbers f s.kept.replace s.left)
+body_by_moved f shape.Code kind s ts = refl
+body_by_moved f shape.Truncate kind s ts = ap (λ n. Some (body.Truncate n)) (last_cascade_moved f s.left)
+body_by_moved f shape.Setting kind s ts = ap (λ name. Some (body.Setting name)) (parameter_moved f s.left)
+body_by_moved f shape.Locking kind s ts = ap (λ mode. Some (body.Locking mode)) (lock_mode_sees f s.left)
+body_by_moved f shape.Refresh kind s ts = simp moves
+body_by_moved f shape.Vacuum kind s ts = rw (full_vacuum_sees f s.left, vacuum_tables_moved f s.left) refl
+body_by_moved f shape.Cluster kind s ts = refl
+body_by_moved f shape.Write kind s ts = write_body_moved f kind s
+
+told_moved : (f : ℕ → ℕ) (ts : List Terminal) (r : StmtKind × State) →
+    told (map (renumber f) ts) (front_moved f r) ≡ option_map (form_moved f) (told ts r)
 unfolding told
-told_moved f r =
-    rw (body_of_moved f r.0 r.1)
+told_moved f ts r =
+    rw (body_by_moved f (shape_of r.0) r.0 r.1 ts)
     (bind_moved (body_moved f) (form_moved f)
     (λ b. Some (kind_of r.0 r.1, b)) (λ b. Some (kind_of r.0 (state_moved f r.1), b))
-    (λ b. ap (λ kind. Some (kind, body_moved f b)) (kind_sees f r.0 r.1)) (body_of r.0 r.1))
+    (λ b. ap (λ kind. Some (kind, body_moved f b)) (kind_sees f r.0 r.1)) (body_by (shape_of r.0) r.0 r.1 ts))
 
--- ---- forms
+-- ---- the first word
+
+family_sees : (f : ℕ → ℕ) (ts : List Terminal) → family_first (map (renumber f) ts) ≡ family_first ts
+family_sees f [] = refl
+family_sees f (t ∷ ts) = refl
+
+rows_same : (f : ℕ → ℕ) (w : Keyword) (ts : List Terminal) → rows_of w (map (renumber f) ts) ≡ rows_of w ts
+unfolding rows_of
+rows_same f k.Create ts = ap create_rows (family_sees f ts)
+rows_same f k.Alter ts = ap alter_rows (family_sees f ts)
+rows_same f k.Drop ts = ap drop_rows (family_sees f ts)
+rows_same f w ts = refl
+
+kind_or_row_moved : (f : ℕ → ℕ) (r : Option StmtKind) (rows : List Row) (ts : List Terminal) →
+    kind_or_row r rows (map (renumber f) ts) ≡ option_map (front_moved f) (kind_or_row r rows ts)
+kind_or_row_moved f None rows ts = front_renumbers f rows ts
+kind_or_row_moved f (Some kind) rows ts = refl
+
+led_by_moved : (f : ℕ → ℕ) (w : Keyword) (ts : List Terminal) →
+    led_by w (map (renumber f) ts) ≡ option_map (front_moved f) (led_by w ts)
+unfolding led_by
+led_by_moved f w ts = rw (rows_same f w ts) (kind_or_row_moved f (one_word_kind w) (rows_of w ts) ts)
 
 front_by_moved : (f : ℕ → ℕ) (x : Symbol) (ts : List Terminal) →
     front_by x (map (renumber f) ts) ≡ option_map (front_moved f) (front_by x ts)
 unfolding front_by
-front_by_moved f (symbol.Keyword w) ts = front_renumbers f (rows_of w) ts
+front_by_moved f (symbol.Keyword w) ts = led_by_moved f w ts
 front_by_moved f _ ts = refl
-
-front_of_moved : (f : ℕ → ℕ) (ts : List Terminal) → front_of (map (renumber f) ts) ≡ option_map (front_moved f) (front_of ts)
-unfolding front_of
-front_of_moved f [] = refl
-front_of_moved f (t ∷ ts) = front_by_moved f t.symbol ts
 
 from_verb_moved : (f : ℕ → ℕ) (ts : List Terminal) → from_verb (map (renumber f) ts) ≡ map (renumber f) (from_verb ts)
 unfolding from_verb
 from_verb_moved f [] = refl
-from_verb_moved f (t ∷ ts) =
-    rw (keyword_sees f k.With t, from_mark_moved verb verb_is_blind f ts)
-    (cond_under (map (renumber f)) (is_keyword k.With t) (from_mark verb ts) (t ∷ ts))
+from_verb_moved f (t ∷ ts) = rw (from_mark_moved verb verb_is_blind f ts) (simp moves)
+
+form_from_moved : (f : ℕ → ℕ) (ts : List Terminal) → form_from (map (renumber f) ts) ≡ option_map (form_moved f) (form_from ts)
+unfolding form_from
+form_from_moved f [] = refl
+form_from_moved f (t ∷ ts) =
+    rw (front_by_moved f t.symbol ts) (bind_moved _ _ _ _ (told_moved f ts) (front_by t.symbol ts))
 
 pub form_renumbers : FormRenumbers
 unfolding form_of
 form_renumbers f [] = refl
-form_renumbers f (t ∷ ts) =
-    rw (from_verb_moved f (t ∷ ts), front_of_moved f (from_verb (t ∷ ts)))
-    (bind_moved (front_moved f) (form_moved f) told told (told_moved f) (front_of (from_verb (t ∷ ts))))
+form_renumbers f (t ∷ ts) = rw (from_verb_moved f (t ∷ ts)) (form_from_moved f (from_verb (t ∷ ts)))
 
 -- ---- statements
 
-semicolon_by : (f : ℕ → ℕ) (a b : Terminal) → a.symbol ≡ b.symbol → is_semicolon a ≡ is_semicolon b
-unfolding is_semicolon
-semicolon_by f a b e = ap is_semicolon_symbol e
-
 last_sees : (f : ℕ → ℕ) (t : Terminal) (ts : List Terminal) →
     is_semicolon (last_of (map (renumber f) (t ∷ ts))) ≡ is_semicolon (last_of (t ∷ ts))
-last_sees f t ts =
-    let same = at_symbol f (t ∷ ts) _ _ (omega (arith, length-map (t ∷ ts) (renumber f))) (omega arith) in
-    semicolon_by f (last_of (map (renumber f) (t ∷ ts))) (last_of (t ∷ ts)) same
-  where
-    at_symbol : (f : ℕ → ℕ) (ts : List Terminal) (i j : ℕ) → i ≡ j → j < length ts →
-        (get_or (map (renumber f) ts) i nothing).symbol ≡ (get_or ts j nothing).symbol
-    at_symbol f ts i j e h = rw (e, get_or-map (renumber f) ts j nothing nothing h) refl
+unfolding is_semicolon
+last_sees f t ts = ap (λ x. is_semicolon_symbol x.symbol) (last_terminal f t ts)
 
 without_semicolon_moved : (f : ℕ → ℕ) (t : Terminal) (ts : List Terminal) →
     without_semicolon (map (renumber f) (t ∷ ts)) ≡ map (renumber f) (without_semicolon (t ∷ ts))

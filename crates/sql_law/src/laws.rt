@@ -1,16 +1,56 @@
 //! Terminals with other numbers give the same reading, with its numbers changed alike.
 
+ghost use Rattle.sql_tree.specs.declared.kinds.ActionKind.{ActionKind};
+ghost use Rattle.sql_tree.specs.declared.kinds.PieceKind.{PieceKind};
 ghost use Rattle.sql_tree.specs.Split as marks;
-ghost use Rattle.sql_law.specs.Renumber.{IsBlind, BeforeRenumbers, SplitRenumbers, ConstraintRenumbers, ActionRenumbers, ActionsRenumber, PartRenumbers, PartsRenumber, FrontRenumbers, FormRenumbers, SoundRenumbers, StatementRenumbers};
+ghost use Rattle.sql_tree.specs.ColumnMarks as column_marks;
+ghost use Rattle.sql_tree.specs.ActionPieces as piece_marks;
+ghost use Rattle.sql_law.specs.Renumber.{IsBlind, WordIsBlind, BeforeRenumbers, SplitRenumbers, ClosingRenumbers, PartRenumbers, PartsRenumber, FrontRenumbers, WholeRenumbers};
+ghost use Rattle.sql_law.specs.Trees.{ExpressionRenumbers, TypeLenRenumbers, TypeRenumbers, ConstraintRenumbers, ColumnRenumbers, ElementsRenumber, DropRenumbers, DomainRenumbers, ActionRenumbers, PiecesRenumber, ActionsRenumber, TargetsRenumber, ViewRenumbers, WriteRenumbers, SoundRenumbers, FormRenumbers, StatementRenumbers};
 
-/// The marks are blind to numbers. Such a mark stands at the same place, and a list is split at the same places.
+/// The marks are blind to numbers. Such a mark stands at the same place, a list is split at the same places, and a bracket
+/// list is as long.
 pub fn marks_renumber()
     ensures comma { IsBlind marks.comma }
     ensures not_valid { IsBlind marks.not_valid }
     ensures into { IsBlind marks.into }
     ensures verb { IsBlind marks.verb }
+    ensures privileges { IsBlind marks.privileges }
+    ensures word { WordIsBlind }
+    ensures operator { IsBlind marks.operator }
+    ensures cast { IsBlind marks.cast }
+    ensures on_commit_drop { IsBlind marks.on_commit_drop }
     ensures before { BeforeRenumbers }
     ensures split { SplitRenumbers }
+    ensures closing { ClosingRenumbers }
+{}
+
+/// So are the marks by which columns, options and clauses are cut.
+pub fn piece_marks_renumber()
+    ensures type_end { IsBlind column_marks.type_end }
+    ensures value_end { IsBlind column_marks.value_end }
+    ensures constraint_start { IsBlind column_marks.constraint_start }
+    ensures sequence_option { IsBlind piece_marks.sequence_option }
+    ensures identity_option { IsBlind piece_marks.identity_option }
+    ensures policy_part { IsBlind piece_marks.policy_part }
+    ensures equals { IsBlind marks.equals }
+    ensures do_update_set { IsBlind marks.do_update_set }
+    ensures then_update_set { IsBlind marks.then_update_set }
+    ensures then_insert { IsBlind marks.then_insert }
+    ensures clause_end { IsBlind marks.clause_end }
+    ensures merge_clause_end { IsBlind marks.merge_clause_end }
+    ensures target_list_end { IsBlind marks.target_list_end }
+{}
+
+/// An expression stays the same.
+pub fn expression_renumbers()
+    ensures { ExpressionRenumbers }
+{}
+
+/// A column's type is as long, and stays the same.
+pub fn type_renumbers()
+    ensures length { TypeLenRenumbers }
+    ensures tree { TypeRenumbers }
 {}
 
 /// A table constraint stays one.
@@ -18,17 +58,37 @@ pub fn constraint_renumbers()
     ensures { ConstraintRenumbers }
 {}
 
-/// An action that adds a constraint stays one, and so does a list of them.
+/// A column stays the same, and so do the elements of a table, what is done with it at the end of a transaction, and the
+/// constraints of a domain.
+pub fn columns_renumber()
+    ensures column { ColumnRenumbers }
+    ensures elements { ElementsRenumber }
+    ensures drop { DropRenumbers }
+    ensures domain { DomainRenumbers }
+{}
+
+/// An action of an ALTER statement stays the same, and so do its pieces, and a list of actions.
 pub fn actions_renumber()
     ensures one { ActionRenumbers }
+    ensures pieces { PiecesRenumber }
     ensures all { ActionsRenumber }
 {}
 
-/// A part takes the same terminals, and parts one after another do. Of any table of rows the same row reads a statement.
+/// What a query gives, what a view is and what a statement writes stay the same.
+pub fn queries_renumber()
+    ensures targets { TargetsRenumber }
+    ensures view { ViewRenumbers }
+    ensures write { WriteRenumbers }
+{}
+
+/// A part takes the same terminals, and parts one after another do. Of any table of rows the same row reads a statement,
+/// an action or a piece of one.
 pub fn fronts_renumber()
     ensures part { PartRenumbers }
     ensures parts { PartsRenumber }
     ensures rows { FrontRenumbers }
+    ensures action_rows { WholeRenumbers ActionKind }
+    ensures piece_rows { WholeRenumbers PieceKind }
 {}
 
 /// A statement stays sound or not, has the same form, and is the same statement.

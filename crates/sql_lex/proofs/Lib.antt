@@ -1,5 +1,6 @@
 pub mod Answer
 pub mod Bits
+pub mod Insides
 pub mod SignLaws
 pub mod Stacks
 pub mod Tables

@@ -3,6 +3,7 @@ pub mod Brackets
 pub mod Cause
 pub mod Cursor
 pub mod First
+pub mod Inside
 pub mod Signs
 pub mod Stack
 pub mod View

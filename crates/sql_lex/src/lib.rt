@@ -6,6 +6,7 @@ mod class;
 mod comment;
 mod dollar;
 mod error;
+mod inside;
 mod lexer;
 mod op;
 mod quote;
@@ -16,6 +17,7 @@ mod statements;
 mod symbol;
 
 pub use error::LexError;
+pub use inside::terminals_in;
 pub use lexer::lex;
 pub use sound::is_sound;
 pub use spans::{cut, span_of};

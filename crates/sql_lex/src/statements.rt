@@ -61,7 +61,7 @@ impl<'a> Statements<'a> {
 }
 
 /// What the grammar sees of the token with this number.
-fn terminal_of(text: &[u8], tok: Tok, number: u32) -> Terminal
+pub(crate) fn terminal_of(text: &[u8], tok: Tok, number: u32) -> Terminal
     requires { (tok.start ≤ tok.end) × (tok.end ≤ length text.now) }
     ensures { result ≡ record { symbol = symbol_of tok.kind (text_of text.now tok); number = number } }
 {

@@ -1,3 +1,1 @@
 pub mod Views
-pub mod Marks
-pub mod PartsLeft

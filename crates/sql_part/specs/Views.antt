@@ -1,5 +1,5 @@
 -- What the reader's own values show: lists of terminals in place of slices.
-use Rattle.std.specs.Prelude.{ℕ, List}
+use Rattle.std.specs.Prelude.{List}
 use Rattle.sql_token.specs.declared.terminal.Terminal.{Terminal}
 use Rattle.sql_tree.specs.declared.forms.Captures.{Captures}
 use Rattle.sql_tree.specs.declared.kinds.StmtKind.{StmtKind}
@@ -14,5 +14,6 @@ behind c r = at c r.now
 abbrev pub front : Captures → StmtKind × Bor (List Terminal) → StmtKind × State
 front c f = (f.0, behind c f.1)
 
-abbrev pub beside : ℕ × Bor (List Terminal) → ℕ × List Terminal
-beside p = (p.0, p.1.now)
+-- the same beside the kind of an action or a piece
+abbrev pub action_front : {K : Type 0} → Captures → K × Bor (List Terminal) → K × State
+action_front c f = (f.0, behind c f.1)

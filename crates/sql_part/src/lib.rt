@@ -1,12 +1,9 @@
-//! Reads the parts of statements: the front of every form, by the rows of its table, and what stands at depth 0.
+//! Reads the front of every form, by the rows of its table.
 #![tactic(auto)]
 
-mod depth;
-mod parts;
 mod reader;
 mod rows;
+mod tables;
 
-pub use depth::has_keyword;
-pub use parts::{Mark, Parts, from_mark, has_mark, terminals_before};
-pub use reader::behind_word;
-pub use rows::{nothing_kept, read_front};
+pub use reader::{behind_word, behind_words};
+pub use rows::{nothing_kept, read_anything, read_front, read_whole};

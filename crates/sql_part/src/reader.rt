@@ -8,12 +8,15 @@ ghost use Rattle.std.specs.Option.{option_map, option_copied};
 ghost use Rattle.sql_keyword.specs.declared.words.Keyword.TheVariants as k;
 ghost use Rattle.sql_token.specs.Terminal.{is_keyword, is_name};
 ghost use Rattle.sql_tree.specs.declared.forms.Captures.{Captures};
-ghost use Rattle.sql_tree.specs.Forms.{at, one, nothing_kept, word_kept, concurrently_kept, is_temp, is_other_mod, names_end, take_path, take_mods, tell, take_index_name, take_chain, take_concurrently, take_star, take_into, take_rest, words_of, behind_word, behind_words, or_here, take_phrase, take_part};
-ghost use Rattle.sql_part.specs.Views.{behind, beside};
+ghost use Rattle.sql_tree.specs.Forms.{at, one, nothing_kept, word_kept, name_kept, concurrently_kept, is_temp, is_other_mod, take_path, take_mods, tell, take_index_name, take_chain, take_concurrently, take_star, take_into, take_rest, take_list, some_left, is_str_symbol, words_of, behind_word, behind_words, or_here, take_phrase, take_part};
+ghost use Rattle.sql_tree.specs.Split as spec;
+ghost use Rattle.sql_tree.specs.Split.{privileges};
+ghost use Rattle.sql_tree.specs.Words.{is_of_class};
+ghost use Rattle.sql_part.specs.Views.{behind};
 
-use crate::parts::{self, from_mark};
+use sql_mark::{behind_list, from_mark, is_of_class, path_first};
 use sql_token::{Keyword, Span, Symbol, Terminal};
-use sql_tree::forms::{Captures, Mark, Part, Phrase};
+use sql_tree::forms::{Captures, Mark, Part, Phrase, WordClass};
 
 fn tell(mark: Mark, kept: &mut Captures)
     ensures { kept.new ≡ tell mark kept.old }
@@ -23,6 +26,9 @@ fn tell(mark: Mark, kept: &mut Captures)
         Mark::Unique => kept.unique = true,
         Mark::Guarded => kept.guarded = true,
         Mark::Chain => kept.chain = true,
+        Mark::Replace => kept.replace = true,
+        Mark::NotPlain => kept.not_plain = true,
+        Mark::Placed => kept.placed = true,
     }
 }
 
@@ -33,6 +39,15 @@ pub fn behind_word<'a>(word: Keyword, left: &'a [Terminal]) -> Option<&'a [Termi
 {
     match left {
         [first, rest @ ..] if first.is_keyword(word) => Some(rest),
+        _ => None,
+    }
+}
+
+fn after_any_of<'a>(class: WordClass, left: &'a [Terminal]) -> Option<&'a [Terminal]>
+    ensures { (c : Captures) → option_map (behind c) result ≡ one (is_of_class class) nothing_kept c left.entry.now }
+{
+    match left {
+        [first, rest @ ..] if is_of_class(class, *first) => Some(rest),
         _ => None,
     }
 }
@@ -51,6 +66,29 @@ fn after_object<'a>(
         }
         _ => None,
     }
+}
+
+fn after_maybe_object<'a>(
+    word: Keyword,
+    kept: &mut Captures,
+    left: &'a [Terminal],
+) -> &'a [Terminal]
+    ensures { at kept.new result.now ≡ or_here (one (is_keyword word) word_kept kept.old left.entry.now) kept.old left.entry.now }
+{
+    match left {
+        [first, rest @ ..] if first.is_keyword(word) => {
+            kept.word = Some(first.number);
+            rest
+        }
+        _ => left,
+    }
+}
+
+fn after_tell<'a>(mark: Mark, kept: &mut Captures, left: &'a [Terminal]) -> &'a [Terminal]
+    ensures { at kept.new result.now ≡ at (tell mark kept.old) left.entry.now }
+{
+    tell(mark, kept);
+    left
 }
 
 fn after_flag<'a>(
@@ -88,17 +126,26 @@ fn words(phrase: Phrase) -> &'static [Keyword]
         Phrase::IfNotExists => &[Keyword::If, Keyword::Not, Keyword::Exists],
         Phrase::AndChain => &[Keyword::And, Keyword::Chain],
         Phrase::AndNoChain => &[Keyword::And, Keyword::No, Keyword::Chain],
+        Phrase::OrReplace => &[Keyword::Or, Keyword::Replace],
+        Phrase::SetData => &[Keyword::Set, Keyword::Data],
     }
+}
+
+/// What follows these words, where they stand first.
+pub fn behind_words<'a>(words: &[Keyword], left: &'a [Terminal]) -> Option<&'a [Terminal]>
+    ensures { option_copied result ≡ behind_words words.now left.entry.now }
+{
+    let mut here = left;
+    for word in words {
+        here = behind_word(*word, here)?;
+    }
+    Some(here)
 }
 
 fn after_phrase<'a>(phrase: Phrase, left: &'a [Terminal]) -> Option<&'a [Terminal]>
     ensures { option_copied result ≡ behind_words (words_of phrase) left.entry.now }
 {
-    let mut here = left;
-    for word in words(phrase) {
-        here = behind_word(*word, here)?;
-    }
-    Some(here)
+    behind_words(words(phrase), left)
 }
 
 fn after_maybe<'a>(
@@ -198,34 +245,60 @@ fn after_mods<'a>(kept: &mut Captures, left: &'a [Terminal]) -> &'a [Terminal]
     here
 }
 
-fn names_from<'a>(number: u32, left: &'a [Terminal]) -> (u32, &'a [Terminal])
-    ensures { beside result ≡ names_end number left.entry.now }
-{
-    let mut last = number;
-    let mut rest = left;
-    while let [dot, name, more @ ..] = rest {
-        if !dot.is_dot() || !name.is_name() {
-            break;
-        }
-        last = name.number;
-        rest = more;
-    }
-    (last, rest)
-}
-
+#[tactic(auto, unfolding(sql_tree::specs::Groups::path_first))]
 fn after_path<'a>(kept: &mut Captures, left: &'a [Terminal]) -> Option<&'a [Terminal]>
     ensures { option_map (behind kept.new) result ≡ take_path kept.old left.entry.now }
 {
+    let (path, end) = path_first(left)?;
+    kept.path = Some(path);
+    Some(end)
+}
+
+fn after_name<'a>(kept: &mut Captures, left: &'a [Terminal]) -> Option<&'a [Terminal]>
+    ensures { option_map (behind kept.new) result ≡ one is_name name_kept kept.old left.entry.now }
+{
     match left {
         [name, rest @ ..] if name.is_name() => {
-            let (last, end) = names_from(name.number, rest);
-            kept.path = Some(Span {
-                first: name.number,
-                last,
-            });
-            Some(end)
+            kept.name = Some(name.number);
+            Some(rest)
         }
         _ => None,
+    }
+}
+
+fn after_any_name<'a>(left: &'a [Terminal]) -> Option<&'a [Terminal]>
+    ensures { (c : Captures) → option_map (behind c) result ≡ one is_name nothing_kept c left.entry.now }
+{
+    match left {
+        [name, rest @ ..] if name.is_name() => Some(rest),
+        _ => None,
+    }
+}
+
+fn after_str<'a>(kept: &mut Captures, left: &'a [Terminal]) -> Option<&'a [Terminal]>
+    ensures { option_map (behind kept.new) result ≡ one (λ t. is_str_symbol t.symbol) name_kept kept.old left.entry.now }
+{
+    match left {
+        [first, rest @ ..] if matches!(first.symbol, Symbol::Str) => {
+            kept.name = Some(first.number);
+            Some(rest)
+        }
+        _ => None,
+    }
+}
+
+fn after_list<'a>(left: &'a [Terminal]) -> Option<&'a [Terminal]>
+    ensures { (c : Captures) → option_map (behind c) result ≡ take_list c left.entry.now }
+{
+    behind_list(left)
+}
+
+fn after_maybe_list<'a>(left: &'a [Terminal]) -> &'a [Terminal]
+    ensures { (c : Captures) → at c result.now ≡ or_here (take_list c left.entry.now) c left.entry.now }
+{
+    match behind_list(left) {
+        Some(rest) => rest,
+        None => left,
     }
 }
 
@@ -241,7 +314,23 @@ fn after_star<'a>(kept: &Captures, left: &'a [Terminal]) -> &'a [Terminal]
 fn after_into<'a>(left: &'a [Terminal]) -> Option<&'a [Terminal]>
     ensures { (c : Captures) → option_map (behind c) result ≡ take_into c left.entry.now }
 {
-    behind_word(Keyword::Into, from_mark(parts::Mark::Into, left))
+    behind_word(Keyword::Into, from_mark(sql_mark::Mark::Into, left))
+}
+
+/// What is left, where it is something.
+fn some_left<'a>(left: &'a [Terminal]) -> Option<&'a [Terminal]>
+    ensures { (c : Captures) → option_map (behind c) result ≡ some_left c left.entry.now }
+{
+    match left {
+        [] => None,
+        _ => Some(left),
+    }
+}
+
+fn from_privileges<'a>(left: &'a [Terminal]) -> Option<&'a [Terminal]>
+    ensures { (c : Captures) → option_map (behind c) result ≡ some_left c (spec.from_mark privileges left.entry.now) }
+{
+    some_left(from_mark(sql_mark::Mark::Privileges, left))
 }
 
 fn leave_open<'a>(kept: &mut Captures, left: &'a [Terminal]) -> &'a [Terminal]
@@ -263,7 +352,10 @@ pub(crate) fn take_part<'a>(
 {
     match part {
         Part::Word(word) => behind_word(word, left),
+        Part::AnyOf(class) => after_any_of(class, left),
         Part::Object(word) => after_object(word, kept, left),
+        Part::MaybeObject(word) => Some(after_maybe_object(word, kept, left)),
+        Part::Tell(mark) => Some(after_tell(mark, kept, left)),
         Part::Flag(word, mark) => Some(after_flag(word, mark, kept, left)),
         Part::Either(word, other) => Some(after_either(word, other, left)),
         Part::Maybe(phrase, mark) => Some(after_maybe(phrase, mark, kept, left)),
@@ -271,10 +363,17 @@ pub(crate) fn take_part<'a>(
         Part::Concurrently => Some(after_concurrently(kept, left)),
         Part::IndexName => Some(after_index_name(kept, left)),
         Part::Mods => Some(after_mods(kept, left)),
+        Part::Name => after_name(kept, left),
         Part::Path => after_path(kept, left),
+        Part::AnyName => after_any_name(left),
+        Part::Str => after_str(kept, left),
+        Part::List => after_list(left),
+        Part::MaybeList => Some(after_maybe_list(left)),
         Part::Star => Some(after_star(kept, left)),
         Part::Into => after_into(left),
+        Part::Privileges => from_privileges(left),
         Part::Rest => Some(leave_open(kept, left)),
+        Part::Tail => some_left(leave_open(kept, left)),
     }
 }
 

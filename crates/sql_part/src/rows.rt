@@ -1,33 +1,17 @@
-//! The rows of a first word, and the row that reads a statement.
+//! The row that reads a statement.
 
 ghost use Rattle.std.specs.Prelude.{◌≡◌, map};
+ghost use Rattle.std.specs.Bool.{OnFalse};
 ghost use Rattle.std.specs.Option.{option_map};
-ghost use Rattle.sql_tree.specs.Forms.{at, fresh, in_turn, finished, first_led, rows_of};
-ghost use Rattle.sql_part.specs.Views.{behind, front};
+ghost use Rattle.sql_tree.specs.Forms.{at, fresh, take_part, in_turn, finished, first_led, first_whole, anything, led_by};
+ghost use Rattle.sql_part.specs.Views.{behind, front, action_front};
 
 use crate::reader::{is_all_taken, take_part};
+use crate::tables::{one_word_kind, rows_of};
+use sql_mark::begins_with;
 use sql_token::{Keyword, Terminal};
 use sql_tree::StmtKind;
-use sql_tree::forms::{
-    ALTER, BEGIN, COMMIT, CREATE, Captures, Part, ROLLBACK, Rows, SELECT, START,
-};
-
-/// The rows of a first word.
-#[tactic(auto, unfolding(sql_tree::specs::Forms::rows_of))]
-fn rows_of(first: Keyword) -> Rows
-    ensures { map (λ r. (r.0, r.1.now, r.2.now)) result.now ≡ rows_of first }
-{
-    match first {
-        Keyword::Begin => &BEGIN,
-        Keyword::Start => &START,
-        Keyword::Commit | Keyword::End => &COMMIT,
-        Keyword::Rollback | Keyword::Abort => &ROLLBACK,
-        Keyword::Create => &CREATE,
-        Keyword::Alter => &ALTER,
-        Keyword::Select => &SELECT,
-        _ => &[],
-    }
-}
+use sql_tree::forms::{Captures, Part, Rows};
 
 /// What is kept before anything is read.
 pub fn nothing_kept() -> Captures
@@ -42,6 +26,9 @@ pub fn nothing_kept() -> Captures
         temp: false,
         guarded: false,
         chain: false,
+        replace: false,
+        not_plain: false,
+        placed: false,
         open_ended: false,
     }
 }
@@ -77,6 +64,28 @@ fn finish_row<'a>(
     }
 }
 
+/// Whether this part may stand here, where that is cheap to tell.
+fn may_begin(part: Part, left: &[Terminal]) -> bool
+    ensures { OnFalse result (take_part part fresh left.now ≡ None) }
+{
+    match part {
+        Part::Word(word) => begins_with(word, left),
+        Part::Object(word) => begins_with(word, left),
+        _ => true,
+    }
+}
+
+/// Whether the lead words of a row may stand here, by the first of them alone, so that few rows are tried in vain.
+#[tactic(auto, using(crate::proofs::Leads::lead_may))]
+fn may_lead(lead: &[Part], left: &[Terminal]) -> bool
+    ensures { OnFalse result (in_turn lead.now fresh left.now ≡ None) }
+{
+    match lead {
+        [] => true,
+        [first, ..] => may_begin(*first, left),
+    }
+}
+
 /// The first row whose lead words stand.
 fn first_row<'a>(
     rows: Rows,
@@ -87,23 +96,78 @@ fn first_row<'a>(
 {
     let mut rest = rows;
     while let [row, more @ ..] = rest {
-        *kept = nothing_kept();
-        if let Some(behind) = take_parts(row.1, kept, left) {
-            return finish_row(row.0, row.2, kept, behind);
+        if may_lead(row.1, left) {
+            *kept = nothing_kept();
+            if let Some(behind) = take_parts(row.1, kept, left) {
+                return finish_row(row.0, row.2, kept, behind);
+            }
         }
         rest = more;
     }
     None
 }
 
+/// A kind of statement whose form takes anything.
+pub fn read_anything<'a>(
+    kind: StmtKind,
+    kept: &mut Captures,
+    left: &'a [Terminal],
+) -> (StmtKind, &'a [Terminal])
+    ensures { front kept.new result ≡ anything kind left.entry.now }
+{
+    *kept = nothing_kept();
+    kept.open_ended = true;
+    (kind, left)
+}
+
 /// The kind of a statement that begins with this word, and the terminals that its form leaves open, of those behind the
 /// word. What the form keeps is written in place of what was kept.
+#[tactic(auto, unfolding(sql_tree::specs::Forms::led_by))]
 pub fn read_front<'a>(
     first: Keyword,
     kept: &mut Captures,
     left: &'a [Terminal],
 ) -> Option<(StmtKind, &'a [Terminal])>
-    ensures { option_map (front kept.new) result ≡ first_led (rows_of first) left.entry.now }
+    ensures { option_map (front kept.new) result ≡ led_by first left.entry.now }
 {
-    first_row(rows_of(first), kept, left)
+    match one_word_kind(first) {
+        Some(kind) => Some(read_anything(kind, kept, left)),
+        None => first_row(rows_of(first, left), kept, left),
+    }
+}
+
+fn whole_row<'a, K: Copy>(
+    kind: K,
+    parts: &[Part],
+    kept: &mut Captures,
+    left: &'a [Terminal],
+) -> Option<(K, &'a [Terminal])>
+    ensures { option_map (action_front kept.new) result ≡ finished kind parts.now (at kept.old left.entry.now) }
+{
+    let end = take_parts(parts, kept, left)?;
+    if is_all_taken(kept, end) {
+        Some((kind, end))
+    } else {
+        None
+    }
+}
+
+/// The first row that reads all of an action or a piece: its kind, and the terminals that its form leaves open. What the
+/// form keeps is written in place of what was kept; where no row reads it, what was kept says nothing more.
+pub fn read_whole<'a, K: Copy>(
+    rows: &'static [(K, &'static [Part])],
+    kept: &mut Captures,
+    left: &'a [Terminal],
+) -> Option<(K, &'a [Terminal])>
+    ensures { option_map (action_front kept.new) result ≡ first_whole (map (λ r. (r.0, r.1.now)) rows.entry.now) left.entry.now }
+{
+    let mut rest = rows;
+    while let [row, more @ ..] = rest {
+        *kept = nothing_kept();
+        if let Some(found) = whole_row(row.0, row.1, kept, left) {
+            return Some(found);
+        }
+        rest = more;
+    }
+    None
 }

@@ -7,9 +7,10 @@ ghost use Rattle.sql_tree.specs.Statement as spec;
 ghost use Rattle.sql_part.specs.Views.{front};
 ghost use Rattle.sql_read.specs.Pushes.{Pushes, stmt_of, form_with};
 
-use sql_constraint::read_added_constraints;
+use crate::body::{body_by, kind_of, shape_of};
 use sql_lex::{is_sound, span_of};
-use sql_part::{Mark, from_mark, has_keyword, nothing_kept, read_front};
+use sql_mark::{Mark, from_mark};
+use sql_part::{nothing_kept, read_anything, read_front};
 use sql_token::{Keyword, Span, Symbol, Terminal};
 use sql_tree::forms::Captures;
 use sql_tree::{Body, Stmt, StmtKind};
@@ -33,75 +34,6 @@ fn without_semicolon(terminals: &[Terminal]) -> &[Terminal]
     }
 }
 
-/// CREATE TABLE, or CREATE TABLE AS where the word AS stands behind its path.
-fn table_kind(left: &[Terminal]) -> StmtKind
-    ensures { result ≡ spec.table_kind left.now }
-{
-    if has_keyword(Keyword::As, left) {
-        StmtKind::CreateTableAs
-    } else {
-        StmtKind::CreateTable
-    }
-}
-
-// ---- what a form keeps
-
-/// Of CREATE TABLE: its table and the word TABLE. Its list of elements is not read yet.
-fn table_body(alloc: Global, kept: &Captures) -> Option<Body>
-    ensures { result ≡ spec.table_body kept.now }
-{
-    let word = kept.word?;
-    let path = kept.path?;
-    Some(Body::Table {
-        temp: kept.temp,
-        guarded: kept.guarded,
-        on_commit_drop: false,
-        word,
-        path,
-        elems: Items::new(alloc),
-    })
-}
-
-/// Of CREATE INDEX.
-fn index_body(kept: &Captures) -> Option<Body>
-    ensures { result ≡ spec.index_body kept.now }
-{
-    let word = kept.word?;
-    let path = kept.path?;
-    Some(Body::Index {
-        word,
-        unique: kept.unique,
-        concurrently: kept.concurrently,
-        guarded: kept.guarded,
-        name: kept.name,
-        path,
-    })
-}
-
-/// Of SELECT INTO: its table. What it gives is not read yet.
-fn into_body(alloc: Global, kept: &Captures) -> Option<Body>
-    ensures { result ≡ spec.into_body kept.now }
-{
-    let path = kept.path?;
-    Some(Body::Into {
-        path,
-        targets: Items::new(alloc),
-    })
-}
-
-/// Of ALTER TABLE: its table and its actions. `None` where an action adds no constraint.
-fn alter_body(alloc: Global, kept: &Captures, left: &[Terminal]) -> Result<Option<Body>, NoMemory>
-    ensures { IfOk result (λ body. body ≡ spec.alter_body (at kept.now left.now)) }
-{
-    match read_added_constraints(alloc, left)? {
-        Some(actions) => Ok(Some(Body::Alter {
-            path: kept.path,
-            actions,
-        })),
-        None => Ok(None),
-    }
-}
-
 // ---- the front
 
 /// The terminals of a statement from its verb on, where WITH leads it; all of them, where it does not.
@@ -115,6 +47,8 @@ fn from_verb(terminals: &[Terminal]) -> &[Terminal]
     }
 }
 
+/// The kind of a statement that begins with this symbol, and what its form leaves open of what follows. What it keeps is
+/// written.
 #[tactic(auto, unfolding(sql_tree::specs::Statement::front_by))]
 fn front_by<'a>(
     symbol: Symbol,
@@ -125,21 +59,8 @@ fn front_by<'a>(
 {
     match symbol {
         Symbol::Keyword(word) => read_front(word, kept, rest),
+        Symbol::OpenRound => Some(read_anything(StmtKind::ParenSelect, kept, rest)),
         _ => None,
-    }
-}
-
-/// The kind of a statement by its first word, and what its form leaves open. What it keeps is written.
-#[tactic(auto, unfolding(sql_tree::specs::Statement::front_of))]
-fn front_of<'a>(
-    kept: &mut Captures,
-    terminals: &'a [Terminal],
-) -> Option<(StmtKind, &'a [Terminal])>
-    ensures { option_map (front kept.new) result ≡ spec.front_of terminals.entry.now }
-{
-    match terminals {
-        [] => None,
-        [first, rest @ ..] => front_by(first.symbol, kept, rest),
     }
 }
 
@@ -169,34 +90,42 @@ fn push(
     }
 }
 
-/// Puts a statement behind the others, of whose front so much was kept and left.
-#[tactic(auto, unfolding(sql_tree::specs::Statement::told, sql_tree::specs::Statement::kind_of, sql_tree::specs::Statement::body_of))]
+/// Puts a statement behind the others, of whose front so much was kept and left; `query` is what follows its first word.
+#[tactic(auto, unfolding(sql_tree::specs::Statement::told))]
 fn push_told(
     alloc: Global,
     stmts: &mut Items<Stmt>,
     span: Span,
+    query: &[Terminal],
     kind: StmtKind,
     kept: &Captures,
     left: &[Terminal],
 ) -> Result<bool, NoMemory>
-    ensures { IfOk result (λ pushed. Pushes (stmt_of span (spec.told (kind, at kept.now left.now))) stmts.old pushed stmts.new) }
+    ensures { IfOk result (λ pushed. Pushes (stmt_of span (spec.told query.now (kind, at kept.now left.now))) stmts.old pushed stmts.new) }
 {
-    match kind {
-        StmtKind::Commit | StmtKind::Rollback => {
-            let body = Body::End {
-                plain: true,
-                chain: kept.chain,
-            };
-            push(stmts, span, kind, Some(body))
+    let body = body_by(alloc, shape_of(kind), kind, query, kept, left)?;
+    push(stmts, span, kind_of(kind, kept, left), body)
+}
+
+/// The same, from the first word on.
+#[tactic(auto, unfolding(sql_tree::specs::Statement::form_from))]
+fn push_from(
+    alloc: Global,
+    stmts: &mut Items<Stmt>,
+    span: Span,
+    terminals: &[Terminal],
+) -> Result<bool, NoMemory>
+    ensures { IfOk result (λ pushed. Pushes (stmt_of span (spec.form_from terminals.now)) stmts.old pushed stmts.new) }
+{
+    match terminals {
+        [] => push(stmts, span, StmtKind::Select, Some(Body::Kept)),
+        [first, rest @ ..] => {
+            let mut kept = nothing_kept();
+            match front_by(first.symbol, &mut kept, rest) {
+                None => Ok(false),
+                Some((kind, left)) => push_told(alloc, stmts, span, rest, kind, &kept, left),
+            }
         }
-        StmtKind::CreateTable => push(stmts, span, table_kind(left), table_body(alloc, kept)),
-        StmtKind::CreateIndex => push(stmts, span, kind, index_body(kept)),
-        StmtKind::SelectInto => push(stmts, span, kind, into_body(alloc, kept)),
-        StmtKind::AlterTable => {
-            let body = alter_body(alloc, kept, left)?;
-            push(stmts, span, kind, body)
-        }
-        _ => push(stmts, span, kind, Some(Body::Kept)),
     }
 }
 
@@ -213,11 +142,7 @@ fn push_form(
     if terminals.is_empty() {
         return push(stmts, span, StmtKind::Empty, Some(Body::Kept));
     }
-    let mut kept = nothing_kept();
-    match front_of(&mut kept, from_verb(terminals)) {
-        None => Ok(false),
-        Some((kind, left)) => push_told(alloc, stmts, span, kind, &kept, left),
-    }
+    push_from(alloc, stmts, span, from_verb(terminals))
 }
 
 /// Puts the statement that these terminals are, its semicolon among them, behind the others. `false` where they are

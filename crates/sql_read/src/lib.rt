@@ -1,6 +1,7 @@
 //! Reads a SQL text: its tokens, its statements, and the tree of them.
 #![tactic(auto)]
 
+mod body;
 mod error;
 mod form;
 mod reading;

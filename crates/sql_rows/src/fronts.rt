@@ -4,7 +4,8 @@
 ghost use Rattle.std.specs.Prelude.{◌<◌, ◌^◌, length};
 
 use crate::terminals::terminals_of;
-use sql_part::{has_keyword, nothing_kept, read_front};
+use sql_mark::has_keyword;
+use sql_part::{nothing_kept, read_front};
 use sql_token::{Keyword as K, Span};
 use sql_tree::forms::Captures;
 use std::alloc::Global;
@@ -140,7 +141,7 @@ const FRONTS: &[(K, &str, &str)] = &[
     (
         K::Alter,
         " table if exists only a.b * add x",
-        "AlterTable left 2 word 1 guarded path 9-11 open",
+        "AlterTable left 2 guarded path 9-11 open",
     ),
     (K::Alter, " table only", "none"),
     (K::Alter, " index i", "none"),
@@ -154,7 +155,7 @@ const FRONTS: &[(K, &str, &str)] = &[
         " a as into into t",
         "SelectInto left 0 path 9-9 open",
     ),
-    (K::Select, " a", "none"),
+    (K::Select, " a", "Select left 1 open"),
 ];
 
 /// A text, and whether the word AS stands in it outside all brackets.

@@ -1,19 +1,22 @@
--- Constraints of a table (PostgreSQL manual, CREATE TABLE and ALTER TABLE, table_constraint):
--- [CONSTRAINT name], then CHECK, UNIQUE, PRIMARY KEY, EXCLUDE, FOREIGN KEY or NOT NULL, then anything.
-use Rattle.std.specs.Prelude.{ℕ, Bool, true, false, ◌&&◌, ◌||◌, if◌then◌else◌, List, [], ◌∷◌, Option, Some, None, is_some}
+-- Constraints of tables and of columns (PostgreSQL manual, CREATE TABLE, table_constraint and column_constraint).
+use Rattle.std.specs.Prelude.{ℕ, Bool, true, false, ◌&&◌, ◌||◌, if◌then◌else◌, List, [], ◌∷◌, take, drop, Option, Some, None, is_some}
 use Rattle.std.specs.Option.{option_and_then}
 use Rattle.sql_keyword.specs.declared.words.Keyword.{Keyword}
 use Rattle.sql_keyword.specs.declared.words.Keyword.TheVariants as k
-use Rattle.sql_token.specs.declared.terminal.Symbol.{Symbol}
-use Rattle.sql_token.specs.declared.terminal.Symbol.TheVariants as s
+use Rattle.sql_token.specs.declared.token.Span.{Span}
 use Rattle.sql_token.specs.declared.terminal.Terminal.{Terminal}
 use Rattle.sql_token.specs.Terminal.{is_keyword, is_name}
 use Rattle.sql_token.specs.Depth.{span_of}
 use Rattle.sql_tree.specs.declared.nodes.ConKind.{ConKind}
-use Rattle.sql_tree.specs.declared.nodes.ConKind.TheVariants.{Check, Unique, PrimaryKey, Exclude, ForeignKey, NotNull}
+use Rattle.sql_tree.specs.declared.nodes.ConKind.TheVariants.{Check, Unique, PrimaryKey, Exclude, ForeignKey, NotNull, Default}
 use Rattle.sql_tree.specs.declared.nodes.Constraint.{Constraint}
+use Rattle.sql_tree.specs.declared.nodes.Expr.{Expr}
 use Rattle.sql_tree.specs.Forms.{behind_word}
-use Rattle.sql_tree.specs.Split.{has, not_valid}
+use Rattle.sql_tree.specs.Split.{has, not_valid, is_open_round_symbol, all_of}
+use Rattle.sql_tree.specs.Groups.{is_empty, inside_list}
+use Rattle.sql_tree.specs.Pieces.{before_behind, pieces}
+use Rattle.sql_tree.specs.ColumnMarks.{kind_led, value_end, constraint_start, constraint_head}
+use Rattle.sql_tree.specs.Expression.{expression_of}
 
 -- ---- [CONSTRAINT name]
 
@@ -27,11 +30,7 @@ unfoldable pub constraint_name : List Terminal → Option (Option ℕ × List Te
 constraint_name [] = Some (None, [])
 constraint_name (t ∷ ts) = if is_keyword k.Constraint t then named ts else Some (None, t ∷ ts)
 
--- ---- what it is
-
-abbrev pub is_open_round_symbol : Symbol → Bool
-is_open_round_symbol s.OpenRound = true
-is_open_round_symbol _ = false
+-- ---- what a table's constraint is: CHECK, UNIQUE, PRIMARY KEY, EXCLUDE, FOREIGN KEY or NOT NULL, then anything
 
 abbrev pub is_exclusion : List Terminal → Bool
 is_exclusion [] = false
@@ -74,7 +73,30 @@ is_key _ = false
 unfoldable pub by_index : ConKind → List Terminal → Bool
 by_index kind rest = is_key kind && is_some (behind_two k.Using k.Index rest)
 
-abbrev pub constraint_in : List Terminal → Option ℕ → ConKind × List Terminal → Constraint
+-- ---- its expression
+
+-- The expression of a DEFAULT, by what follows that word: its first terminal belongs to it, whatever it is.
+unfoldable pub default_value : List Terminal → List Terminal
+default_value rest = take (before_behind value_end 1 None 0 0 rest) rest
+
+-- What a constraint's expression is, by what follows the words of its kind: what the bracket list of a CHECK
+-- holds, or what a DEFAULT gives. Nothing where there is none.
+unfoldable pub value_in : ConKind → List Terminal → List Terminal
+value_in Check rest = inside_list rest
+value_in Default rest = default_value rest
+value_in kind rest = []
+
+abbrev pub value_of : List Terminal → Option Expr
+value_of value = if is_empty value then None else Some (expression_of value)
+
+abbrev pub value_span : List Terminal → Option Span
+value_span value = if is_empty value then None else Some (span_of value)
+
+-- ---- the whole
+
+-- The constraint that all of `ts` is, by its name, its kind and what follows the words of the kind. It is not valid
+-- where NOT VALID stands in it.
+unfoldable pub constraint_in : List Terminal → Option ℕ → ConKind × List Terminal → Constraint
 constraint_in ts name found = record {
   kind = found.0;
   name = name;
@@ -82,8 +104,8 @@ constraint_in ts name found = record {
   last = (span_of ts).last;
   not_valid = has not_valid ts;
   by_index = by_index found.0 found.1;
-  expr = None;
-  expr_span = None;
+  expr = value_of (value_in found.0 found.1);
+  expr_span = value_span (value_in found.0 found.1);
 }
 
 abbrev pub constraint_behind : List Terminal → Option ℕ × List Terminal → Option Constraint
@@ -92,3 +114,37 @@ constraint_behind ts called = option_and_then (λ found. Some (constraint_in ts 
 -- The table constraint that these terminals are, all of them.
 unfoldable pub table_constraint : List Terminal → Option Constraint
 table_constraint ts = option_and_then (constraint_behind ts) (constraint_name ts)
+
+-- ---- of columns
+
+-- what follows the words of a kind, by what follows the first one
+abbrev pub behind_kind : ConKind → List Terminal → List Terminal
+behind_kind NotNull ts = drop 1 ts
+behind_kind PrimaryKey ts = drop 1 ts
+behind_kind _ ts = ts
+
+-- the kind of a column's constraint, and what follows its words
+unfoldable pub column_kind : List Terminal → Option (ConKind × List Terminal)
+column_kind [] = None
+column_kind (t ∷ ts) = option_and_then (λ kind. Some (kind, behind_kind kind ts)) (kind_led t ts)
+
+abbrev pub is_default : ConKind → Bool
+is_default Default = true
+is_default _ = false
+
+-- A DEFAULT has an expression.
+abbrev pub column_constraint_in : List Terminal → Option ℕ → ConKind × List Terminal → Option Constraint
+column_constraint_in ts name found =
+    if is_default found.0 && is_empty found.1 then None else Some (constraint_in ts name found)
+
+abbrev pub column_constraint_behind : List Terminal → Option ℕ × List Terminal → Option Constraint
+column_constraint_behind ts called = option_and_then (column_constraint_in ts called.0) (column_kind called.1)
+
+-- the constraint of a column or of a domain that these terminals are, all of them
+unfoldable pub column_constraint : List Terminal → Option Constraint
+column_constraint ts = option_and_then (column_constraint_behind ts) (constraint_name ts)
+
+-- The constraints of a column or of a domain, behind a terminal where one is given: None where a DEFAULT has no
+-- expression.
+unfoldable pub column_constraints : Option Terminal → List Terminal → Option (List Constraint)
+column_constraints earlier ts = all_of column_constraint (pieces constraint_start constraint_head earlier ts)

@@ -8,6 +8,7 @@ use Rattle.sql_token.specs.declared.terminal.Symbol.TheVariants as s
 use Rattle.sql_token.specs.declared.terminal.Terminal.{Terminal}
 use Rattle.sql_token.specs.Terminal.{is_keyword, is_name, is_dot}
 use Rattle.sql_tree.specs.declared.kinds.StmtKind.{StmtKind}
+use Rattle.sql_tree.specs.declared.kinds.ActionKind.{ActionKind}
 use Rattle.sql_tree.specs.declared.forms.Mark.{Mark}
 use Rattle.sql_tree.specs.declared.forms.Mark.TheVariants as m
 use Rattle.sql_tree.specs.declared.forms.Phrase.{Phrase}
@@ -15,8 +16,15 @@ use Rattle.sql_tree.specs.declared.forms.Phrase.TheVariants as phrase
 use Rattle.sql_tree.specs.declared.forms.Part.{Part}
 use Rattle.sql_tree.specs.declared.forms.Part.TheVariants as p
 use Rattle.sql_tree.specs.declared.forms.Captures.{Captures}
-use Rattle.sql_tree.specs.declared.forms.TheConstants.{BEGIN, START, COMMIT, ROLLBACK, CREATE, ALTER, SELECT}
-use Rattle.sql_tree.specs.Split.{from_mark, into}
+use Rattle.sql_tree.specs.declared.forms.Family.{Family}
+use Rattle.sql_tree.specs.declared.forms.Family.TheVariants as family
+use Rattle.sql_tree.specs.declared.kinds.StmtKind.TheVariants as stmt
+use Rattle.sql_tree.specs.declared.create_forms.TheConstants.{CREATE_RELATION, CREATE_CODE, CREATE_DATA_TYPE, CREATE_SERVICE, CREATE_OTHER}
+use Rattle.sql_tree.specs.declared.alter_forms.TheConstants.{ALTER_RELATION, ALTER_CODE, ALTER_DATA_TYPE, ALTER_SERVICE, ALTER_OTHER}
+use Rattle.sql_tree.specs.declared.drop_forms.TheConstants.{DROP_RELATION, DROP_CODE, DROP_DATA_TYPE, DROP_SERVICE, DROP_OTHER}
+use Rattle.sql_tree.specs.declared.other_forms.TheConstants.{START, COMMIT, END, ROLLBACK, ABORT, SELECT, INSERT, UPDATE, MERGE, SET, RESET, PREPARE, COMMENT, IMPORT, SECURITY, REFRESH, CLUSTER}
+use Rattle.sql_tree.specs.Split.{from_mark, into, privileges, behind_list}
+use Rattle.sql_tree.specs.Words.{is_of_class}
 
 -- what is kept so far, and the terminals that are left
 pub record State : Type 0 where
@@ -50,6 +58,9 @@ tell m.Nothing c = c
 tell m.Unique c = record c { unique = true }
 tell m.Guarded c = record c { guarded = true }
 tell m.Chain c = record c { chain = true }
+tell m.Replace c = record c { replace = true }
+tell m.NotPlain c = record c { not_plain = true }
+tell m.Placed c = record c { placed = true }
 
 -- an optional part: what it takes, or nothing
 abbrev pub or_here : Option State → Captures → List Terminal → State
@@ -61,6 +72,8 @@ words_of phrase.IfExists = k.If ∷ k.Exists ∷ []
 words_of phrase.IfNotExists = k.If ∷ k.Not ∷ k.Exists ∷ []
 words_of phrase.AndChain = k.And ∷ k.Chain ∷ []
 words_of phrase.AndNoChain = k.And ∷ k.No ∷ k.Chain ∷ []
+words_of phrase.OrReplace = k.Or ∷ k.Replace ∷ []
+words_of phrase.SetData = k.Set ∷ k.Data ∷ []
 
 -- the terminals behind this word
 abbrev pub behind_word : Keyword → List Terminal → Option (List Terminal)
@@ -75,7 +88,7 @@ behind_words (w ∷ ws) ts = option_and_then (behind_words ws) (behind_word w ts
 abbrev pub take_phrase : Phrase → Mark → Captures → List Terminal → Option State
 take_phrase f mark c ts = option_and_then (λ rest. Some (at (tell mark c) rest)) (behind_words (words_of f) ts)
 
-abbrev pub either_of : Option State → Option State → Option State
+abbrev pub either_of : {A : Type 0} → Option A → Option A → Option A
 either_of (Some s) other = Some s
 either_of None other = other
 
@@ -132,15 +145,34 @@ take_star c ts = or_here (one (λ t. is_star_symbol t.symbol) nothing_kept c ts)
 abbrev pub take_into : Captures → List Terminal → Option State
 take_into c ts = one (is_keyword k.Into) nothing_kept c (from_mark into ts)
 
+abbrev pub is_str_symbol : Symbol → Bool
+is_str_symbol s.Str = true
+is_str_symbol _ = false
+
+-- a bracket list, all of it
+abbrev pub take_list : Captures → List Terminal → Option State
+take_list c ts = option_and_then (λ rest. Some (at c rest)) (behind_list ts)
+
+-- what is left, where it is something
+abbrev pub some_left : Captures → List Terminal → Option State
+some_left c [] = None
+some_left c (t ∷ ts) = Some (at c (t ∷ ts))
+
+abbrev pub opened : Captures → Captures
+opened c = record c { open_ended = true }
+
 abbrev pub take_rest : Captures → List Terminal → State
-take_rest c ts = at (record c { open_ended = true }) ts
+take_rest c ts = at (opened c) ts
 
 -- ---- parts and rows
 
 -- what a part takes: None where it does not stand
 unfoldable pub take_part : Part → Captures → List Terminal → Option State
 take_part (p.Word w) c ts = one (is_keyword w) nothing_kept c ts
+take_part (p.AnyOf class) c ts = one (is_of_class class) nothing_kept c ts
 take_part (p.Object w) c ts = one (is_keyword w) word_kept c ts
+take_part (p.MaybeObject w) c ts = Some (or_here (one (is_keyword w) word_kept c ts) c ts)
+take_part (p.Tell mark) c ts = Some (at (tell mark c) ts)
 take_part (p.Flag w mark) c ts = Some (or_here (one (is_keyword w) (λ t c. tell mark c) c ts) c ts)
 take_part (p.Either v w) c ts = Some (or_here (one (λ t. is_keyword v t || is_keyword w t) nothing_kept c ts) c ts)
 take_part (p.Maybe f mark) c ts = Some (or_here (take_phrase f mark c ts) c ts)
@@ -148,10 +180,17 @@ take_part p.Chain c ts = Some (take_chain c ts)
 take_part p.Concurrently c ts = Some (take_concurrently c ts)
 take_part p.IndexName c ts = Some (take_index_name c ts)
 take_part p.Mods c ts = Some (take_mods c ts)
+take_part p.Name c ts = one is_name name_kept c ts
 take_part p.Path c ts = take_path c ts
+take_part p.AnyName c ts = one is_name nothing_kept c ts
+take_part p.Str c ts = one (λ t. is_str_symbol t.symbol) name_kept c ts
+take_part p.List c ts = take_list c ts
+take_part p.MaybeList c ts = Some (or_here (take_list c ts) c ts)
 take_part p.Star c ts = Some (take_star c ts)
 take_part p.Into c ts = take_into c ts
+take_part p.Privileges c ts = some_left c (from_mark privileges ts)
 take_part p.Rest c ts = Some (take_rest c ts)
+take_part p.Tail c ts = some_left (opened c) ts
 
 -- these parts one after another
 abbrev pub in_turn : List Part → Captures → List Terminal → Option State
@@ -167,7 +206,7 @@ abbrev pub Row : Type 0
 Row = StmtKind × List Part × List Part
 
 -- what follows the lead words, to the end
-abbrev pub finished : StmtKind → List Part → State → Option (StmtKind × State)
+abbrev pub finished : {K : Type 0} → K → List Part → State → Option (K × State)
 finished kind parts s = option_and_then (λ e. option_and_then (λ w. Some (kind, w)) (all_taken e)) (in_turn parts s.kept s.left)
 
 abbrev pub led_or : Option State → Row → Option (StmtKind × State) → Option (StmtKind × State)
@@ -184,6 +223,9 @@ fresh = record {
   temp = false;
   guarded = false;
   chain = false;
+  replace = false;
+  not_plain = false;
+  placed = false;
   open_ended = false;
 }
 
@@ -192,15 +234,162 @@ abbrev pub first_led : List Row → List Terminal → Option (StmtKind × State)
 first_led [] ts = None
 first_led (r ∷ rs) ts = led_or (in_turn r.1 fresh ts) r (first_led rs ts)
 
--- the rows of a first word
-unfoldable pub rows_of : Keyword → List Row
-rows_of k.Begin = map (λ r. (r.0, r.1.now, r.2.now)) BEGIN
-rows_of k.Start = map (λ r. (r.0, r.1.now, r.2.now)) START
-rows_of k.Commit = map (λ r. (r.0, r.1.now, r.2.now)) COMMIT
-rows_of k.End = map (λ r. (r.0, r.1.now, r.2.now)) COMMIT
-rows_of k.Rollback = map (λ r. (r.0, r.1.now, r.2.now)) ROLLBACK
-rows_of k.Abort = map (λ r. (r.0, r.1.now, r.2.now)) ROLLBACK
-rows_of k.Create = map (λ r. (r.0, r.1.now, r.2.now)) CREATE
-rows_of k.Alter = map (λ r. (r.0, r.1.now, r.2.now)) ALTER
-rows_of k.Select = map (λ r. (r.0, r.1.now, r.2.now)) SELECT
-rows_of _ = []
+-- a kind of an action, and all that it is made of
+abbrev pub ActionRow : Type 0
+ActionRow = ActionKind × List Part
+
+-- the first row that reads all
+abbrev pub first_whole : {K : Type 0} → List (K × List Part) → List Terminal → Option (K × State)
+first_whole [] ts = None
+first_whole (r ∷ rs) ts = either_of (finished r.0 r.1 (at fresh ts)) (first_whole rs ts)
+
+-- ---- tables of rows
+
+-- the family of the object that this word names, or that may stand before it
+unfoldable pub family_of : Keyword → Family
+family_of k.Table = family.Relation
+family_of k.Temp = family.Relation
+family_of k.Temporary = family.Relation
+family_of k.Global = family.Relation
+family_of k.Local = family.Relation
+family_of k.Unlogged = family.Relation
+family_of k.Unique = family.Relation
+family_of k.Index = family.Relation
+family_of k.Sequence = family.Relation
+family_of k.View = family.Relation
+family_of k.Recursive = family.Relation
+family_of k.Materialized = family.Relation
+family_of k.Foreign = family.Relation
+family_of k.Property = family.Relation
+family_of k.Or = family.Code
+family_of k.Function = family.Code
+family_of k.Procedure = family.Code
+family_of k.Routine = family.Code
+family_of k.Aggregate = family.Code
+family_of k.Trigger = family.Code
+family_of k.Constraint = family.Code
+family_of k.Rule = family.Code
+family_of k.Language = family.Code
+family_of k.Trusted = family.Code
+family_of k.Procedural = family.Code
+family_of k.Policy = family.Code
+family_of k.Event = family.Code
+family_of k.Transform = family.Code
+family_of k.«Type» = family.DataType
+family_of k.Domain = family.DataType
+family_of k.Cast = family.DataType
+family_of k.Collation = family.DataType
+family_of k.Operator = family.DataType
+family_of k.Role = family.Service
+family_of k.User = family.Service
+family_of k.Group = family.Service
+family_of k.Database = family.Service
+family_of k.Tablespace = family.Service
+family_of k.Server = family.Service
+family_of k.Publication = family.Service
+family_of k.Subscription = family.Service
+family_of k.System = family.Service
+family_of _ = family.Other
+
+abbrev pub family_by : Symbol → Family
+family_by (s.Keyword w) = family_of w
+family_by _ = family.Other
+
+-- the family that the first of these terminals tells
+abbrev pub family_first : List Terminal → Family
+family_first [] = family.Other
+family_first (t ∷ ts) = family_by t.symbol
+
+unfoldable pub create_rows : Family → List Row
+create_rows family.Relation = map (λ r. (r.0, r.1.now, r.2.now)) CREATE_RELATION
+create_rows family.Code = map (λ r. (r.0, r.1.now, r.2.now)) CREATE_CODE
+create_rows family.DataType = map (λ r. (r.0, r.1.now, r.2.now)) CREATE_DATA_TYPE
+create_rows family.Service = map (λ r. (r.0, r.1.now, r.2.now)) CREATE_SERVICE
+create_rows family.Other = map (λ r. (r.0, r.1.now, r.2.now)) CREATE_OTHER
+
+unfoldable pub alter_rows : Family → List Row
+alter_rows family.Relation = map (λ r. (r.0, r.1.now, r.2.now)) ALTER_RELATION
+alter_rows family.Code = map (λ r. (r.0, r.1.now, r.2.now)) ALTER_CODE
+alter_rows family.DataType = map (λ r. (r.0, r.1.now, r.2.now)) ALTER_DATA_TYPE
+alter_rows family.Service = map (λ r. (r.0, r.1.now, r.2.now)) ALTER_SERVICE
+alter_rows family.Other = map (λ r. (r.0, r.1.now, r.2.now)) ALTER_OTHER
+
+unfoldable pub drop_rows : Family → List Row
+drop_rows family.Relation = map (λ r. (r.0, r.1.now, r.2.now)) DROP_RELATION
+drop_rows family.Code = map (λ r. (r.0, r.1.now, r.2.now)) DROP_CODE
+drop_rows family.DataType = map (λ r. (r.0, r.1.now, r.2.now)) DROP_DATA_TYPE
+drop_rows family.Service = map (λ r. (r.0, r.1.now, r.2.now)) DROP_SERVICE
+drop_rows family.Other = map (λ r. (r.0, r.1.now, r.2.now)) DROP_OTHER
+
+-- the rows of a first word, and of what follows it
+unfoldable pub rows_of : Keyword → List Terminal → List Row
+rows_of k.Create ts = create_rows (family_first ts)
+rows_of k.Alter ts = alter_rows (family_first ts)
+rows_of k.Drop ts = drop_rows (family_first ts)
+rows_of k.Start ts = map (λ r. (r.0, r.1.now, r.2.now)) START
+rows_of k.Commit ts = map (λ r. (r.0, r.1.now, r.2.now)) COMMIT
+rows_of k.End ts = map (λ r. (r.0, r.1.now, r.2.now)) END
+rows_of k.Rollback ts = map (λ r. (r.0, r.1.now, r.2.now)) ROLLBACK
+rows_of k.Abort ts = map (λ r. (r.0, r.1.now, r.2.now)) ABORT
+rows_of k.Select ts = map (λ r. (r.0, r.1.now, r.2.now)) SELECT
+rows_of k.Insert ts = map (λ r. (r.0, r.1.now, r.2.now)) INSERT
+rows_of k.Update ts = map (λ r. (r.0, r.1.now, r.2.now)) UPDATE
+rows_of k.Merge ts = map (λ r. (r.0, r.1.now, r.2.now)) MERGE
+rows_of k.Set ts = map (λ r. (r.0, r.1.now, r.2.now)) SET
+rows_of k.Reset ts = map (λ r. (r.0, r.1.now, r.2.now)) RESET
+rows_of k.Prepare ts = map (λ r. (r.0, r.1.now, r.2.now)) PREPARE
+rows_of k.Comment ts = map (λ r. (r.0, r.1.now, r.2.now)) COMMENT
+rows_of k.Import ts = map (λ r. (r.0, r.1.now, r.2.now)) IMPORT
+rows_of k.Security ts = map (λ r. (r.0, r.1.now, r.2.now)) SECURITY
+rows_of k.Refresh ts = map (λ r. (r.0, r.1.now, r.2.now)) REFRESH
+rows_of k.Cluster ts = map (λ r. (r.0, r.1.now, r.2.now)) CLUSTER
+rows_of _ ts = []
+
+-- the kind that a first word tells alone
+unfoldable pub one_word_kind : Keyword → Option StmtKind
+one_word_kind k.Analyse = Some stmt.Analyze
+one_word_kind k.Analyze = Some stmt.Analyze
+one_word_kind k.Begin = Some stmt.Begin
+one_word_kind k.Call = Some stmt.Call
+one_word_kind k.Checkpoint = Some stmt.Checkpoint
+one_word_kind k.Close = Some stmt.Close
+one_word_kind k.Copy = Some stmt.Copy
+one_word_kind k.Deallocate = Some stmt.Deallocate
+one_word_kind k.Declare = Some stmt.Declare
+one_word_kind k.Delete = Some stmt.Delete
+one_word_kind k.Discard = Some stmt.Discard
+one_word_kind k.Do = Some stmt.Do
+one_word_kind k.Execute = Some stmt.Execute
+one_word_kind k.Explain = Some stmt.Explain
+one_word_kind k.Fetch = Some stmt.Fetch
+one_word_kind k.Grant = Some stmt.Grant
+one_word_kind k.Listen = Some stmt.Listen
+one_word_kind k.Load = Some stmt.Load
+one_word_kind k.Lock = Some stmt.Lock
+one_word_kind k.Move = Some stmt.Move
+one_word_kind k.Notify = Some stmt.Notify
+one_word_kind k.Reassign = Some stmt.Reassign
+one_word_kind k.Reindex = Some stmt.Reindex
+one_word_kind k.Release = Some stmt.ReleaseSavepoint
+one_word_kind k.Repack = Some stmt.Repack
+one_word_kind k.Revoke = Some stmt.Revoke
+one_word_kind k.Savepoint = Some stmt.SavepointCreate
+one_word_kind k.Show = Some stmt.Show
+one_word_kind k.Table = Some stmt.Table
+one_word_kind k.Truncate = Some stmt.Truncate
+one_word_kind k.Unlisten = Some stmt.Unlisten
+one_word_kind k.Vacuum = Some stmt.Vacuum
+one_word_kind k.Values = Some stmt.Values
+one_word_kind _ = None
+
+-- a kind of statement whose form takes anything
+abbrev pub anything : StmtKind → List Terminal → StmtKind × State
+anything kind ts = (kind, take_rest fresh ts)
+
+abbrev pub kind_or_row : Option StmtKind → List Row → List Terminal → Option (StmtKind × State)
+kind_or_row (Some kind) rows ts = Some (anything kind ts)
+kind_or_row None rows ts = first_led rows ts
+
+-- the kind of a statement that begins with this word, and what its form keeps of what follows
+unfoldable pub led_by : Keyword → List Terminal → Option (StmtKind × State)
+led_by w ts = kind_or_row (one_word_kind w) (rows_of w ts) ts

@@ -4,5 +4,16 @@ pub mod Range
 pub mod Path
 pub mod PathNames
 pub mod Split
+pub mod Groups
+pub mod Pieces
+pub mod ColumnMarks
 pub mod Constraint
+pub mod Words
+pub mod ActionPieces
+pub mod ActionRows
 pub mod Action
+pub mod Expression
+pub mod ColumnType
+pub mod Column
+pub mod Write
+pub mod Tails

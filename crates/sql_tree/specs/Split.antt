@@ -1,6 +1,6 @@
 -- Lists of terminals, split at marks of depth 0.
 -- Depth is counted from the start of the list, by the two counts of openers and closers.
-use Rattle.std.specs.Prelude.{ℕ, suc, ◌+◌, ◌==◌, nat_lt, Bool, true, false, not, ◌&&◌, ◌||◌, if◌then◌else◌, List, [], ◌∷◌, length, drop, Option, Some, None}
+use Rattle.std.specs.Prelude.{ℕ, suc, ◌+◌, ◌==◌, nat_lt, Bool, true, false, not, ◌&&◌, ◌||◌, if◌then◌else◌, List, [], ◌∷◌, length, take, drop, Option, Some, None}
 use Rattle.sql_keyword.specs.declared.words.Keyword.{Keyword}
 use Rattle.sql_keyword.specs.declared.words.Keyword.TheVariants as k
 use Rattle.sql_token.specs.declared.terminal.Symbol.{Symbol}
@@ -57,6 +57,113 @@ is_verb_symbol _ = false
 unfoldable pub verb : Option Terminal → Terminal → List Terminal → Bool
 verb earlier t after = is_verb_symbol t.symbol
 
+-- the word GRANT or REVOKE
+unfoldable pub privileges : Option Terminal → Terminal → List Terminal → Bool
+privileges earlier t after = is_keyword k.Grant t || is_keyword k.Revoke t
+
+-- this key word
+unfoldable pub word : Keyword → Option Terminal → Terminal → List Terminal → Bool
+word w earlier t after = is_keyword w t
+
+abbrev pub is_operator_symbol : Symbol → Bool
+is_operator_symbol s.Star = true
+is_operator_symbol s.Equals = true
+is_operator_symbol s.EqualsOperator = true
+is_operator_symbol s.Operator = true
+is_operator_symbol _ = false
+
+abbrev pub is_operator : Terminal → Bool
+is_operator t = is_operator_symbol t.symbol || is_keyword k.And t || is_keyword k.Or t
+
+-- an operator sign, AND or OR
+unfoldable pub operator : Option Terminal → Terminal → List Terminal → Bool
+operator earlier t after = is_operator t
+
+abbrev pub is_colon_symbol : Symbol → Bool
+is_colon_symbol s.Colon = true
+is_colon_symbol _ = false
+
+abbrev pub begins_with_colon : List Terminal → Bool
+begins_with_colon [] = false
+begins_with_colon (t ∷ ts) = is_colon_symbol t.symbol
+
+abbrev pub is_cast : Terminal → List Terminal → Bool
+is_cast t after = is_keyword k.Collate t || is_colon_symbol t.symbol && begins_with_colon after
+
+-- `::` or COLLATE
+unfoldable pub cast : Option Terminal → Terminal → List Terminal → Bool
+cast earlier t after = is_cast t after
+
+abbrev pub begins_with_both : Keyword → Keyword → List Terminal → Bool
+begins_with_both v w [] = false
+begins_with_both v w (t ∷ ts) = is_keyword v t && begins_with w ts
+
+abbrev pub is_on_commit_drop : Terminal → List Terminal → Bool
+is_on_commit_drop t after = is_keyword k.On t && begins_with_both k.Commit k.Drop after
+
+-- the adjacent words ON COMMIT DROP
+unfoldable pub on_commit_drop : Option Terminal → Terminal → List Terminal → Bool
+on_commit_drop earlier t after = is_on_commit_drop t after
+
+-- =
+abbrev pub is_equals_symbol : Symbol → Bool
+is_equals_symbol s.Equals = true
+is_equals_symbol _ = false
+
+unfoldable pub equals : Option Terminal → Terminal → List Terminal → Bool
+equals earlier t after = is_equals_symbol t.symbol
+
+-- the words DO UPDATE SET
+unfoldable pub do_update_set : Option Terminal → Terminal → List Terminal → Bool
+do_update_set earlier t after = is_keyword k.Do t && begins_with_both k.Update k.Set after
+
+-- the words THEN UPDATE SET
+unfoldable pub then_update_set : Option Terminal → Terminal → List Terminal → Bool
+then_update_set earlier t after = is_keyword k.Then t && begins_with_both k.Update k.Set after
+
+-- the words THEN INSERT
+unfoldable pub then_insert : Option Terminal → Terminal → List Terminal → Bool
+then_insert earlier t after = is_keyword k.Then t && begins_with k.Insert after
+
+abbrev pub is_clause_end : Terminal → Bool
+is_clause_end t = is_keyword k.From t || is_keyword k.Where t || is_keyword k.Returning t
+
+-- the end of a SET clause: FROM, WHERE or RETURNING
+unfoldable pub clause_end : Option Terminal → Terminal → List Terminal → Bool
+clause_end earlier t after = is_clause_end t
+
+abbrev pub is_matched : List Terminal → Bool
+is_matched after = begins_with k.Matched after || begins_with_both k.Not k.Matched after
+
+-- the end of a SET clause of MERGE: the same, or the word WHEN of WHEN MATCHED and WHEN NOT MATCHED
+unfoldable pub merge_clause_end : Option Terminal → Terminal → List Terminal → Bool
+merge_clause_end earlier t after = is_clause_end t || (is_keyword k.When t && is_matched after)
+
+abbrev pub is_target_list_end : Keyword → Bool
+is_target_list_end k.Into = true
+is_target_list_end k.From = true
+is_target_list_end k.Where = true
+is_target_list_end k.Group = true
+is_target_list_end k.Having = true
+is_target_list_end k.Window = true
+is_target_list_end k.Union = true
+is_target_list_end k.Intersect = true
+is_target_list_end k.Except = true
+is_target_list_end k.Order = true
+is_target_list_end k.Limit = true
+is_target_list_end k.Offset = true
+is_target_list_end k.Fetch = true
+is_target_list_end k.For = true
+is_target_list_end _ = false
+
+abbrev pub ends_targets : Symbol → Bool
+ends_targets (s.Keyword w) = is_target_list_end w
+ends_targets _ = false
+
+-- the word that ends the targets of a SELECT
+unfoldable pub target_list_end : Option Terminal → Terminal → List Terminal → Bool
+target_list_end earlier t after = ends_targets t.symbol
+
 -- ---- depth 0
 
 -- How many terminals stand before the first mark of depth 0, all where there is none. Before them stand `earlier`,
@@ -87,6 +194,32 @@ split_from mark earlier o c (t ∷ ts) =
 
 unfoldable pub split : Test → List Terminal → List (List Terminal)
 split mark ts = split_from mark None 0 0 ts
+
+-- ---- bracket lists
+
+-- How many terminals stand up to where as many closers as openers have come, where o openers and c closers stood
+-- earlier.
+abbrev pub closing : ℕ → ℕ → List Terminal → ℕ
+closing o c [] = 0
+closing o c (t ∷ ts) =
+    if o + one_if (is_opener t) == c + one_if (is_closer t) then 1
+    else suc (closing (o + one_if (is_opener t)) (c + one_if (is_closer t)) ts)
+
+abbrev pub is_open_round_symbol : Symbol → Bool
+is_open_round_symbol s.OpenRound = true
+is_open_round_symbol _ = false
+
+abbrev pub begins_list : List Terminal → Bool
+begins_list [] = false
+begins_list (t ∷ ts) = is_open_round_symbol t.symbol
+
+-- what follows the bracket list ( .. ) that stands first
+unfoldable pub behind_list : List Terminal → Option (List Terminal)
+behind_list ts = if begins_list ts then Some (drop (closing 0 0 ts) ts) else None
+
+-- what stands before the first mark of depth 0
+abbrev pub until : Test → List Terminal → List Terminal
+until mark ts = take (before mark ts) ts
 
 -- ---- lists
 

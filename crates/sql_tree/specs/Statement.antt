@@ -1,5 +1,5 @@
 -- Which statement a list of terminals is, and the tree of a text.
-use Rattle.std.specs.Prelude.{◌≡◌, ◌<◌, ℕ, ◌-◌, ◌^◌, take, List, [], ◌∷◌, length, slice_index_or, true, false, if◌then◌else◌, Option, Some, None, Result, Ok, Err}
+use Rattle.std.specs.Prelude.{◌≡◌, ◌<◌, ℕ, ◌-◌, ◌^◌, take, List, [], ◌∷◌, length, slice_index_or, false, not, if◌then◌else◌, Option, Some, None, is_some, Result, Ok, Err}
 use Rattle.std.specs.Option.{option_and_then}
 use Rattle.sql_keyword.specs.declared.words.Keyword.TheVariants as k
 use Rattle.sql_token.specs.declared.token.Span.{Span}
@@ -18,9 +18,14 @@ use Rattle.sql_tree.specs.declared.forms.Captures.{Captures}
 use Rattle.sql_tree.specs.declared.nodes.Body.{Body}
 use Rattle.sql_tree.specs.declared.nodes.Body.TheVariants as body
 use Rattle.sql_tree.specs.declared.nodes.Stmt.{Stmt}
-use Rattle.sql_tree.specs.Forms.{State, rows_of, first_led}
+use Rattle.sql_tree.specs.declared.forms.Shape.{Shape}
+use Rattle.sql_tree.specs.declared.forms.Shape.TheVariants as shape
+use Rattle.sql_tree.specs.Forms.{State, led_by, anything}
 use Rattle.sql_tree.specs.Split.{from_mark, verb}
-use Rattle.sql_tree.specs.Action.{add_constraints}
+use Rattle.sql_tree.specs.Action.{actions_of}
+use Rattle.sql_tree.specs.Column.{elements, drops_on_commit, domain_constraints}
+use Rattle.sql_tree.specs.Write.{targets, view_definition, table_write}
+use Rattle.sql_tree.specs.Tails.{paths_from, reindex, last_cascade, parameter, lock_mode, is_full_vacuum, vacuum_tables}
 
 abbrev pub last_of : List Terminal → Terminal
 last_of ts = slice_index_or ts (length ts - 1) nothing
@@ -39,39 +44,137 @@ unfoldable pub kind_of : StmtKind → State → StmtKind
 kind_of stmt.CreateTable s = table_kind s.left
 kind_of kind s = kind
 
-abbrev pub table_body : Captures → Option Body
-table_body c =
-    option_and_then (λ word. option_and_then (λ path. Some (body.Table c.temp c.guarded false word path [])) c.path) c.word
+unfoldable pub shape_of : StmtKind → Shape
+shape_of stmt.Commit = shape.End
+shape_of stmt.Rollback = shape.End
+shape_of stmt.CreateTable = shape.Table
+shape_of stmt.CreateForeignTable = shape.Table
+shape_of stmt.SelectInto = shape.Into
+shape_of stmt.CreateIndex = shape.Index
+shape_of stmt.DropIndex = shape.Drop
+shape_of stmt.DropTable = shape.Drop
+shape_of stmt.DropType = shape.Drop
+shape_of stmt.Reindex = shape.Reindex
+shape_of stmt.AlterAggregate = shape.Alter
+shape_of stmt.AlterDatabase = shape.Alter
+shape_of stmt.AlterDefaultPrivileges = shape.Alter
+shape_of stmt.AlterDomain = shape.Alter
+shape_of stmt.AlterExtension = shape.Alter
+shape_of stmt.AlterForeignTable = shape.Alter
+shape_of stmt.AlterFunction = shape.Alter
+shape_of stmt.AlterGroup = shape.Alter
+shape_of stmt.AlterIndex = shape.Alter
+shape_of stmt.AlterMaterializedView = shape.Alter
+shape_of stmt.AlterPolicy = shape.Alter
+shape_of stmt.AlterProcedure = shape.Alter
+shape_of stmt.AlterPublication = shape.Alter
+shape_of stmt.AlterRole = shape.Alter
+shape_of stmt.AlterRoutine = shape.Alter
+shape_of stmt.AlterSchema = shape.Alter
+shape_of stmt.AlterSequence = shape.Alter
+shape_of stmt.AlterSystem = shape.Alter
+shape_of stmt.AlterTable = shape.Alter
+shape_of stmt.AlterTrigger = shape.Alter
+shape_of stmt.AlterType = shape.Alter
+shape_of stmt.AlterUser = shape.Alter
+shape_of stmt.AlterView = shape.Alter
+shape_of stmt.CreateDomain = shape.Domain
+shape_of stmt.CreateType = shape.Made
+shape_of stmt.CreateSequence = shape.Made
+shape_of stmt.CreateView = shape.View
+shape_of stmt.CreateMaterializedView = shape.View
+shape_of stmt.CreateFunction = shape.Code
+shape_of stmt.CreateProcedure = shape.Code
+shape_of stmt.CreateTrigger = shape.Code
+shape_of stmt.CreateRule = shape.Code
+shape_of stmt.CreateAggregate = shape.Code
+shape_of stmt.Truncate = shape.Truncate
+shape_of stmt.Set = shape.Setting
+shape_of stmt.Lock = shape.Locking
+shape_of stmt.Refresh = shape.Refresh
+shape_of stmt.Vacuum = shape.Vacuum
+shape_of stmt.Cluster = shape.Cluster
+shape_of stmt.Insert = shape.Write
+shape_of stmt.Update = shape.Write
+shape_of stmt.Merge = shape.Write
+shape_of _ = shape.Kept
+
+abbrev pub table_body : State → Option Body
+table_body s =
+    option_and_then (λ word. option_and_then (λ path.
+    Some (body.Table s.kept.temp s.kept.guarded (drops_on_commit s.left) word path (elements s.left))) s.kept.path) s.kept.word
 
 abbrev pub index_body : Captures → Option Body
 index_body c =
     option_and_then (λ word. option_and_then (λ path.
     Some (body.Index word c.unique c.concurrently c.guarded c.name path)) c.path) c.word
 
--- What SELECT INTO gives is not read yet: it has no targets.
-abbrev pub into_body : Captures → Option Body
-into_body c = option_and_then (λ path. Some (body.Into path [])) c.path
+-- the table of SELECT INTO, and what it gives, by what follows the word SELECT
+abbrev pub into_body : Captures → List Terminal → Option Body
+into_body c query = option_and_then (λ path. Some (body.Into path (targets query))) c.path
 
--- So far an ALTER TABLE only adds constraints.
-abbrev pub alter_body : State → Option Body
-alter_body s = option_and_then (λ actions. Some (body.Alter s.kept.path actions)) (add_constraints s.left)
+-- the paths of DROP: the first one and those that follow
+abbrev pub drop_body : State → Option Body
+drop_body s =
+    option_and_then (λ word. option_and_then (λ path.
+    Some (body.Drop word (is_some s.kept.concurrently) s.kept.guarded (paths_from path.first path.last s.left))) s.kept.path) s.kept.word
 
--- None where its tail is none of its kind
-unfoldable pub body_of : StmtKind → State → Option Body
-body_of stmt.Commit s = Some (body.End true s.kept.chain)
-body_of stmt.Rollback s = Some (body.End true s.kept.chain)
-body_of stmt.CreateTable s = table_body s.kept
-body_of stmt.CreateIndex s = index_body s.kept
-body_of stmt.SelectInto s = into_body s.kept
-body_of stmt.AlterTable s = alter_body s
-body_of kind s = Some body.Kept
+abbrev pub alter_body : StmtKind → State → Option Body
+alter_body kind s = option_and_then (λ actions. Some (body.Alter s.kept.path actions)) (actions_of kind s.left)
 
-unfoldable pub told : StmtKind × State → Option (StmtKind × Body)
-told f = option_and_then (λ b. Some (kind_of f.0 f.1, b)) (body_of f.0 f.1)
+abbrev pub domain_body : List Terminal → Option Body
+domain_body tail = option_and_then (λ constraints. Some (body.Domain constraints)) (domain_constraints tail)
 
--- the kind of a statement that begins with this symbol, and what its form keeps
+abbrev pub made_body : Captures → Option Body
+made_body c = option_and_then (λ path. Some (body.Made path c.guarded)) c.path
+
+abbrev pub end_body : Captures → Body
+end_body c = body.End (not c.not_plain) c.chain
+
+abbrev pub view_body : State → Body
+view_body s = body.View (view_definition s.kept.replace s.left)
+
+abbrev pub vacuum_body : List Terminal → Body
+vacuum_body tail = body.Vacuum (is_full_vacuum tail) (vacuum_tables tail)
+
+abbrev pub cluster_body : Captures → Body
+cluster_body c = body.Cluster c.path c.name
+
+abbrev pub write_body : StmtKind → State → Option Body
+write_body kind s = option_and_then (λ path. Some (body.Write (table_write kind path s.left))) s.kept.path
+
+-- What the form of a kind keeps, by what follows the first word: None where the tail is none of its kind.
+unfoldable pub body_by : Shape → StmtKind → State → List Terminal → Option Body
+body_by shape.Kept kind s ts = Some body.Kept
+body_by shape.End kind s ts = Some (end_body s.kept)
+body_by shape.Table kind s ts = table_body s
+body_by shape.Into kind s ts = into_body s.kept ts
+body_by shape.Index kind s ts = index_body s.kept
+body_by shape.Drop kind s ts = drop_body s
+body_by shape.Reindex kind s ts = reindex s.left
+body_by shape.Alter kind s ts = alter_body kind s
+body_by shape.Domain kind s ts = domain_body s.left
+body_by shape.Made kind s ts = made_body s.kept
+body_by shape.View kind s ts = Some (view_body s)
+body_by shape.Code kind s ts = Some (body.Code s.kept.replace)
+body_by shape.Truncate kind s ts = Some (body.Truncate (last_cascade s.left))
+body_by shape.Setting kind s ts = Some (body.Setting (parameter s.left))
+body_by shape.Locking kind s ts = Some (body.Locking (lock_mode s.left))
+body_by shape.Refresh kind s ts = Some (body.Refresh (is_some s.kept.concurrently))
+body_by shape.Vacuum kind s ts = Some (vacuum_body s.left)
+body_by shape.Cluster kind s ts = Some (cluster_body s.kept)
+body_by shape.Write kind s ts = write_body kind s
+
+-- the kind and the body of a statement of which so much was kept and left, of those terminals behind its first word
+unfoldable pub told : List Terminal → StmtKind × State → Option (StmtKind × Body)
+told ts f = option_and_then (λ b. Some (kind_of f.0 f.1, b)) (body_by (shape_of f.0) f.0 f.1 ts)
+
+-- ---- the first word
+
+-- the kind of a statement that begins with this symbol, and what its form keeps of what follows
 unfoldable pub front_by : Symbol → List Terminal → Option (StmtKind × State)
-front_by (symbol.Keyword w) ts = first_led (rows_of w) ts
+front_by (symbol.Keyword w) ts = led_by w ts
+front_by symbol.OpenRound ts = Some (anything stmt.ParenSelect ts)
 front_by _ ts = None
 
 -- A statement led by WITH is read from its verb on, the first one at depth 0.
@@ -79,14 +182,15 @@ unfoldable pub from_verb : List Terminal → List Terminal
 from_verb [] = []
 from_verb (t ∷ ts) = if is_keyword k.With t then from_mark verb ts else t ∷ ts
 
-unfoldable pub front_of : List Terminal → Option (StmtKind × State)
-front_of [] = None
-front_of (t ∷ ts) = front_by t.symbol ts
+-- Without a verb it is a SELECT of which nothing is known.
+unfoldable pub form_from : List Terminal → Option (StmtKind × Body)
+form_from [] = Some (stmt.Select, body.Kept)
+form_from (t ∷ ts) = option_and_then (told ts) (front_by t.symbol ts)
 
 -- the kind of a statement without its semicolon, and what is known of it
 unfoldable pub form_of : List Terminal → Option (StmtKind × Body)
 form_of [] = Some (stmt.Empty, body.Kept)
-form_of (t ∷ ts) = option_and_then told (front_of (from_verb (t ∷ ts)))
+form_of (t ∷ ts) = form_from (from_verb (t ∷ ts))
 
 -- ---- statements and trees
 

@@ -1,14 +1,14 @@
 //! The forms of statements as data: a form is a row of a table, and one reader reads every row.
 //!
 //! A row has the kind of its statements, the lead words behind the first word, and what follows them. The rows of a
-//! first word stand in one table; a statement is read by the first row of it whose lead words stand, so a longer lead
-//! stands before a shorter one that begins it. The definitions (`specs/Forms.antt`) and the code read the same tables.
+//! first word stand in one table, those of CREATE, ALTER and DROP in one table for each family of objects; a statement
+//! is read by the first row of its table whose lead words stand, so a longer lead stands before a shorter one that
+//! begins it. The definitions (`specs/Forms.antt`) and the code read the same tables.
 //!
-//! The forms are those of the PostgreSQL manual, part VI, SQL Commands, as far as the linter looks into them.
+//! The forms are those of the PostgreSQL manual, part VI, SQL Commands, as far as the linter looks into them. A
+//! statement that it doesn't look into has a row with its lead words and anything behind them.
 
-use crate::kinds::StmtKind::{
-    self, AlterTable, Begin, Commit, CreateIndex, CreateTable, Rollback, SelectInto,
-};
+use crate::kinds::{ActionKind, StmtKind};
 use sql_token::{Keyword as K, Span};
 
 /// What a form tells by words that stand or do not.
@@ -22,6 +22,12 @@ pub enum Mark {
     Guarded,
     /// AND CHAIN.
     Chain,
+    /// OR REPLACE.
+    Replace,
+    /// PREPARED, or TO behind ROLLBACK.
+    NotPlain,
+    /// BEFORE or AFTER behind a new value.
+    Placed,
 }
 
 /// Words that stand together.
@@ -31,6 +37,17 @@ pub enum Phrase {
     IfNotExists,
     AndChain,
     AndNoChain,
+    OrReplace,
+    SetData,
+}
+
+/// A class of words.
+#[derive(Clone, Copy, Debug, PartialEq, Eq)]
+pub enum WordClass {
+    /// The words that begin an option of ALTER SEQUENCE.
+    SequenceOption,
+    /// The words that begin the options of ALTER FUNCTION.
+    FunctionOption,
 }
 
 /// A part of a form. A part in square brackets is optional, and taken wherever it stands.
@@ -38,10 +55,16 @@ pub enum Phrase {
 pub enum Part {
     /// This word.
     Word(K),
+    /// A word of this class.
+    AnyOf(WordClass),
     /// This word, which names the kind of object: its number is kept.
     Object(K),
+    /// `[WORD]`: its number is kept.
+    MaybeObject(K),
     /// `[WORD]`, told by the mark.
     Flag(K, Mark),
+    /// Nothing at all: the mark is told.
+    Tell(Mark),
     /// `[A or B]`.
     Either(K, K),
     /// `[PHRASE]`, told by the mark.
@@ -54,14 +77,28 @@ pub enum Part {
     IndexName,
     /// Any of GLOBAL, LOCAL, TEMP, TEMPORARY, UNLOGGED, as many as stand.
     Mods,
+    /// A name: its number is kept.
+    Name,
+    /// A name, of which nothing is kept.
+    AnyName,
     /// Names with dots between them, as far as they go: the first and the last one are kept.
     Path,
+    /// A string: its number is kept, as that of a name.
+    Str,
+    /// `( any terminals )`.
+    List,
+    /// `[( any terminals )]`.
+    MaybeList,
     /// `[*]`.
     Star,
     /// Any terminals and the word INTO, the first one at depth 0 that follows neither the word AS nor a dot.
     Into,
+    /// Any terminals before the first word GRANT or REVOKE of depth 0, with which the tail begins.
+    Privileges,
     /// Any terminals to the end: the tail of the statement.
     Rest,
+    /// The same, at least one terminal.
+    Tail,
 }
 
 /// What reading a form keeps, by token numbers. What a form does not have is `None` or false.
@@ -75,6 +112,9 @@ pub struct Captures {
     pub temp: bool,
     pub guarded: bool,
     pub chain: bool,
+    pub replace: bool,
+    pub not_plain: bool,
+    pub placed: bool,
     /// Whether any terminals may follow.
     pub open_ended: bool,
 }
@@ -82,76 +122,46 @@ pub struct Captures {
 /// A table of rows: kind, lead words behind the first, what follows.
 pub type Rows = &'static [(StmtKind, &'static [Part], &'static [Part])];
 
-/// BEGIN.
-pub const BEGIN: [(StmtKind, &[Part], &[Part]); 1] = [(Begin, &[], &[Part::Rest])];
+/// A table of rows of ALTER actions: kind, and all that the action is made of. An action is read by the first row that
+/// reads it whole.
+pub type ActionRows = &'static [(ActionKind, &'static [Part])];
 
-/// START.
-pub const START: [(StmtKind, &[Part], &[Part]); 1] = [(
-    Begin,
-    &[Part::Word(K::Transaction)],
-    &[Part::Rest],
-)];
+/// Objects by the word that names them, or that may stand before it: each family has a table of rows of CREATE, one of
+/// ALTER and one of DROP.
+#[derive(Clone, Copy, Debug, PartialEq, Eq)]
+pub enum Family {
+    /// Tables, indexes, views, sequences.
+    Relation,
+    /// Functions, triggers, rules, policies, languages.
+    Code,
+    /// Types, domains, casts, operators.
+    DataType,
+    /// Roles, databases, servers, publications.
+    Service,
+    /// All else.
+    Other,
+}
 
-/// COMMIT and END.
-pub const COMMIT: [(StmtKind, &[Part], &[Part]); 1] = [(
-    Commit,
-    &[],
-    &[Part::Either(K::Work, K::Transaction), Part::Chain],
-)];
-
-/// ROLLBACK and ABORT.
-pub const ROLLBACK: [(StmtKind, &[Part], &[Part]); 1] = [(
-    Rollback,
-    &[],
-    &[Part::Either(K::Work, K::Transaction), Part::Chain],
-)];
-
-/// CREATE.
-pub const CREATE: [(StmtKind, &[Part], &[Part]); 2] = [
-    (
-        CreateIndex,
-        &[Part::Flag(K::Unique, Mark::Unique), Part::Object(K::Index)],
-        &[
-            Part::Concurrently,
-            Part::IndexName,
-            Part::Word(K::On),
-            Part::Flag(K::Only, Mark::Nothing),
-            Part::Path,
-            Part::Rest,
-        ],
-    ),
-    (
-        CreateTable,
-        &[Part::Mods, Part::Object(K::Table)],
-        &[
-            Part::Maybe(Phrase::IfNotExists, Mark::Guarded),
-            Part::Path,
-            Part::Rest,
-        ],
-    ),
-];
-
-/// ALTER.
-pub const ALTER: [(StmtKind, &[Part], &[Part]); 1] = [(
-    AlterTable,
-    &[Part::Object(K::Table)],
-    &[
-        Part::Maybe(Phrase::IfExists, Mark::Guarded),
-        Part::Flag(K::Only, Mark::Nothing),
-        Part::Path,
-        Part::Star,
-        Part::Rest,
-    ],
-)];
-
-/// SELECT.
-pub const SELECT: [(StmtKind, &[Part], &[Part]); 1] = [(
-    SelectInto,
-    &[
-        Part::Into,
-        Part::Mods,
-        Part::Flag(K::Table, Mark::Nothing),
-        Part::Path,
-    ],
-    &[Part::Rest],
-)];
+/// What is kept of the statements of a kind: a variant of `Body` each.
+#[derive(Clone, Copy, Debug, PartialEq, Eq)]
+pub enum Shape {
+    Kept,
+    End,
+    Table,
+    Into,
+    Index,
+    Drop,
+    Reindex,
+    Alter,
+    Domain,
+    Made,
+    View,
+    Code,
+    Truncate,
+    Setting,
+    Locking,
+    Refresh,
+    Vacuum,
+    Cluster,
+    Write,
+}

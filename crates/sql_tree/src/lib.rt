@@ -1,12 +1,18 @@
 //! The tree of a SQL text: its types, and the definitions of which text has which tree.
 #![tactic(auto)]
 
+pub mod actions;
+pub mod alter_forms;
+pub mod create_forms;
+pub mod drop_forms;
 pub mod forms;
 mod kinds;
 pub mod laws;
 mod nodes;
+pub mod other_forms;
 mod parse;
 mod path;
+mod shape;
 
 pub use kinds::{ActionKind, PieceKind, StmtKind};
 pub use nodes::{
@@ -15,4 +21,5 @@ pub use nodes::{
 };
 pub use parse::Parse;
 pub use path::NamePath;
+pub use shape::Shape;
 pub use sql_token::{Keyword, Span, Symbol, Terminal, Tok, TokKind};

@@ -27,6 +27,8 @@ use Rattle.lint_ignore.specs.Found.{all_said, found_in, ignore_comments, nothing
 use Rattle.lint_track.specs.Earlier.{pieces_below}
 use Rattle.lint_track.specs.Transaction.{stmt_at, is_new}
 use Rattle.lint_pass.specs.Pieces.{no_piece}
+use Rattle.pass_drop.specs.declared.statement_ban.StatementBan.TheVariants.{DropDatabase}
+use Rattle.pass_drop.specs.StatementBan as ban
 use Rattle.pass_lock.specs.ConstraintMissingNotValid as constraint
 use Rattle.pass_lock.specs.ConstraintMissingNotValid.{addition_report, validation_report}
 use Rattle.pass_lock.specs.RequireConcurrentIndexCreation as build
@@ -34,10 +36,10 @@ use Rattle.pass_lock.specs.RequireConcurrentIndexCreation.{report}
 use Rattle.squawk_linter.specs.Answers.{reports}
 use Rattle.squawk_linter.specs.ByStart.{by_key}
 use Rattle.squawk_linter.specs.Headline.{Entry, HasNoIgnoreComment, addition_entry, additions_at, alteration_entries, build_at, build_entry, built, entries_of, headline_of, headline_reports, is_adding, is_alter_table, is_on_new, is_scanned, is_told}
-use Rattle.squawk_linter.specs.OwnTable.{own_table}
+use Rattle.pass_groups.specs.OwnTable.{own_table}
 use Rattle.squawk_linter.specs.Reports.{cleared, reports_from, start_of, with_unknown_names}
 use Rattle.squawk_linter.proofs.Gathering.{gathered_plain}
-use Rattle.squawk_linter.proofs.Tables.{validations_all}
+use Rattle.squawk_linter.proofs.Tables.{bans_all, validations_all}
 
 -- ---- filters, maps and the order of places
 
@@ -135,6 +137,11 @@ none_told (v ∷ vs) h =
     (λ i. map (λ r. (r.code, r.text_range)) (if All-head (λ r. is_told r.code r.message ≡ false) v vs h i then v ∷ filter (λ r. is_told r.code r.message) vs else filter (λ r. is_told r.code r.message) vs))
     ∙ none_told vs (All-tail (λ r. is_told r.code r.message ≡ false) v vs h)
 
+-- a dropped database is not told
+dropped_told : (tree : Tree) (rules : Rules) (settings : LinterSettings) → headline_of (ban.reports_of_ban DropDatabase tree rules settings) ≡ []
+dropped_told tree rules settings =
+    none_told (ban.reports_of_ban DropDatabase tree rules settings) (bans_all (λ r. is_told r.code r.message ≡ false) DropDatabase tree rules settings (λ s. refl))
+
 validation_not_told : (tree : Tree) (a : Action) → is_told (validation_report tree a).code (validation_report tree a).message ≡ false
 unfolding validation_report
 validation_not_told tree a = refl
@@ -220,8 +227,12 @@ headline_in tree rules settings h =
     let set : LinterSettings = cleared tree settings in
     let table : List Violation = own_table tree rules set in
     let n : ℕ = length tree.text + 1 in
+    let dropped : List Violation = ban.reports_of_ban DropDatabase tree rules set in
+    let constraints : List Violation = constraint.reports_of_constraint_missing_not_valid tree rules set in
+    let builds : List Entry = entries_of tree rules rule.RequireConcurrentIndexCreation (build_at set.assume_in_transaction tree) in
     let parts : headline_of table ≡ entries_of tree rules rule.ConstraintMissingNotValid (additions_at set.assume_in_transaction tree) ++ entries_of tree rules rule.RequireConcurrentIndexCreation (build_at set.assume_in_transaction tree) =
-    headline-append (constraint.reports_of_constraint_missing_not_valid tree rules set) (build.reports_of_require_concurrent_index_creation tree rules set)
-    ∙ ((λ i. headline-append (constraint.reports_of_validations tree rules set) (constraint.reports_of_additions tree rules set) i ++ builds_told tree rules set i)
-    ∙ (λ i. (validations_told tree rules set i ++ additions_told tree rules set i) ++ entries_of tree rules rule.RequireConcurrentIndexCreation (build_at set.assume_in_transaction tree))) in
+    headline-append (dropped ++ constraints) (build.reports_of_require_concurrent_index_creation tree rules set)
+    ∙ ((λ i. headline-append dropped constraints i ++ builds_told tree rules set i)
+    ∙ ((λ i. (dropped_told tree rules set i ++ headline-append (constraint.reports_of_validations tree rules set) (constraint.reports_of_additions tree rules set) i) ++ builds)
+    ∙ (λ i. (validations_told tree rules set i ++ additions_told tree rules set i) ++ builds))) in
     ap headline_of (plain_answer tree table rules h) ∙ (headline_by_start n table ∙ ap (λ es. by_key (λ e. e.1.start) n es) parts)

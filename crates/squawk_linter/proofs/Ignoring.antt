@@ -22,7 +22,7 @@ use Rattle.lint_ignore.specs.Index.{is_bare_file, is_file}
 use Rattle.lint_ignore.specs.Unused.{unused_names}
 use Rattle.squawk_linter.specs.ByStart.{by_key}
 use Rattle.squawk_linter.specs.Answers.{reports}
-use Rattle.squawk_linter.specs.OwnTable.{own_table}
+use Rattle.pass_groups.specs.OwnTable.{own_table}
 use Rattle.squawk_linter.specs.Reports.{cleared, has_bare_file_ignore, is_left, reports_from, start_of, unused_of, with_unknown_names}
 
 -- ---- linting again

@@ -28,13 +28,17 @@ use Rattle.lint_ignore.specs.Places.{IsPlace}
 use Rattle.lint_pass.specs.Ranges.{LiesIn}
 use Rattle.lint_track.specs.Earlier.{pieces_below}
 use Rattle.lint_track.specs.Transaction.{is_open, stmt_at}
+use Rattle.pass_drop.specs.declared.statement_ban.StatementBan.{StatementBan}
+use Rattle.pass_drop.specs.declared.statement_ban.StatementBan.TheVariants.{DropDatabase}
+use Rattle.pass_drop.specs.SameKind.{same_kind}
+use Rattle.pass_drop.specs.StatementBan as ban
 use Rattle.pass_lock.specs.ConstraintMissingNotValid as constraint
 use Rattle.pass_lock.specs.ConstraintMissingNotValid.{addition_report, validation_report}
 use Rattle.pass_lock.specs.RequireConcurrentIndexCreation as build
 use Rattle.pass_lock.specs.RequireConcurrentIndexCreation.{report}
 use Rattle.squawk_linter.specs.Answers.{reports}
 use Rattle.squawk_linter.specs.Laws.{reports_by}
-use Rattle.squawk_linter.specs.OwnTable.{own_table}
+use Rattle.pass_groups.specs.OwnTable.{own_table}
 use Rattle.squawk_linter.specs.Reports.{cleared}
 use Rattle.squawk_linter.proofs.Gathering.{answer_placed}
 
@@ -58,6 +62,18 @@ flat_all P f (x ∷ xs) h = All-append P (f x) (flat_map f xs) (h x) (flat_all P
 
 one_all : {X : Type 0} (P : X → Type 0) (x : X) → P x → All P (x ∷ [])
 one_all P x h = All-cons P x [] h (All-nil P)
+
+-- ---- statements of a kind
+
+-- what holds of each report of a statement
+pub bans_all : (P : Violation → Type 0) (b : StatementBan) (tree : Tree) (rules : Rules) (settings : LinterSettings) → ((s : Stmt) → P (ban.report b tree s))
+    → All P (ban.reports_of_ban b tree rules settings)
+bans_all P b tree rules settings h =
+    pieces_all P (ban.reports_at b tree rules settings) (length tree.stmts)
+    (λ i. where_all P (has rules (ban.rule_of b)) (ban.reports_of b tree (stmt_at tree i)) (of_statement (stmt_at tree i)))
+  where
+    of_statement : (s : Stmt) → All P (ban.reports_of b tree s)
+    of_statement s = where_all P (same_kind s.kind (ban.kind_of b)) (ban.report b tree s ∷ []) (one_all P (ban.report b tree s) (h s))
 
 -- ---- index builds
 
@@ -137,6 +153,9 @@ span_place tree first last is utf8 =
     let b = token_place tree last is utf8 in
     record { ordered = omega arith; start = a.0; end = later tree.text (token_at tree.toks first).start (token_at tree.toks last).end a.0 b.1 }
 
+ban_place : (b : StatementBan) (tree : Tree) (s : Stmt) → IsTree tree → IsUtf8 tree.text → IsPlace tree.text (ban.report b tree s).text_range
+ban_place b tree s is utf8 = span_place tree s.first s.last is utf8
+
 build_place : (tree : Tree) (s : Stmt) (word : ℕ) → IsTree tree → IsUtf8 tree.text → IsPlace tree.text (report tree s word).text_range
 unfolding report
 build_place tree s word is utf8 = span_place tree s.first s.last is utf8
@@ -153,8 +172,14 @@ addition_place tree a is utf8 = span_place tree a.first a.last is utf8
 pub own_placed : (tree : Tree) (rules : Rules) (settings : LinterSettings) → IsTree tree → IsUtf8 tree.text → All (λ v. IsPlace tree.text v.text_range) (own_table tree rules settings)
 own_placed tree rules settings is utf8 =
     let P : Violation → Type 0 = λ v. IsPlace tree.text v.text_range in
-    All-append P (constraint.reports_of_constraint_missing_not_valid tree rules settings) (build.reports_of_require_concurrent_index_creation tree rules settings)
-    (constraints_all P tree rules settings (λ a. validation_place tree a is utf8) (λ a. addition_place tree a is utf8)) (builds_all P tree rules settings (λ s word. build_place tree s word is utf8))
+    let dropped : List Violation = ban.reports_of_ban DropDatabase tree rules settings in
+    let constraints : List Violation = constraint.reports_of_constraint_missing_not_valid tree rules settings in
+    let builds : List Violation = build.reports_of_require_concurrent_index_creation tree rules settings in
+    All-append P (dropped ++ constraints) builds
+    (All-append P dropped constraints
+    (bans_all P DropDatabase tree rules settings (λ s. ban_place DropDatabase tree s is utf8))
+    (constraints_all P tree rules settings (λ a. validation_place tree a is utf8) (λ a. addition_place tree a is utf8)))
+    (builds_all P tree rules settings (λ s word. build_place tree s word is utf8))
 
 pub own_lie : (tree : Tree) (rules : Rules) (settings : LinterSettings) → IsTree tree → IsUtf8 tree.text → All (LiesIn tree) (own_table tree rules settings)
 own_lie tree rules settings is utf8 =
@@ -202,6 +227,10 @@ apart c r q some others differ same first second =
       | inr other ↦ none_by q c some other first ∙ sym (none_by q c others other second)
     ]
 
+bans_same : (b : StatementBan) (tree : Tree) (some others : Rules) (settings : LinterSettings) → has some (ban.rule_of b) ≡ has others (ban.rule_of b)
+    → ban.reports_of_ban b tree some settings ≡ ban.reports_of_ban b tree others settings
+bans_same b tree some others settings e = λ i. pieces_below (λ k. if e i then ban.reports_of b tree (stmt_at tree k) else []) (length tree.stmts)
+
 builds_same : (tree : Tree) (some others : Rules) (settings : LinterSettings) → has some rule.RequireConcurrentIndexCreation ≡ has others rule.RequireConcurrentIndexCreation
     → build.reports_of_require_concurrent_index_creation tree some settings ≡ build.reports_of_require_concurrent_index_creation tree others settings
 builds_same tree some others settings e = λ i. pieces_below (λ k. if e i then build.reports_of settings tree k (stmt_at tree k) else []) (length tree.stmts)
@@ -212,15 +241,42 @@ constraints_same tree some others settings e = λ i.
     pieces_below (λ k. if e i && is_open settings.assume_in_transaction tree k then constraint.validations tree (λ name. constraint.is_added settings.assume_in_transaction tree name k) (constraint.actions_of (stmt_at tree k)) else []) (length tree.stmts)
     ++ pieces_below (λ k. if e i then constraint.additions_of settings tree k (stmt_at tree k) else []) (length tree.stmts)
 
+bans_apart : (b : StatementBan) (tree : Tree) (rules : Rules) (settings : LinterSettings) (r q : Rule) → q ≢ r
+    → reports_by q (ban.reports_of_ban b tree (with_rule rules r) settings) ≡ reports_by q (ban.reports_of_ban b tree rules settings)
+bans_apart b tree rules settings r q differ =
+    let more : Rules = with_rule rules r in
+    let c : Rule = ban.rule_of b in
+    apart c r q (ban.reports_of_ban b tree more settings) (ban.reports_of_ban b tree rules settings) differ (λ other. bans_same b tree more rules settings (has-with_rule_other rules c r other))
+    (bans_all (HasCode c) b tree more settings (λ s. refl)) (bans_all (HasCode c) b tree rules settings (λ s. refl))
+
+constraints_apart : (tree : Tree) (rules : Rules) (settings : LinterSettings) (r q : Rule) → q ≢ r
+    → reports_by q (constraint.reports_of_constraint_missing_not_valid tree (with_rule rules r) settings) ≡ reports_by q (constraint.reports_of_constraint_missing_not_valid tree rules settings)
+constraints_apart tree rules settings r q differ =
+    let more : Rules = with_rule rules r in
+    let c : Rule = rule.ConstraintMissingNotValid in
+    apart c r q (constraint.reports_of_constraint_missing_not_valid tree more settings) (constraint.reports_of_constraint_missing_not_valid tree rules settings) differ
+    (λ other. constraints_same tree more rules settings (has-with_rule_other rules c r other))
+    (constraints_all (HasCode c) tree more settings (validation_code tree) (addition_code tree)) (constraints_all (HasCode c) tree rules settings (validation_code tree) (addition_code tree))
+
+builds_apart : (tree : Tree) (rules : Rules) (settings : LinterSettings) (r q : Rule) → q ≢ r
+    → reports_by q (build.reports_of_require_concurrent_index_creation tree (with_rule rules r) settings) ≡ reports_by q (build.reports_of_require_concurrent_index_creation tree rules settings)
+builds_apart tree rules settings r q differ =
+    let more : Rules = with_rule rules r in
+    let c : Rule = rule.RequireConcurrentIndexCreation in
+    apart c r q (build.reports_of_require_concurrent_index_creation tree more settings) (build.reports_of_require_concurrent_index_creation tree rules settings) differ
+    (λ other. builds_same tree more rules settings (has-with_rule_other rules c r other))
+    (builds_all (HasCode c) tree more settings (build_code tree)) (builds_all (HasCode c) tree rules settings (build_code tree))
+
+-- two lists one behind the other
+both_apart : (q : Rule) (a b c d : List Violation) → reports_by q a ≡ reports_by q b → reports_by q c ≡ reports_by q d → reports_by q (a ++ c) ≡ reports_by q (b ++ d)
+both_apart q a b c d first second = filter-append (λ x. same_rule q x.code) a c ∙ ((λ i. first i ++ second i) ∙ sym (filter-append (λ x. same_rule q x.code) b d))
+
 pub rules_apart : (tree : Tree) (rules : Rules) (settings : LinterSettings) (r q : Rule) → q ≢ r → reports_by q (own_table tree (with_rule rules r) settings) ≡ reports_by q (own_table tree rules settings)
 rules_apart tree rules settings r q differ =
     let more : Rules = with_rule rules r in
+    let dropped : Rules → List Violation = λ rs. ban.reports_of_ban DropDatabase tree rs settings in
     let constraints : Rules → List Violation = λ rs. constraint.reports_of_constraint_missing_not_valid tree rs settings in
     let builds : Rules → List Violation = λ rs. build.reports_of_require_concurrent_index_creation tree rs settings in
-    let first : reports_by q (constraints more) ≡ reports_by q (constraints rules) =
-    apart rule.ConstraintMissingNotValid r q (constraints more) (constraints rules) differ (λ other. constraints_same tree more rules settings (has-with_rule_other rules rule.ConstraintMissingNotValid r other))
-    (constraints_all (HasCode rule.ConstraintMissingNotValid) tree more settings (validation_code tree) (addition_code tree)) (constraints_all (HasCode rule.ConstraintMissingNotValid) tree rules settings (validation_code tree) (addition_code tree)) in
-    let second : reports_by q (builds more) ≡ reports_by q (builds rules) =
-    apart rule.RequireConcurrentIndexCreation r q (builds more) (builds rules) differ (λ other. builds_same tree more rules settings (has-with_rule_other rules rule.RequireConcurrentIndexCreation r other))
-    (builds_all (HasCode rule.RequireConcurrentIndexCreation) tree more settings (build_code tree)) (builds_all (HasCode rule.RequireConcurrentIndexCreation) tree rules settings (build_code tree)) in
-    filter-append (λ x. same_rule q x.code) (constraints more) (builds more) ∙ ((λ i. first i ++ second i) ∙ sym (filter-append (λ x. same_rule q x.code) (constraints rules) (builds rules)))
+    both_apart q (dropped more ++ constraints more) (dropped rules ++ constraints rules) (builds more) (builds rules)
+    (both_apart q (dropped more) (dropped rules) (constraints more) (constraints rules) (bans_apart DropDatabase tree rules settings r q differ) (constraints_apart tree rules settings r q differ))
+    (builds_apart tree rules settings r q differ)

@@ -8,7 +8,7 @@ use Rattle.sql_read.specs.Cause.{IsTreeOf}
 use Rattle.lint_base.specs.declared.settings.LinterSettings.{LinterSettings}
 use Rattle.lint_base.specs.declared.violation.Violation.{Violation}
 use Rattle.lint_base.specs.RuleSets.{Rules}
-use Rattle.squawk_linter.specs.OwnTable.{own_table}
+use Rattle.pass_groups.specs.OwnTable.{own_table}
 use Rattle.squawk_linter.specs.Reports.{cleared, reports_from}
 
 -- The answer of a linter for a tree: that of its own passes, under its rules and settings, the flag cleared.

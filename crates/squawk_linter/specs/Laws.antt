@@ -13,7 +13,7 @@ use Rattle.lint_ignore.specs.Covered.{covers}
 use Rattle.lint_ignore.specs.Found.{found_in}
 use Rattle.squawk_linter.specs.Answers.{reports}
 use Rattle.squawk_linter.specs.Headline.{HasNoIgnoreComment, headline_of, headline_reports}
-use Rattle.squawk_linter.specs.OwnTable.{own_table}
+use Rattle.pass_groups.specs.OwnTable.{own_table}
 use Rattle.squawk_linter.specs.Reports.{cleared, has_bare_file_ignore, reports_from}
 
 -- The settings that a linter keeps behind its first answer give the same answer again.

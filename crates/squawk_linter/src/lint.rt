@@ -7,16 +7,16 @@ ghost use Rattle.lint_ignore.specs.Places.{IsPlace};
 ghost use Rattle.lint_pass.specs.Cleared.{IsCleared};
 ghost use Rattle.lint_pass.specs.Ranges.{AllLieIn};
 ghost use Rattle.squawk_linter.specs.Answers.{IsAnswer, SettingsAfter, reports};
-ghost use Rattle.squawk_linter.specs.OwnTable.{own_table};
+ghost use Rattle.pass_groups.specs.OwnTable.{own_table};
 ghost use Rattle.squawk_linter.specs.Headline.{HasNoIgnoreComment, headline_of, headline_reports};
 ghost use Rattle.squawk_linter.specs.Reports.{cleared, reports_from};
 
 use crate::answer::answer;
 use crate::linter::Linter;
-use crate::own::OwnPasses;
 use lint_base::{LinterSettings, Reports, RuleSet, Violation};
 use lint_ignore::has_disable_assume_in_transaction;
 use lint_pass::{Pass, Steps, drive};
+use pass_groups::OwnPasses;
 use sql_read::{LintError, parse};
 use sql_tree::Parse;
 use std::alloc::Global;

@@ -57,6 +57,11 @@ const INDEX: &str =
 const CONSTRAINT: &str =
     "constraint-missing-not-valid]: by default new constraints require a table scan and block writes to the table while that scan occurs\n  help: use `not valid` with a later `validate constraint` call\n";
 
+const VALIDATION: &str =
+    "constraint-missing-not-valid]: using `not valid` and `validate constraint` in the same transaction will block all reads while the constraint is validated\n  help: add constraint as `not valid` in one transaction and `validate constraint` in a separate transaction\n";
+
+const DATABASE: &str = "ban-drop-database]: dropping a database may break existing clients\n";
+
 /// The printed form of one report, which a row tells by its range, what it is of, and a place or a name.
 fn printed(alloc: Global, report: &str) -> Result<String, Fail> {
     let (range, rest) = report.split_once(' ').unwrap_or((report, ""));
@@ -64,6 +69,8 @@ fn printed(alloc: Global, report: &str) -> Result<String, Fail> {
     Ok(match kind {
         "index" => format!(in alloc; "{range}: warning[{INDEX}{told} \" concurrently\"\n")?,
         "constraint" => format!(in alloc; "{range}: warning[{CONSTRAINT}")?,
+        "validation" => format!(in alloc; "{range}: warning[{VALIDATION}")?,
+        "database" => format!(in alloc; "{range}: warning[{DATABASE}")?,
         "unknown" => format!(in alloc; "{range}: warning[unused-ignore]: unknown name `{told}`\n")?,
         _ => format!(in alloc; "{range}: warning[unused-ignore]: unused ignore `{told}`\n")?,
     })

@@ -233,6 +233,61 @@ const ROWS: &[(&str, &str, &str)] = &[
         "21..38 constraint",
     ),
     (
+        "--only constraint-missing-not-valid",
+        "BEGIN; ALTER TABLE t ADD CONSTRAINT k CHECK (a > 0) NOT VALID; ALTER TABLE t VALIDATE CONSTRAINT k; COMMIT;",
+        "77..98 validation",
+    ),
+    (
+        "--only constraint-missing-not-valid",
+        "BEGIN; ALTER TABLE t ADD CONSTRAINT k CHECK (a > 0) NOT VALID; ROLLBACK; ALTER TABLE t VALIDATE CONSTRAINT k;",
+        "",
+    ),
+    (
+        "--only constraint-missing-not-valid",
+        "BEGIN; ALTER TABLE t ADD CONSTRAINT k CHECK (a > 0) NOT VALID; COMMIT AND CHAIN; ALTER TABLE t VALIDATE CONSTRAINT k;",
+        "",
+    ),
+    (
+        "--only constraint-missing-not-valid",
+        "BEGIN; ALTER TABLE t ADD CONSTRAINT k CHECK (a > 0) NOT VALID; ROLLBACK TO s; ALTER TABLE u VALIDATE CONSTRAINT K;",
+        "92..113 validation",
+    ),
+    (
+        "--only constraint-missing-not-valid",
+        "BEGIN; ALTER TABLE t ADD CONSTRAINT k CHECK (a > 0) NOT VALID; ALTER TABLE t VALIDATE CONSTRAINT \"K\";",
+        "",
+    ),
+    (
+        "--only constraint-missing-not-valid",
+        "ALTER TABLE t ADD CONSTRAINT k CHECK (a > 0) NOT VALID; ALTER TABLE t VALIDATE CONSTRAINT k;",
+        "",
+    ),
+    (
+        "--only constraint-missing-not-valid --assume-in-transaction",
+        "ALTER TABLE t ADD CONSTRAINT k CHECK (a > 0) NOT VALID; ALTER TABLE t VALIDATE CONSTRAINT k;",
+        "70..91 validation",
+    ),
+    (
+        "--only constraint-missing-not-valid",
+        "BEGIN; ALTER TABLE t ADD CONSTRAINT k CHECK (a > 0) NOT VALID, VALIDATE CONSTRAINT k, ADD UNIQUE (a);",
+        "63..84 validation\n86..100 constraint",
+    ),
+    (
+        "--only constraint-missing-not-valid",
+        "BEGIN; ALTER FOREIGN TABLE t ADD CONSTRAINT k CHECK (a > 0) NOT VALID; ALTER TABLE t VALIDATE CONSTRAINT k; ALTER DOMAIN d ADD CHECK (VALUE > 0);",
+        "",
+    ),
+    (
+        "",
+        "BEGIN; CREATE FOREIGN TABLE t (a int) SERVER s; ALTER TABLE t ADD CHECK (a > 0); CREATE INDEX i ON t (a);",
+        "62..79 constraint\n81..105 index 93",
+    ),
+    (
+        "--only constraint-missing-not-valid",
+        "SELECT 1; ALTER TABLE t ADD COLUMN a int; ALTER TABLE t ADD CHECK (a > 0);",
+        "56..73 constraint",
+    ),
+    (
         "--only require-concurrent-index-creation,constraint-missing-not-valid",
         "ALTER TABLE t ADD CHECK (a > 0); CREATE INDEX i ON t (a); ALTER TABLE t ADD UNIQUE (a);",
         "14..31 constraint\n33..57 index 45\n72..86 constraint",
@@ -256,6 +311,17 @@ const ROWS: &[(&str, &str, &str)] = &[
         "--exclude=constraint-missing-not-valid,require-concurrent-index-creation",
         "ALTER TABLE t ADD CHECK (a > 0); CREATE INDEX i ON t (a); ALTER TABLE t ADD UNIQUE (a);",
         "",
+    ),
+    (
+        "--only ban-drop-database",
+        "BEGIN; drop database if exists \"D\" with (force); COMMIT; DROP TABLE d;",
+        "7..48 database",
+    ),
+    ("--exclude ban-drop-database", "DROP DATABASE d;", ""),
+    (
+        "",
+        "CREATE INDEX i ON t (a); DROP DATABASE d;",
+        "0..24 index 12\n25..41 database",
     ),
     (
         "--only ban-drop-table",

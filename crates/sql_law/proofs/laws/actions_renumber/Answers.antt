@@ -1,8 +1,12 @@
-use Rattle.sql_law.proofs.Constraints as law
+use Rattle.sql_law.proofs.Actions as law
+use Rattle.sql_law.proofs.ActionPieces as pieces
 use Rattle.sql_law.proofs.laws.actions_renumber.Goals as goal
 
 pub returns-clause-one : goal.returns-clause-one
 returns-clause-one c = law.action_renumbers
+
+pub returns-clause-pieces : goal.returns-clause-pieces
+returns-clause-pieces c = pieces.pieces_renumber
 
 pub returns-clause-all : goal.returns-clause-all
 returns-clause-all c = law.actions_renumber

@@ -9,3 +9,9 @@ returns-clause-parts c = law.parts_renumber
 
 pub returns-clause-rows : goal.returns-clause-rows
 returns-clause-rows c = law.front_renumbers
+
+pub returns-clause-action_rows : goal.returns-clause-action_rows
+returns-clause-action_rows c = law.whole_renumbers
+
+pub returns-clause-piece_rows : goal.returns-clause-piece_rows
+returns-clause-piece_rows c = law.whole_renumbers

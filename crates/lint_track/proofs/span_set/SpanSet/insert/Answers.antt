@@ -20,5 +20,5 @@ returns-clause-ok c =
     let set = c.args.self.now in
     let own = c.in_ok-key.ensures.texts ∙ ap (λ (k : Spans). key_of k.key p c.args.span) c.self.view_is in
     let kind = c.in_ok-key.ensures.kind ∙ ap (λ (k : Spans). k.key) c.self.view_is in
-    let hashed = c.hash.ensures ∙ (λ i. hash_of (kind i) (own i)) in
-    on_ok c.add.result _ _ (λ puts names. put_span p set c.add.new.self c.hash.result c.args.span (key_of set.key p c.args.span) puts hashed refl names) c.add.ensures.ok
+    let hashed = c.hash-hashed.ensures ∙ (λ i. hash_of (kind i) (own i)) in
+    on_ok c.add.result _ _ (λ puts names. put_span p set c.add.new.self c.hash-hashed.result c.args.span (key_of set.key p c.args.span) puts hashed refl names) c.add.ensures.ok

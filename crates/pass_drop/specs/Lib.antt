@@ -1,0 +1,2 @@
+pub mod SameKind
+pub mod StatementBan

@@ -1,0 +1,80 @@
+//! The passes from the 17th to the 24th of the linter's order.
+
+use lint_base::{LinterSettings, Reports, RuleSet};
+use lint_pass::{Block, StepPass};
+use pass_lock::RequireConcurrentIndexCreation;
+use sql_tree::{Parse, Stmt};
+use std::alloc::Global;
+use text_pos::NoMemory;
+
+/// Its members, in order.
+type Members = RequireConcurrentIndexCreation;
+
+const MEMBERS: Members = RequireConcurrentIndexCreation;
+
+/// The passes from the 17th to the 24th of the linter's order, those that are built: [`RequireConcurrentIndexCreation`].
+#[derive(Drop)]
+pub struct Group3;
+
+/// What the members remember.
+#[derive(Drop)]
+pub struct Group3State {
+    members: <Members as StepPass>::State,
+}
+
+impl StepPass for Group3 {
+    ghost use Rattle.std.proofs.lemmas.List.{append-nil};
+    ghost use Rattle.pass_lock.specs.RequireConcurrentIndexCreation.{reports_of_require_concurrent_index_creation};
+    ghost use Rattle.pass_groups.specs.declared.group3.TheConstants.{MEMBERS};
+
+    type State = Group3State;
+
+    ghost own = { λ _. ⟦<Members as StepPass>⟧.own MEMBERS };
+
+    ghost at = { λ _ state tree r s i. ⟦<Members as StepPass>⟧.at MEMBERS state.members tree r s i };
+
+    ghost piece = { λ _. ⟦<Members as StepPass>⟧.piece MEMBERS };
+
+    ghost tail = { λ _. ⟦<Members as StepPass>⟧.tail MEMBERS };
+
+    ghost table = { λ _. ⟦<Members as StepPass>⟧.table MEMBERS };
+
+    fn rules(&self) -> RuleSet {
+        MEMBERS.rules()
+    }
+
+    fn start(&self, alloc: Global, set: &LinterSettings) -> Result<Group3State, NoMemory> {
+        Ok(Group3State {
+            members: MEMBERS.start(alloc, set)?,
+        })
+    }
+
+    fn step(
+        &self,
+        state: &mut Group3State,
+        p: &Parse<'_>,
+        i: u32,
+        s: &Stmt,
+        blocks: &[Block],
+        rules: &RuleSet,
+        set: &LinterSettings,
+        out: &mut Reports,
+    ) -> Result<(), NoMemory> {
+        MEMBERS.step(&mut state.members, p, i, s, blocks, rules, set, out)
+    }
+
+    fn finish(
+        &self,
+        alloc: Global,
+        state: Group3State,
+        p: &Parse<'_>,
+        rules: &RuleSet,
+        set: &LinterSettings,
+        out: &mut Reports,
+    ) -> Result<(), NoMemory> {
+        let Group3State { members } = state;
+        MEMBERS.finish(alloc, members, p, rules, set, out)
+    }
+
+    ghost whole = { λ _ tree r s. append-nil (reports_of_require_concurrent_index_creation tree r s) };
+}

@@ -1,0 +1,25 @@
+//! The passes of the linter in their order: eight groups, and all of them.
+//!
+//! `specs/OwnTable.antt` says what they report. A group runs its members, and [`OwnPasses`] the groups, by the law of
+//! passes alone.
+#![tactic(auto)]
+
+mod group1;
+mod group2;
+mod group3;
+mod group4;
+mod group5;
+mod group6;
+mod group7;
+mod group8;
+mod own;
+
+pub use group1::Group1;
+pub use group2::Group2;
+pub use group3::Group3;
+pub use group4::Group4;
+pub use group5::Group5;
+pub use group6::Group6;
+pub use group7::Group7;
+pub use group8::Group8;
+pub use own::OwnPasses;

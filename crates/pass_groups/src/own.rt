@@ -1,0 +1,115 @@
+//! All passes of the linter.
+
+use crate::group1::Group1;
+use crate::group2::Group2;
+use crate::group3::Group3;
+use crate::group4::Group4;
+use crate::group5::Group5;
+use crate::group6::Group6;
+use crate::group7::Group7;
+use crate::group8::Group8;
+use lint_base::{LinterSettings, Reports, RuleSet};
+use lint_pass::{Block, Pair, StepPass};
+use sql_tree::{Parse, Stmt};
+use std::alloc::Global;
+use text_pos::NoMemory;
+
+/// The groups, in order.
+type Groups = Pair<
+    Pair<Pair<Group1, Group2>, Pair<Group3, Group4>>,
+    Pair<Pair<Group5, Group6>, Pair<Group7, Group8>>,
+>;
+
+const GROUPS: Groups = Pair {
+    first: Pair {
+        first: Pair {
+            first: Group1,
+            second: Group2,
+        },
+        second: Pair {
+            first: Group3,
+            second: Group4,
+        },
+    },
+    second: Pair {
+        first: Pair {
+            first: Group5,
+            second: Group6,
+        },
+        second: Pair {
+            first: Group7,
+            second: Group8,
+        },
+    },
+};
+
+/// All passes of the linter, one group behind the other.
+#[derive(Drop)]
+pub struct OwnPasses;
+
+/// What the groups remember.
+#[derive(Drop)]
+pub struct OwnPassesState {
+    groups: <Groups as StepPass>::State,
+}
+
+impl StepPass for OwnPasses {
+    ghost use Rattle.pass_drop.specs.declared.statement_ban.StatementBan.TheVariants as ban;
+    ghost use Rattle.pass_drop.specs.StatementBan.{reports_of_ban};
+    ghost use Rattle.pass_lock.specs.ConstraintMissingNotValid.{reports_of_constraint_missing_not_valid};
+    ghost use Rattle.pass_lock.specs.RequireConcurrentIndexCreation.{reports_of_require_concurrent_index_creation};
+    ghost use Rattle.pass_groups.specs.declared.own.TheConstants.{GROUPS};
+    ghost use Rattle.pass_groups.specs.GroupLaws.{groups_whole};
+    ghost use Rattle.pass_groups.specs.OwnTable.{own_table};
+
+    type State = OwnPassesState;
+
+    ghost own = { λ _. ⟦<Groups as StepPass>⟧.own GROUPS };
+
+    ghost at = { λ _ state tree r s i. ⟦<Groups as StepPass>⟧.at GROUPS state.groups tree r s i };
+
+    ghost piece = { λ _. ⟦<Groups as StepPass>⟧.piece GROUPS };
+
+    ghost tail = { λ _. ⟦<Groups as StepPass>⟧.tail GROUPS };
+
+    ghost table = { λ _. own_table };
+
+    fn rules(&self) -> RuleSet {
+        GROUPS.rules()
+    }
+
+    fn start(&self, alloc: Global, set: &LinterSettings) -> Result<OwnPassesState, NoMemory> {
+        Ok(OwnPassesState {
+            groups: GROUPS.start(alloc, set)?,
+        })
+    }
+
+    fn step(
+        &self,
+        state: &mut OwnPassesState,
+        p: &Parse<'_>,
+        i: u32,
+        s: &Stmt,
+        blocks: &[Block],
+        rules: &RuleSet,
+        set: &LinterSettings,
+        out: &mut Reports,
+    ) -> Result<(), NoMemory> {
+        GROUPS.step(&mut state.groups, p, i, s, blocks, rules, set, out)
+    }
+
+    fn finish(
+        &self,
+        alloc: Global,
+        state: OwnPassesState,
+        p: &Parse<'_>,
+        rules: &RuleSet,
+        set: &LinterSettings,
+        out: &mut Reports,
+    ) -> Result<(), NoMemory> {
+        let OwnPassesState { groups } = state;
+        GROUPS.finish(alloc, groups, p, rules, set, out)
+    }
+
+    ghost whole = { λ _ tree r s. groups_whole (reports_of_ban ban.DropDatabase tree r s) (reports_of_constraint_missing_not_valid tree r s) (reports_of_require_concurrent_index_creation tree r s) };
+}

@@ -1,0 +1,329 @@
+//! The actions of ALTER statements (PostgreSQL manual, part VI, SQL Commands).
+
+ghost use Rattle.std.specs.Prelude.{◌≡◌, IfOk, map};
+ghost use Rattle.sql_tree.specs.Action as spec;
+ghost use Rattle.sql_tree.specs.Forms.{at};
+
+use crate::pieces::{read_attributes, read_column_option, read_pieces};
+use crate::starts::{behind_maybe, first_symbol, own_part, takes_constraint};
+use crate::tables::{first_rows_at, general_rows_at, own_rows};
+use sql_column::read_column;
+use sql_constraint::read_table_constraint;
+use sql_mark::{Mark, Parts, span_of};
+use sql_part::{behind_word, nothing_kept, read_whole};
+use sql_token::{Keyword, Terminal};
+use sql_tree::actions::{OPTIONS, OTHER, PieceList};
+use sql_tree::forms::{ActionRows, Captures};
+use sql_tree::{Action, ActionKind, Column, Constraint, Piece, StmtKind};
+use sqlite_items::Items;
+use std::alloc::Global;
+use text_pos::NoMemory;
+
+// ---- ADD and a table constraint
+
+fn adding(alloc: Global, terminals: &[Terminal], constraint: Constraint) -> Action
+    ensures { result ≡ spec.adding terminals.now constraint }
+{
+    let span = span_of(terminals);
+    Action {
+        kind: ActionKind::AddConstraint,
+        first: span.first,
+        last: span.last,
+        name: None,
+        path: None,
+        word: None,
+        guarded: false,
+        placed: false,
+        column: None,
+        constraint: Some(constraint),
+        pieces: Items::new(alloc),
+    }
+}
+
+/// ADD and a table constraint.
+#[tactic(auto, unfolding(sql_tree::specs::Action::add_constraint))]
+fn add_constraint(alloc: Global, terminals: &[Terminal]) -> Result<Option<Action>, NoMemory>
+    ensures { IfOk result (λ action. action ≡ spec.add_constraint terminals.now) }
+{
+    let Some(rest) = behind_word(Keyword::Add, terminals) else {
+        return Ok(None);
+    };
+    match read_table_constraint(alloc, rest)? {
+        None => Ok(None),
+        Some(constraint) => Ok(Some(adding(alloc, terminals, constraint))),
+    }
+}
+
+#[tactic(auto, unfolding(sql_tree::specs::Action::added_constraint))]
+fn added_constraint(
+    alloc: Global,
+    kind: StmtKind,
+    terminals: &[Terminal],
+) -> Result<Option<Action>, NoMemory>
+    ensures { IfOk result (λ action. action ≡ spec.added_constraint kind terminals.now) }
+{
+    if takes_constraint(kind, terminals) {
+        add_constraint(alloc, terminals)
+    } else {
+        Ok(None)
+    }
+}
+
+// ---- an action that a row reads
+
+/// The column of an action, by what its row leaves open; `Ok(None)` where it must have one and has none.
+#[tactic(auto, unfolding(sql_tree::specs::Action::column_in))]
+fn column_in(
+    alloc: Global,
+    kind: ActionKind,
+    rest: &[Terminal],
+) -> Result<Option<Option<Column>>, NoMemory>
+    ensures { IfOk result (λ column. column ≡ spec.column_in kind rest.now) }
+{
+    match kind {
+        ActionKind::AddColumn => match read_column(alloc, rest)? {
+            None => Ok(None),
+            Some(column) => Ok(Some(Some(column))),
+        },
+        _ => Ok(Some(None)),
+    }
+}
+
+/// The pieces of an action, by what its row leaves open; `Ok(None)` where they are none of its kind.
+#[tactic(auto, unfolding(sql_tree::specs::Action::pieces_in))]
+fn pieces_in(
+    alloc: Global,
+    kind: ActionKind,
+    rest: &[Terminal],
+) -> Result<Option<Items<Piece>>, NoMemory>
+    ensures { IfOk result (λ pieces. pieces ≡ spec.pieces_in kind rest.now) }
+{
+    match kind {
+        ActionKind::AlterConstraint => read_pieces(alloc, PieceList::ConstraintOptions, rest),
+        ActionKind::AlterColumn => read_column_option(alloc, rest),
+        ActionKind::SequenceOptions => read_pieces(alloc, PieceList::SequenceOptions, rest),
+        ActionKind::PolicyChange => read_pieces(alloc, PieceList::PolicyParts, rest),
+        ActionKind::Attributes => read_attributes(alloc, rest),
+        _ => Ok(Some(Items::new(alloc))),
+    }
+}
+
+/// The action of this kind, of which so much is kept and left open.
+#[tactic(auto, unfolding(sql_tree::specs::Action::built))]
+fn built(
+    alloc: Global,
+    terminals: &[Terminal],
+    kind: ActionKind,
+    kept: &Captures,
+    rest: &[Terminal],
+) -> Result<Option<Action>, NoMemory>
+    ensures { IfOk result (λ action. action ≡ spec.built terminals.now kind (at kept.now rest.now)) }
+{
+    let Some(column) = column_in(alloc, kind, rest)? else {
+        return Ok(None);
+    };
+    let Some(pieces) = pieces_in(alloc, kind, rest)? else {
+        return Ok(None);
+    };
+    let span = span_of(terminals);
+    Ok(Some(Action {
+        kind,
+        first: span.first,
+        last: span.last,
+        name: kept.name,
+        path: kept.path,
+        word: kept.word,
+        guarded: kept.guarded,
+        placed: kept.placed,
+        column,
+        constraint: None,
+        pieces,
+    }))
+}
+
+/// The action that the first of the rows reads; `Ok(None)` where none reads it, or the action is none of that row's kind.
+#[tactic(auto, unfolding(sql_tree::specs::Action::by_rows))]
+fn by_rows(
+    alloc: Global,
+    rows: ActionRows,
+    terminals: &[Terminal],
+) -> Result<Option<Action>, NoMemory>
+    ensures { IfOk result (λ action. action ≡ spec.by_rows (map (λ r. (r.0, r.1.now)) rows.entry.now) terminals.now) }
+{
+    let mut kept = nothing_kept();
+    match read_whole(rows, &mut kept, terminals) {
+        None => Ok(None),
+        Some((kind, rest)) => built(alloc, terminals, kind, &kept, rest),
+    }
+}
+
+// ---- one action
+
+#[tactic(auto, unfolding(sql_tree::specs::Action::own_action))]
+fn own_action(
+    alloc: Global,
+    kind: StmtKind,
+    terminals: &[Terminal],
+) -> Result<Option<Action>, NoMemory>
+    ensures { IfOk result (λ action. action ≡ spec.own_action kind terminals.now) }
+{
+    match own_part(kind, terminals) {
+        None => Ok(None),
+        Some(part) => by_rows(alloc, own_rows(kind), part),
+    }
+}
+
+#[tactic(auto, unfolding(sql_tree::specs::Action::general_action))]
+fn general_action(
+    alloc: Global,
+    kind: StmtKind,
+    terminals: &[Terminal],
+) -> Result<Option<Action>, NoMemory>
+    ensures { IfOk result (λ action. action ≡ spec.general_action kind terminals.now) }
+{
+    if let Some(action) = added_constraint(alloc, kind, terminals)? {
+        return Ok(Some(action));
+    }
+    by_rows(alloc, general_rows_at(first_symbol(terminals)), terminals)
+}
+
+#[tactic(auto, unfolding(sql_tree::specs::Action::listed_action))]
+fn listed_action(
+    alloc: Global,
+    kind: StmtKind,
+    terminals: &[Terminal],
+) -> Result<Option<Action>, NoMemory>
+    ensures { IfOk result (λ action. action ≡ spec.listed_action kind terminals.now) }
+{
+    let first = first_rows_at(first_symbol(terminals));
+    if let Some(action) = by_rows(alloc, first, terminals)? {
+        return Ok(Some(action));
+    }
+    if let Some(action) = own_action(alloc, kind, terminals)? {
+        return Ok(Some(action));
+    }
+    general_action(alloc, kind, terminals)
+}
+
+fn takes_options(kind: StmtKind) -> bool
+    ensures { result ≡ spec.takes_options kind }
+{
+    matches!(
+        kind,
+        StmtKind::AlterRole | StmtKind::AlterUser | StmtKind::AlterDatabase
+    )
+}
+
+/// Options of a role or a database: what has no other form.
+#[tactic(auto, unfolding(sql_tree::specs::Action::options))]
+fn options(
+    alloc: Global,
+    kind: StmtKind,
+    terminals: &[Terminal],
+) -> Result<Option<Action>, NoMemory>
+    ensures { IfOk result (λ action. action ≡ spec.options kind terminals.now) }
+{
+    if takes_options(kind) {
+        by_rows(alloc, &OPTIONS, behind_maybe(Keyword::With, terminals))
+    } else {
+        Ok(None)
+    }
+}
+
+#[tactic(auto, unfolding(sql_tree::specs::Action::unlisted_action))]
+fn unlisted_action(
+    alloc: Global,
+    kind: StmtKind,
+    terminals: &[Terminal],
+) -> Result<Option<Action>, NoMemory>
+    ensures { IfOk result (λ action. action ≡ spec.unlisted_action kind terminals.now) }
+{
+    if let Some(action) = options(alloc, kind, terminals)? {
+        return Ok(Some(action));
+    }
+    by_rows(alloc, &OTHER, terminals)
+}
+
+/// The action that these terminals are; `Ok(None)` only where there is no terminal.
+#[tactic(auto, unfolding(sql_tree::specs::Action::action))]
+fn read_action(
+    alloc: Global,
+    kind: StmtKind,
+    terminals: &[Terminal],
+) -> Result<Option<Action>, NoMemory>
+    ensures { IfOk result (λ action. action ≡ spec.action kind terminals.now) }
+{
+    if terminals.is_empty() {
+        return Ok(None);
+    }
+    if let Some(action) = listed_action(alloc, kind, terminals)? {
+        return Ok(Some(action));
+    }
+    unlisted_action(alloc, kind, terminals)
+}
+
+// ---- lists of actions
+
+fn has_several(kind: StmtKind) -> bool
+    ensures { result ≡ spec.has_several kind }
+{
+    matches!(
+        kind,
+        StmtKind::AlterTable | StmtKind::AlterForeignTable | StmtKind::AlterMaterializedView
+    )
+}
+
+/// The actions between commas.
+#[tactic(auto, unfolding(sql_tree::specs::Action::several_actions))]
+fn several_actions(
+    alloc: Global,
+    kind: StmtKind,
+    tail: &[Terminal],
+) -> Result<Option<Items<Action>>, NoMemory>
+    ensures { IfOk result (λ actions. actions ≡ spec.several_actions kind tail.now) }
+{
+    let mut actions = Items::new(alloc);
+    let mut parts = Parts::new(Mark::Comma, tail);
+    while let Some(part) = parts.next_part() {
+        match read_action(alloc, kind, part)? {
+            None => return Ok(None),
+            Some(action) => actions.push(action)?,
+        }
+    }
+    Ok(Some(actions))
+}
+
+#[tactic(auto, unfolding(sql_tree::specs::Action::one_action))]
+fn one_action(
+    alloc: Global,
+    kind: StmtKind,
+    tail: &[Terminal],
+) -> Result<Option<Items<Action>>, NoMemory>
+    ensures { IfOk result (λ actions. actions ≡ spec.one_action kind tail.now) }
+{
+    match read_action(alloc, kind, tail)? {
+        None => Ok(None),
+        Some(action) => {
+            let mut actions = Items::new(alloc);
+            actions.push(action)?;
+            Ok(Some(actions))
+        }
+    }
+}
+
+/// The actions of an ALTER statement of this kind, by its terminals that its form leaves open, without the semicolon.
+/// `Ok(None)` where they are none: where there is no terminal, or none between two commas that part actions.
+#[tactic(auto, unfolding(sql_tree::specs::Action::actions_of))]
+pub fn read_actions_of(
+    alloc: Global,
+    kind: StmtKind,
+    tail: &[Terminal],
+) -> Result<Option<Items<Action>>, NoMemory>
+    ensures { IfOk result (λ actions. actions ≡ spec.actions_of kind tail.now) }
+{
+    if has_several(kind) {
+        several_actions(alloc, kind, tail)
+    } else {
+        one_action(alloc, kind, tail)
+    }
+}

@@ -1,0 +1,34 @@
+//! The actions of a span of the tokens of a text.
+
+ghost use Rattle.std.specs.Prelude.{◌≡◌, ◌<◌, ◌^◌, length, IfOk};
+ghost use Rattle.sql_lex.specs.Inside.{IsSpan, terminals_in};
+ghost use Rattle.sql_token.specs.Token.{Lexed};
+ghost use Rattle.sql_tree.specs.Action.{actions_of};
+
+use crate::actions::read_actions_of;
+use sql_lex::terminals_in;
+use sql_token::{Span, Tok};
+use sql_tree::{Action, StmtKind};
+use sqlite_items::Items;
+use std::alloc::Global;
+use text_pos::NoMemory;
+
+/// The actions of an ALTER statement of this kind, by the tokens that its form leaves open, without the semicolon.
+/// `Ok(None)` where they are none: where no token is significant, or none between two commas that part actions.
+///
+/// What an action holds are numbers among all tokens of the text. Brackets need not match.
+pub fn read_actions(
+    alloc: Global,
+    kind: StmtKind,
+    text: &str,
+    toks: &[Tok],
+    span: Span,
+) -> Result<Option<Items<Action>>, NoMemory>
+    requires lexed { Lexed text.now toks.now }
+    requires short { length text.now < 2 ^ 32 }
+    requires inside { IsSpan toks.now span }
+    ensures { IfOk result (λ actions. actions ≡ actions_of kind (terminals_in text.now toks.now span)) }
+{
+    let terminals = terminals_in(alloc, text, toks, span)?;
+    read_actions_of(alloc, kind, &terminals)
+}

@@ -1,0 +1,92 @@
+-- Columns, elements of a table's list, and domains under other numbers.
+use Rattle.std.proofs.Common.{◌≡◌, ℕ, Bool, true, false, cond, List, [], ◌∷◌, map, refl, ap, Option, Some, None}
+use Rattle.std.specs.Option.{option_map, option_and_then}
+use Rattle.std.proofs.lemmas.List.{take-map}
+use Rattle.sql_token.specs.declared.terminal.Terminal.{Terminal}
+use Rattle.sql_tree.specs.declared.nodes.Column.{Column}
+use Rattle.sql_tree.specs.declared.nodes.Constraint.{Constraint}
+use Rattle.sql_tree.specs.declared.nodes.Elem.{Elem}
+use Rattle.sql_tree.specs.Split.{comma, split, on_commit_drop}
+use Rattle.sql_tree.specs.Groups.{inside_list}
+use Rattle.sql_tree.specs.Constraint.{column_constraints}
+use Rattle.sql_tree.specs.Column.{column_with, column, leads_constraint, constraint_element, column_element, element, listed, elements, drops_on_commit, domain_constraints}
+use Rattle.sql_law.specs.Moved.{constraint_moved, column_moved, elem_moved}
+use Rattle.sql_law.specs.Renumber.{renumber}
+use Rattle.sql_law.specs.Trees.{ColumnRenumbers, ElementsRenumber, DropRenumbers, DomainRenumbers}
+use Rattle.sql_law.proofs.Basics.{moves, map_moved}
+use Rattle.sql_law.proofs.Marks.{comma_is_blind, on_commit_drop_is_blind, before_renumbers, split_renumbers}
+use Rattle.sql_law.proofs.Groups.{is_empty_moved, inside_list_moved}
+use Rattle.sql_law.proofs.Types.{type_len_renumbers, type_renumbers}
+use Rattle.sql_law.proofs.Constraints.{exclusion_sees, constraint_renumbers, column_constraints_moved}
+
+-- ---- columns
+
+column_with_moved : (f : ℕ → ℕ) (t : Terminal) (ts : List Terminal) (constraints : List Constraint) →
+    column_with (renumber f t) (map (renumber f) ts) (map (constraint_moved f) constraints) ≡ column_moved f (column_with t ts constraints)
+column_with_moved f t ts constraints = simp (type_len_renumbers, take-map, type_renumbers)
+
+column_behind_moved : (f : ℕ → ℕ) (t : Terminal) (ts : List Terminal) (r : Option (List Constraint)) →
+    option_and_then (λ constraints. Some (column_with (renumber f t) (map (renumber f) ts) constraints)) (option_map (map (constraint_moved f)) r)
+    ≡ option_map (column_moved f) (option_and_then (λ constraints. Some (column_with t ts constraints)) r)
+column_behind_moved f t ts None = refl
+column_behind_moved f t ts (Some constraints) = ap Some (column_with_moved f t ts constraints)
+
+pub column_renumbers : ColumnRenumbers
+unfolding column
+column_renumbers f [] = refl
+column_renumbers f (t ∷ ts) =
+    rw (column_constraints_moved f (Some t) ts, column_behind_moved f t ts (column_constraints (Some t) ts)) (simp moves)
+
+-- ---- elements
+
+leads_sees : (f : ℕ → ℕ) (t : Terminal) (ts : List Terminal) → leads_constraint (renumber f t) (map (renumber f) ts) ≡ leads_constraint t ts
+unfolding leads_constraint
+leads_sees f t ts = simp (moves, exclusion_sees)
+
+constraint_element_moved : (f : ℕ → ℕ) (r : Option Constraint) →
+    constraint_element (option_map (constraint_moved f) r) ≡ elem_moved f (constraint_element r)
+constraint_element_moved f None = refl
+constraint_element_moved f (Some c) = refl
+
+column_element_moved : (f : ℕ → ℕ) (r : Option Column) → column_element (option_map (column_moved f) r) ≡ elem_moved f (column_element r)
+column_element_moved f None = refl
+column_element_moved f (Some c) = refl
+
+elem_cond : (f : ℕ → ℕ) (b : Bool) (x y : Elem) → elem_moved f (cond b x y) ≡ cond b (elem_moved f x) (elem_moved f y)
+elem_cond f true x y = refl
+elem_cond f false x y = refl
+
+element_moved : (f : ℕ → ℕ) (ts : List Terminal) → element (map (renumber f) ts) ≡ elem_moved f (element ts)
+unfolding element
+element_moved f [] = refl
+element_moved f (t ∷ ts) =
+    simp (
+      leads_sees f t ts,
+      constraint_renumbers f (t ∷ ts),
+      constraint_element_moved,
+      column_renumbers f (t ∷ ts),
+      column_element_moved,
+      elem_cond,
+      moves,
+    )
+
+listed_moved : (f : ℕ → ℕ) (inside : List Terminal) → listed (map (renumber f) inside) ≡ map (elem_moved f) (listed inside)
+listed_moved f inside =
+    rw (split_renumbers comma comma_is_blind f inside)
+    (map_moved (map (renumber f)) (elem_moved f) element element (element_moved f) (split comma inside))
+
+pub elements_renumber : ElementsRenumber
+unfolding elements
+elements_renumber f tail =
+    rw (inside_list_moved f tail, is_empty_moved (renumber f) (inside_list tail), listed_moved f (inside_list tail)) (simp moves)
+
+pub drop_renumbers : DropRenumbers
+unfolding drops_on_commit
+drop_renumbers f tail = simp (before_renumbers on_commit_drop on_commit_drop_is_blind, moves)
+
+-- ---- domains
+
+pub domain_renumbers : DomainRenumbers
+unfolding domain_constraints
+domain_renumbers f [] = refl
+domain_renumbers f (t ∷ ts) = column_constraints_moved f None (t ∷ ts)

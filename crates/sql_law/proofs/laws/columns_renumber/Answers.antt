@@ -1,0 +1,14 @@
+use Rattle.sql_law.proofs.Columns as law
+use Rattle.sql_law.proofs.laws.columns_renumber.Goals as goal
+
+pub returns-clause-column : goal.returns-clause-column
+returns-clause-column c = law.column_renumbers
+
+pub returns-clause-elements : goal.returns-clause-elements
+returns-clause-elements c = law.elements_renumber
+
+pub returns-clause-drop : goal.returns-clause-drop
+returns-clause-drop c = law.drop_renumbers
+
+pub returns-clause-domain : goal.returns-clause-domain
+returns-clause-domain c = law.domain_renumbers

@@ -1,0 +1,3 @@
+mod Names
+pub mod Cuts
+pub mod Runs

@@ -1,0 +1,64 @@
+//! Marks at which the pieces of ALTER actions begin.
+
+ghost use Rattle.std.specs.Prelude.{◌≡◌};
+ghost use Rattle.sql_tree.specs.ActionPieces as pieces;
+
+use crate::depth::begins_with;
+use crate::words::is_of_class;
+use sql_token::{Keyword, Terminal};
+use sql_tree::forms::WordClass;
+
+/// A word of an option that stands right behind neither NO nor a dot.
+#[tactic(auto, unfolding(sql_tree::specs::ActionPieces::sequence_option))]
+pub(crate) fn begins_sequence_option(
+    earlier: Option<Terminal>,
+    first: Terminal,
+    after: &[Terminal],
+) -> bool
+    ensures { result ≡ pieces.sequence_option earlier first after.now }
+{
+    match earlier {
+        None => false,
+        Some(t) => {
+            is_of_class(WordClass::SequenceOption, first)
+                && !(t.is_keyword(Keyword::No) || t.is_dot())
+        }
+    }
+}
+
+/// SET, or RESTART not right behind SET.
+#[tactic(auto, unfolding(sql_tree::specs::ActionPieces::identity_option))]
+pub(crate) fn begins_identity_option(
+    earlier: Option<Terminal>,
+    first: Terminal,
+    after: &[Terminal],
+) -> bool
+    ensures { result ≡ pieces.identity_option earlier first after.now }
+{
+    match earlier {
+        None => false,
+        Some(t) => {
+            first.is_keyword(Keyword::Set)
+                || (first.is_keyword(Keyword::Restart) && !t.is_keyword(Keyword::Set))
+        }
+    }
+}
+
+/// TO, USING or WITH CHECK.
+#[tactic(auto, unfolding(sql_tree::specs::ActionPieces::policy_part))]
+pub(crate) fn begins_policy_part(
+    earlier: Option<Terminal>,
+    first: Terminal,
+    after: &[Terminal],
+) -> bool
+    ensures { result ≡ pieces.policy_part earlier first after.now }
+{
+    match earlier {
+        None => false,
+        Some(_) => {
+            first.is_keyword(Keyword::To)
+                || first.is_keyword(Keyword::Using)
+                || (first.is_keyword(Keyword::With) && begins_with(Keyword::Check, after))
+        }
+    }
+}

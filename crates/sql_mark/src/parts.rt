@@ -1,0 +1,266 @@
+//! Lists of terminals, split at marks of depth 0. Depth is counted from the start of the list.
+
+ghost use Rattle.std.specs.Prelude.{◌≡◌, ◌≤◌, length};
+ghost use Rattle.std.specs.Option.{option_copied};
+ghost use Rattle.sql_tree.specs.Split as spec;
+ghost use Rattle.sql_mark.specs.Marks.{test_of};
+
+use crate::action_marks::{begins_identity_option, begins_policy_part, begins_sequence_option};
+use crate::column_marks::{begins_constraint, is_type_end, is_value_end};
+use crate::depth::{begins_with, begins_with_both};
+use crate::write_marks::{WriteMark, begins_write};
+use sql_token::{Keyword, Symbol, Terminal};
+use std::marker::Model;
+
+/// What a list is split at or looked through for.
+#[derive(Clone, Copy, Debug, PartialEq, Eq)]
+pub enum Mark {
+    /// `,`
+    Comma,
+    /// The adjacent words NOT VALID.
+    NotValid,
+    /// The word INTO behind neither the word AS nor a dot.
+    Into,
+    /// SELECT, INSERT, UPDATE, DELETE, MERGE, VALUES or TABLE: what a statement led by WITH does.
+    Verb,
+    /// The word GRANT or REVOKE.
+    Privileges,
+    /// This key word.
+    Word(Keyword),
+    /// An operator sign, AND or OR.
+    Operator,
+    /// `::` or COLLATE.
+    Cast,
+    /// The adjacent words ON COMMIT DROP.
+    OnCommitDrop,
+    /// A word that ends the type of a column.
+    TypeEnd,
+    /// A word that ends the expression of a DEFAULT.
+    ValueEnd,
+    /// The first word of a constraint of a column: CONSTRAINT, or one of its kind.
+    Constraint,
+    /// A mark of queries and of statements that write.
+    Write(WriteMark),
+    /// A further option of ALTER SEQUENCE.
+    SequenceOption,
+    /// A further option of an identity column.
+    IdentityOption,
+    /// A further part of ALTER POLICY.
+    PolicyPart,
+}
+
+fn is_as_or_dot(earlier: Option<Terminal>) -> bool
+    ensures { result ≡ spec.is_as_or_dot earlier }
+{
+    match earlier {
+        None => false,
+        Some(t) => t.is_keyword(Keyword::As) || t.is_dot(),
+    }
+}
+
+fn is_verb_word(word: Keyword) -> bool
+    ensures { result ≡ spec.is_verb_word word }
+{
+    match word {
+        Keyword::Select | Keyword::Insert | Keyword::Update | Keyword::Delete => true,
+        Keyword::Merge | Keyword::Values | Keyword::Table => true,
+        _ => false,
+    }
+}
+
+fn is_verb(symbol: Symbol) -> bool
+    ensures { result ≡ spec.is_verb_symbol symbol }
+{
+    match symbol {
+        Symbol::Keyword(word) => is_verb_word(word),
+        _ => false,
+    }
+}
+
+fn is_operator_symbol(symbol: Symbol) -> bool
+    ensures { result ≡ spec.is_operator_symbol symbol }
+{
+    match symbol {
+        Symbol::Star | Symbol::Equals | Symbol::EqualsOperator | Symbol::Operator => true,
+        _ => false,
+    }
+}
+
+fn is_colon(symbol: Symbol) -> bool
+    ensures { result ≡ spec.is_colon_symbol symbol }
+{
+    matches!(symbol, Symbol::Colon)
+}
+
+fn begins_with_colon(after: &[Terminal]) -> bool
+    ensures { result ≡ spec.begins_with_colon after.now }
+{
+    match after {
+        [] => false,
+        [first, ..] => is_colon(first.symbol),
+    }
+}
+
+fn begins_operator(first: Terminal) -> bool
+    ensures { result ≡ spec.is_operator first }
+{
+    is_operator_symbol(first.symbol)
+        || first.is_keyword(Keyword::And)
+        || first.is_keyword(Keyword::Or)
+}
+
+fn begins_cast(first: Terminal, after: &[Terminal]) -> bool
+    ensures { result ≡ spec.is_cast first after.now }
+{
+    first.is_keyword(Keyword::Collate) || is_colon(first.symbol) && begins_with_colon(after)
+}
+
+fn begins_on_commit_drop(first: Terminal, after: &[Terminal]) -> bool
+    ensures { result ≡ spec.is_on_commit_drop first after.now }
+{
+    first.is_keyword(Keyword::On) && begins_with_both(Keyword::Commit, Keyword::Drop, after)
+}
+
+/// Whether the mark begins at `first`, which stands between `earlier` and `after`.
+#[tactic(auto, unfolding(sql_tree::specs::Split::comma, sql_tree::specs::Split::not_valid, sql_tree::specs::Split::into, sql_tree::specs::Split::verb, sql_tree::specs::Split::privileges, sql_tree::specs::Split::word, sql_tree::specs::Split::operator, sql_tree::specs::Split::cast, sql_tree::specs::Split::on_commit_drop, sql_tree::specs::ColumnMarks::type_end, sql_tree::specs::ColumnMarks::value_end))]
+pub(crate) fn begins(
+    mark: Mark,
+    earlier: Option<Terminal>,
+    first: Terminal,
+    after: &[Terminal],
+) -> bool
+    ensures { result ≡ test_of mark earlier first after.now }
+{
+    match mark {
+        Mark::Comma => matches!(first.symbol, Symbol::Comma),
+        Mark::NotValid => first.is_keyword(Keyword::Not) && begins_with(Keyword::Valid, after),
+        Mark::Into => first.is_keyword(Keyword::Into) && !is_as_or_dot(earlier),
+        Mark::Verb => is_verb(first.symbol),
+        Mark::Privileges => first.is_keyword(Keyword::Grant) || first.is_keyword(Keyword::Revoke),
+        Mark::Word(word) => first.is_keyword(word),
+        Mark::Operator => begins_operator(first),
+        Mark::Cast => begins_cast(first, after),
+        Mark::OnCommitDrop => begins_on_commit_drop(first, after),
+        Mark::TypeEnd => is_type_end(first),
+        Mark::ValueEnd => is_value_end(first.symbol),
+        Mark::Constraint => begins_constraint(earlier, first, after),
+        Mark::Write(mark) => begins_write(mark, earlier, first, after),
+        Mark::SequenceOption => begins_sequence_option(earlier, first, after),
+        Mark::IdentityOption => begins_identity_option(earlier, first, after),
+        Mark::PolicyPart => begins_policy_part(earlier, first, after),
+    }
+}
+
+/// How many terminals stand before the first mark of depth 0, where `earlier` stands before the list.
+fn before_from(mark: Mark, earlier: Option<Terminal>, terminals: &[Terminal]) -> usize
+    ensures value { result ≡ spec.before_from (test_of mark) earlier 0 0 terminals.now }
+    ensures within { result ≤ length terminals.now }
+{
+    let mut left = terminals;
+    let mut previous = earlier;
+    let mut count = 0usize;
+    let mut opened = 0usize;
+    let mut closed = 0usize;
+    while let [first, rest @ ..] = left {
+        if opened == closed && begins(mark, previous, *first, rest) {
+            return count;
+        }
+        if first.is_opener() {
+            opened += 1;
+        }
+        if first.is_closer() {
+            closed += 1;
+        }
+        count += 1;
+        previous = Some(*first);
+        left = rest;
+    }
+    count
+}
+
+/// How many terminals stand before the first mark of depth 0; all, where there is none.
+#[tactic(auto, unfolding(sql_tree::specs::Split::before))]
+pub fn terminals_before(mark: Mark, terminals: &[Terminal]) -> usize
+    ensures value { result ≡ spec.before (test_of mark) terminals.now }
+    ensures within { result ≤ length terminals.now }
+{
+    before_from(mark, None, terminals)
+}
+
+/// Whether the mark stands at depth 0.
+pub fn has_mark(mark: Mark, terminals: &[Terminal]) -> bool
+    ensures { result ≡ spec.has (test_of mark) terminals.now }
+{
+    terminals_before(mark, terminals) < terminals.len()
+}
+
+/// The terminals from the first mark of depth 0 on; none, where there is no such mark.
+pub fn from_mark(mark: Mark, terminals: &[Terminal]) -> &[Terminal]
+    ensures { result.now ≡ spec.from_mark (test_of mark) terminals.now }
+{
+    let count = terminals_before(mark, terminals);
+    &terminals[count..]
+}
+
+/// What stands before the first mark of depth 0.
+pub fn until(mark: Mark, terminals: &[Terminal]) -> &[Terminal]
+    ensures { result.now ≡ spec.until (test_of mark) terminals.now }
+{
+    let count = terminals_before(mark, terminals);
+    &terminals[..count]
+}
+
+/// The parts between the marks of depth 0, one after another. There is one more than there are marks, and a part may be
+/// empty. Contracts see the list of the parts that are still to come.
+#[derive(Drop)]
+pub struct Parts<'a> {
+    mark: Mark,
+    earlier: Option<Terminal>,
+    left: &'a [Terminal],
+    more: bool,
+}
+
+impl<'a> Model for Parts<'a> {
+    ghost use Rattle.std.specs.Prelude.{List};
+    ghost use Rattle.sql_token.specs.declared.terminal.Terminal.{Terminal};
+
+    ghost Value = { List (List Terminal) };
+
+    ghost use Rattle.sql_mark.specs.PartsLeft.{parts_left};
+
+    ghost view = { parts_left };
+}
+
+impl<'a> Parts<'a> {
+    #[tactic(auto, unfolding(sql_tree::specs::Split::split))]
+    pub fn new(mark: Mark, terminals: &'a [Terminal]) -> Parts<'a>
+        ensures { result ≡ spec.split (test_of mark) terminals.now }
+    {
+        Parts {
+            mark,
+            earlier: None,
+            left: terminals,
+            more: true,
+        }
+    }
+
+    /// The next part; `None` where none is left.
+    #[tactic(auto, using(crate::proofs::Cuts::only_part, crate::proofs::Cuts::first_part))]
+    pub fn next_part(&mut self) -> Option<&'a [Terminal]>
+        ensures { spec.uncons self.old ≡ (option_copied result, self.new) }
+    {
+        if !self.more {
+            return None;
+        }
+        let count = before_from(self.mark, self.earlier, self.left);
+        let part = &self.left[..count];
+        if count < self.left.len() {
+            self.earlier = Some(self.left[count]);
+            self.left = &self.left[count + 1..];
+            Some(part)
+        } else {
+            self.more = false;
+            Some(part)
+        }
+    }
+}

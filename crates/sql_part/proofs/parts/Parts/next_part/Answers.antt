@@ -1,7 +1,0 @@
-use Rattle.sql_part.proofs.Cuts.{first_part_left}
-use Rattle.sql_part.specs.Marks.{test_of}
-use Rattle.sql_part.proofs.parts.Parts.next_part.Goals as goal
-
-pub returns-then-count-self : goal.returns-then-count-self
-returns-then-count-self c =
-    first_part_left (test_of c.self.inside.mark) c.self.inside.earlier c.self.inside.left.now _ c.self.inside.more _ _ c.self.view_is c.if-not-self.false c.before_from-count.ensures.value c.if-count-self.true

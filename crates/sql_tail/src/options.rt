@@ -1,0 +1,87 @@
+//! Options in brackets, and words that may stand.
+
+ghost use Rattle.std.specs.Prelude.{◌≡◌};
+ghost use Rattle.sql_tree.specs.Tails as spec;
+ghost use Rattle.sql_tail.specs.Options.{test_of};
+
+use sql_mark::{Mark, Parts, begins_list, begins_with, closing};
+use sql_token::{Keyword, Symbol, Terminal};
+
+/// What an option is tested for.
+#[derive(Clone, Copy, Debug, PartialEq, Eq)]
+pub(crate) enum OptionTest {
+    /// CONCURRENTLY, whatever its value.
+    Concurrent,
+    /// CONCURRENTLY with a value.
+    Valued,
+    /// FULL that is not turned off.
+    Full,
+}
+
+/// What follows the bracket list that may stand first.
+#[tactic(auto, unfolding(sql_tree::specs::Tails::behind_options))]
+pub(crate) fn behind_options(terminals: &[Terminal]) -> &[Terminal]
+    ensures { result.now ≡ spec.behind_options terminals.now }
+{
+    if begins_list(terminals) {
+        &terminals[closing(terminals)..]
+    } else {
+        terminals
+    }
+}
+
+/// What follows this word, which may stand first.
+#[tactic(auto, unfolding(sql_tree::specs::Tails::behind_flag))]
+pub(crate) fn behind_flag(word: Keyword, terminals: &[Terminal]) -> &[Terminal]
+    ensures { result.now ≡ spec.behind_flag word terminals.now }
+{
+    match terminals {
+        [first, rest @ ..] if first.is_keyword(word) => rest,
+        _ => terminals,
+    }
+}
+
+#[tactic(auto, unfolding(sql_tree::specs::Tails::is_on))]
+fn is_on(value: Terminal) -> bool
+    ensures { result ≡ spec.is_on value }
+{
+    value.is_keyword(Keyword::True)
+        || value.is_keyword(Keyword::On)
+        || matches!(value.symbol, Symbol::One)
+}
+
+#[tactic(auto, unfolding(sql_tree::specs::Tails::is_full))]
+fn is_full(option: &[Terminal]) -> bool
+    ensures { result ≡ spec.is_full option.now }
+{
+    match option {
+        [name] => name.is_keyword(Keyword::Full),
+        [name, value] => name.is_keyword(Keyword::Full) && is_on(*value),
+        _ => false,
+    }
+}
+
+#[tactic(auto, unfolding(sql_tree::specs::Tails::is_concurrent, sql_tree::specs::Tails::is_valued))]
+fn passes(test: OptionTest, option: &[Terminal]) -> bool
+    ensures { result ≡ test_of test option.now }
+{
+    match test {
+        OptionTest::Concurrent => begins_with(Keyword::Concurrently, option),
+        OptionTest::Valued => begins_with(Keyword::Concurrently, option) && option.len() > 1,
+        OptionTest::Full => is_full(option),
+    }
+}
+
+/// Whether one of the options, which stand with commas between them, passes the test.
+#[tactic(auto, unfolding(sql_tree::specs::Tails::any_option))]
+pub(crate) fn any_option(test: OptionTest, inside: &[Terminal]) -> bool
+    ensures { result ≡ spec.any_option (test_of test) inside.now }
+{
+    let mut parts = Parts::new(Mark::Comma, inside);
+    while let Some(part) = parts.next_part() {
+        if passes(test, part) {
+            return true;
+        }
+    }
+    false
+}

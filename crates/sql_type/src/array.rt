@@ -1,0 +1,120 @@
+//! Types, arrays among them.
+
+ghost use Rattle.std.specs.Prelude.{◌≡◌, ◌≤◌, ◌+◌, length};
+ghost use Rattle.sql_tree.specs.ColumnType as spec;
+
+use crate::plain::plain_type;
+use sql_mark::{Mark, begins_with, closing, span_of, terminals_before};
+use sql_token::{Keyword, Symbol, Terminal};
+use sql_tree::ColType;
+
+/// How many terminals of a column behind its name are its type.
+#[tactic(auto, unfolding(sql_tree::specs::ColumnType::type_len))]
+pub fn type_len(terminals: &[Terminal]) -> usize
+    ensures value { result ≡ spec.type_len terminals.now }
+    ensures within { result ≤ length terminals.now }
+{
+    terminals_before(Mark::TypeEnd, terminals)
+}
+
+/// Whether a terminal is no part of the bracket groups `[ .. ]` that end a list, where it stands behind `count`
+/// terminals, of which the first `kept` are none either.
+fn is_kept(outside: bool, kept: usize, count: usize, t: Terminal) -> bool
+    ensures { result ≡ spec.is_kept outside kept count t }
+{
+    if outside {
+        !matches!(t.symbol, Symbol::OpenSquare)
+    } else {
+        kept == count
+    }
+}
+
+/// How many terminals stand before the bracket groups `[ .. ]` that end the list.
+#[tactic(auto, unfolding(sql_tree::specs::ColumnType::before_groups))]
+fn before_groups(terminals: &[Terminal]) -> usize
+    ensures value { result ≡ spec.before_groups terminals.now }
+    ensures within { result ≤ length terminals.now }
+{
+    let mut left = terminals;
+    let mut kept = 0usize;
+    let mut count = 0usize;
+    let mut opened = 0usize;
+    let mut closed = 0usize;
+    while let [first, rest @ ..] = left {
+        if is_kept(opened == closed, kept, count, *first) {
+            kept = count + 1;
+        }
+        if first.is_opener() {
+            opened += 1;
+        }
+        if first.is_closer() {
+            closed += 1;
+        }
+        count += 1;
+        left = rest;
+    }
+    kept
+}
+
+/// An array of the type that `inner` is.
+#[tactic(auto, unfolding(sql_tree::specs::ColumnType::array_of))]
+fn array_of(terminals: &[Terminal], inner: &[Terminal]) -> Option<ColType>
+    ensures { result ≡ spec.array_of terminals.now inner.now }
+{
+    let mut ty = plain_type(inner)?;
+    ty.whole = span_of(terminals);
+    ty.array = true;
+    Some(ty)
+}
+
+/// A type and its bracket groups.
+#[tactic(auto, unfolding(sql_tree::specs::ColumnType::array_by_groups))]
+fn array_by_groups(terminals: &[Terminal]) -> Option<ColType>
+    ensures { result ≡ spec.array_by_groups terminals.now }
+{
+    let count = before_groups(terminals);
+    if count < terminals.len() {
+        array_of(terminals, &terminals[..count])
+    } else {
+        None
+    }
+}
+
+#[tactic(auto, unfolding(sql_tree::specs::ColumnType::ends_with))]
+fn ends_with(word: Keyword, terminals: &[Terminal]) -> bool
+    ensures { result ≡ spec.ends_with word terminals.now }
+{
+    if terminals.is_empty() {
+        return false;
+    }
+    begins_with(word, &terminals[terminals.len() - 1..])
+}
+
+/// A type, the word ARRAY, and no more than one group.
+#[tactic(auto, unfolding(sql_tree::specs::ColumnType::array_by_word))]
+fn array_by_word(terminals: &[Terminal]) -> Option<ColType>
+    ensures { result ≡ spec.array_by_word terminals.now }
+{
+    let count = before_groups(terminals);
+    let groups = &terminals[count..];
+    if ends_with(Keyword::Array, &terminals[..count]) && closing(groups) == groups.len() {
+        array_of(terminals, &terminals[..count.saturating_sub(1)])
+    } else {
+        None
+    }
+}
+
+/// The type that these terminals are, all of them; `None` where they are none. An array has the fields of its inner
+/// type, but for `whole` and `array`.
+#[tactic(auto, unfolding(sql_tree::specs::ColumnType::column_type))]
+pub fn column_type(terminals: &[Terminal]) -> Option<ColType>
+    ensures { result ≡ spec.column_type terminals.now }
+{
+    if let Some(ty) = array_by_word(terminals) {
+        return Some(ty);
+    }
+    match array_by_groups(terminals) {
+        Some(ty) => Some(ty),
+        None => plain_type(terminals),
+    }
+}

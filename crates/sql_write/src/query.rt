@@ -1,0 +1,110 @@
+//! The targets of a query (PostgreSQL manual, SELECT, output expressions).
+
+ghost use Rattle.std.specs.Prelude.{◌≡◌, IfOk};
+ghost use Rattle.std.specs.Option.{option_and_then};
+ghost use Rattle.sql_keyword.specs.declared.words.Keyword.TheVariants as k;
+ghost use Rattle.sql_tree.specs.Forms.{behind_word};
+ghost use Rattle.sql_tree.specs.Split.{behind_list};
+ghost use Rattle.sql_tree.specs.Write as spec;
+
+use sql_mark::{Mark, Parts, WriteMark, behind_list, names_from, until};
+use sql_part::behind_word;
+use sql_token::{Keyword, Terminal};
+use sql_tree::Target;
+use sqlite_items::Items;
+use std::alloc::Global;
+use text_pos::NoMemory;
+
+fn name_behind_as(terminals: &[Terminal]) -> Option<u32>
+    ensures { result ≡ spec.name_behind_as terminals.now }
+{
+    match terminals {
+        [first, name] if first.is_keyword(Keyword::As) && name.is_name() => Some(name.number),
+        _ => None,
+    }
+}
+
+/// The name of a closing `AS name`.
+#[tactic(auto, unfolding(sql_tree::specs::Write::alias_name))]
+fn alias_name(terminals: &[Terminal]) -> Option<u32>
+    ensures { result ≡ spec.alias_name terminals.now }
+{
+    let count = terminals.len();
+    if count < 2 {
+        return name_behind_as(terminals);
+    }
+    name_behind_as(&terminals[count - 2..])
+}
+
+/// The last name of a path that is all of these terminals.
+#[tactic(auto, unfolding(sql_tree::specs::Write::path_name))]
+fn path_name(terminals: &[Terminal]) -> Option<u32>
+    ensures { result ≡ spec.path_name terminals.now }
+{
+    match terminals {
+        [first, rest @ ..] if first.is_name() => {
+            let (last, left) = names_from(first.number, rest);
+            if left.is_empty() { Some(last) } else { None }
+        }
+        _ => None,
+    }
+}
+
+#[tactic(auto, unfolding(sql_tree::specs::Write::query_target))]
+fn query_target(terminals: &[Terminal]) -> Option<Target>
+    ensures { result ≡ spec.query_target terminals.now }
+{
+    let name = match alias_name(terminals) {
+        Some(name) => name,
+        None => path_name(terminals)?,
+    };
+    Some(Target {
+        name,
+        partial: false,
+    })
+}
+
+/// What follows DISTINCT: a list behind ON is taken.
+fn behind_on<'a>(terminals: &'a [Terminal]) -> &'a [Terminal]
+    ensures { result.now ≡ spec.left_or terminals.entry.now (option_and_then behind_list (behind_word k.On terminals.entry.now)) }
+{
+    match behind_word(Keyword::On, terminals) {
+        None => terminals,
+        Some(rest) => match behind_list(rest) {
+            None => terminals,
+            Some(behind) => behind,
+        },
+    }
+}
+
+/// What follows ALL, DISTINCT or DISTINCT ON ( .. ), where one of them stands first.
+#[tactic(auto, unfolding(sql_tree::specs::Write::behind_distinct))]
+fn behind_distinct(terminals: &[Terminal]) -> &[Terminal]
+    ensures { result.now ≡ spec.behind_distinct terminals.now }
+{
+    match terminals {
+        [first, rest @ ..] if first.is_keyword(Keyword::All) => rest,
+        [first, rest @ ..] if first.is_keyword(Keyword::Distinct) => behind_on(rest),
+        _ => terminals,
+    }
+}
+
+/// The targets of a query that have a name, by what follows its word SELECT: the name behind a closing AS, or the last
+/// name of a path.
+#[tactic(auto, unfolding(sql_tree::specs::Write::targets))]
+pub fn read_targets(alloc: Global, terminals: &[Terminal]) -> Result<Items<Target>, NoMemory>
+    ensures { IfOk result (λ ts. ts ≡ spec.targets terminals.now) }
+{
+    let mut targets = Items::new(alloc);
+    let listed = until(
+        Mark::Write(WriteMark::TargetListEnd),
+        behind_distinct(terminals),
+    );
+    let mut parts = Parts::new(Mark::Comma, listed);
+    while let Some(part) = parts.next_part() {
+        if let Some(found) = query_target(part) {
+            targets.push(found)?;
+        }
+    }
+    Ok(targets)
+}
