@@ -284,6 +284,26 @@ fn faults(rt: HostRuntime) -> Result<(), Fail> {
     Ok(())
 }
 
+/// Calls of the source and of the sink that fail, and the status of a run on a query.
+const QUERY_FAULTS: &[(&[u32], &[u32], Status)] = &[
+    (&[1], &[], Status::ReadFault),
+    (&[], &[0], Status::WriteFault),
+];
+
+#[test]
+fn faults_at_a_query(rt: HostRuntime) -> Result<(), Fail> {
+    let words = Words::new(rt.alloc());
+    for row in QUERY_FAULTS {
+        let mut src = MemSource::new(rt.alloc(), b"SELECT 1;", 100, row.0)?;
+        let mut out = MemSink::new(rt.alloc(), 1000, row.1)?;
+        let mut err = MemSink::new(rt.alloc(), 1000, &[])?;
+        let status = run(rt.alloc(), &words, &mut src, &mut out, &mut err);
+        assert_eq!(rt; status, row.2);
+        assert_eq!(rt; out.bytes(), "".as_bytes());
+    }
+    Ok(())
+}
+
 // Where words are refused no read is made: the read that fails is still to come, and all bytes are left.
 #[test]
 fn nothing_is_read(rt: HostRuntime) -> Result<(), Fail> {
