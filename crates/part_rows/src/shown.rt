@@ -10,7 +10,7 @@ use std::alloc::Global;
 use std::test::Fail;
 
 /// The bytes from the start of one token to the end of another one.
-pub fn source<'t>(p: &Parse<'t>, first: u32, last: u32) -> &'t str {
+pub(crate) fn source<'t>(p: &Parse<'t>, first: u32, last: u32) -> &'t str {
     let range = p.span_range(first, last);
     let start = range.start().raw() as usize;
     let end = range.end().raw() as usize;
@@ -18,7 +18,7 @@ pub fn source<'t>(p: &Parse<'t>, first: u32, last: u32) -> &'t str {
 }
 
 /// The word, where it is so.
-pub fn push_mark(out: &mut String, is_so: bool, word: &str) -> Result<(), Fail> {
+pub(crate) fn push_mark(out: &mut String, is_so: bool, word: &str) -> Result<(), Fail> {
     if is_so {
         out.push_str(word)?;
     }
@@ -26,7 +26,7 @@ pub fn push_mark(out: &mut String, is_so: bool, word: &str) -> Result<(), Fail> 
 }
 
 /// A token's own text behind the label, where there is a token.
-pub fn push_token(
+pub(crate) fn push_token(
     out: &mut String,
     p: &Parse<'_>,
     label: &str,
@@ -40,7 +40,7 @@ pub fn push_token(
 }
 
 /// The text of a span behind the label, where there is a span.
-pub fn push_span(
+pub(crate) fn push_span(
     out: &mut String,
     p: &Parse<'_>,
     label: &str,
@@ -54,7 +54,7 @@ pub fn push_span(
 }
 
 /// A text in quotes, behind a blank.
-pub fn push_quoted(out: &mut String, text: &str) -> Result<(), Fail> {
+pub(crate) fn push_quoted(out: &mut String, text: &str) -> Result<(), Fail> {
     out.push_str(" \'")?;
     out.push_str(text)?;
     out.push_str("\'")?;
@@ -110,7 +110,7 @@ fn push_inner(out: &mut String, p: &Parse<'_>, e: &Expr) -> Result<(), Fail> {
 }
 
 /// An expression, and the expressions in it.
-pub fn push_expr(out: &mut String, p: &Parse<'_>, e: &Expr) -> Result<(), Fail> {
+pub(crate) fn push_expr(out: &mut String, p: &Parse<'_>, e: &Expr) -> Result<(), Fail> {
     match e {
         Expr::Bin(parts) => {
             out.push_str("Bin of ")?;
@@ -135,7 +135,12 @@ pub fn push_expr(out: &mut String, p: &Parse<'_>, e: &Expr) -> Result<(), Fail> 
 // ---- columns
 
 /// A column type.
-pub fn push_type(alloc: Global, out: &mut String, p: &Parse<'_>, ty: &ColType) -> Result<(), Fail> {
+pub(crate) fn push_type(
+    alloc: Global,
+    out: &mut String,
+    p: &Parse<'_>,
+    ty: &ColType,
+) -> Result<(), Fail> {
     out.push_str(format!(in alloc; " {:?}/", ty.kind)?.as_str())?;
     push_span(out, p, "", Some(ty.whole))?;
     push_span(out, p, "/", Some(ty.inner))?;
@@ -146,7 +151,7 @@ pub fn push_type(alloc: Global, out: &mut String, p: &Parse<'_>, ty: &ColType) -
 }
 
 /// A constraint of a table, a column or a domain.
-pub fn push_constraint(
+pub(crate) fn push_constraint(
     alloc: Global,
     out: &mut String,
     p: &Parse<'_>,
@@ -165,7 +170,7 @@ pub fn push_constraint(
 }
 
 /// Constraints, each behind a comma.
-pub fn push_constraints(
+pub(crate) fn push_constraints(
     alloc: Global,
     out: &mut String,
     p: &Parse<'_>,
@@ -179,7 +184,12 @@ pub fn push_constraints(
 }
 
 /// A column: its name, its type, and its constraints.
-pub fn push_column(alloc: Global, out: &mut String, p: &Parse<'_>, c: &Column) -> Result<(), Fail> {
+pub(crate) fn push_column(
+    alloc: Global,
+    out: &mut String,
+    p: &Parse<'_>,
+    c: &Column,
+) -> Result<(), Fail> {
     push_token(out, p, "", Some(c.name))?;
     if let Some(ty) = &c.ty {
         push_type(alloc, out, p, ty)?;
@@ -197,7 +207,7 @@ fn push_element(alloc: Global, out: &mut String, p: &Parse<'_>, e: &Elem) -> Res
 }
 
 /// The elements of a table's list.
-pub fn push_elements(
+pub(crate) fn push_elements(
     alloc: Global,
     out: &mut String,
     p: &Parse<'_>,
@@ -237,7 +247,12 @@ fn push_pieces(
 }
 
 /// An action: its kind, its text in quotes, and what is known of it.
-pub fn push_action(alloc: Global, out: &mut String, p: &Parse<'_>, a: &Action) -> Result<(), Fail> {
+pub(crate) fn push_action(
+    alloc: Global,
+    out: &mut String,
+    p: &Parse<'_>,
+    a: &Action,
+) -> Result<(), Fail> {
     out.push_str(format!(in alloc; "{:?}", a.kind)?.as_str())?;
     push_quoted(out, source(p, a.first, a.last))?;
     push_token(out, p, " word ", a.word)?;
@@ -257,7 +272,7 @@ pub fn push_action(alloc: Global, out: &mut String, p: &Parse<'_>, a: &Action) -
 }
 
 /// Actions, one behind the other.
-pub fn push_actions(
+pub(crate) fn push_actions(
     alloc: Global,
     out: &mut String,
     p: &Parse<'_>,
@@ -275,7 +290,11 @@ pub fn push_actions(
 // ---- what is written and given
 
 /// Names with commas between them, each with `..` where only a part of it is written.
-pub fn push_targets(out: &mut String, p: &Parse<'_>, targets: &[Target]) -> Result<(), Fail> {
+pub(crate) fn push_targets(
+    out: &mut String,
+    p: &Parse<'_>,
+    targets: &[Target],
+) -> Result<(), Fail> {
     for t in targets {
         push_token(out, p, " ", Some(t.name))?;
         push_mark(out, t.partial, "..")?;
@@ -284,7 +303,7 @@ pub fn push_targets(out: &mut String, p: &Parse<'_>, targets: &[Target]) -> Resu
 }
 
 /// A SET clause: its parts in brackets, each with its text in quotes, and its targets.
-pub fn push_clause(out: &mut String, p: &Parse<'_>, clause: &[SetPart]) -> Result<(), Fail> {
+pub(crate) fn push_clause(out: &mut String, p: &Parse<'_>, clause: &[SetPart]) -> Result<(), Fail> {
     out.push_str(" set")?;
     for part in clause {
         out.push_str(" (")?;

@@ -178,7 +178,7 @@ fn push_stmts(alloc: Global, out: &mut String, p: &Parse<'_>) -> Result<(), Fail
 }
 
 /// The statements of a text with what is known of them, or why the text has no tree.
-pub fn statements(alloc: Global, text: &str) -> Result<String, Fail> {
+pub(crate) fn statements(alloc: Global, text: &str) -> Result<String, Fail> {
     let mut out = String::new(alloc);
     match parse(alloc, text) {
         Ok(p) => push_stmts(alloc, &mut out, &p)?,
@@ -188,7 +188,7 @@ pub fn statements(alloc: Global, text: &str) -> Result<String, Fail> {
 }
 
 /// The kinds of the statements of a text, or the word `syntax`.
-pub fn kinds(alloc: Global, text: &str) -> Result<String, Fail> {
+pub(crate) fn kinds(alloc: Global, text: &str) -> Result<String, Fail> {
     let mut out = String::new(alloc);
     match parse(alloc, text) {
         Ok(p) => {
