@@ -4,7 +4,8 @@ ghost use Rattle.std.specs.Prelude.{◌≡◌, ◌<◌};
 
 use crate::mark::Mark;
 use lint_base::{LinterSettings, Names, Rule, Violation};
-use lint_pass::{NoPass, Steps};
+use lint_pass::{NoPass, Pair, Steps};
+use pass_drop::StatementBan;
 use sql_read::parse;
 use sql_tree::Parse;
 use squawk_linter::{Linter, lint_text};
@@ -105,6 +106,32 @@ fn of_marks(alloc: Global, linter: &mut Linter, p: &Parse<'_>) -> Result<String,
     Ok(out)
 }
 
+// The reports of a text by the pass that reports each DROP DATABASE, and behind it the one that reports each statement.
+fn of_bans_and_marks(alloc: Global, linter: &mut Linter, p: &Parse<'_>) -> Result<String, Fail> {
+    let mut out = String::new(alloc);
+    let _text = p.text();
+    let both = Pair {
+        first: StatementBan::DropDatabase,
+        second: Mark,
+    };
+    let reports = linter.lint_with(alloc, p, &both)?;
+    push_reports(alloc, &mut out, reports.as_slice())?;
+    Ok(out)
+}
+
+// The same by the same passes the other way round.
+fn of_marks_and_bans(alloc: Global, linter: &mut Linter, p: &Parse<'_>) -> Result<String, Fail> {
+    let mut out = String::new(alloc);
+    let _text = p.text();
+    let both = Pair {
+        first: Mark,
+        second: StatementBan::DropDatabase,
+    };
+    let reports = linter.lint_with(alloc, p, &both)?;
+    push_reports(alloc, &mut out, reports.as_slice())?;
+    Ok(out)
+}
+
 // The reports of a tree by the call that counts the steps of the walk, over a new ledger.
 fn counted_by<L: Ledger>(
     blank: Blank,
@@ -164,6 +191,23 @@ fn marks(rt: HostRuntime) -> Result<(), Fail> {
     assert_eq!(rt;
         of_marks(rt.alloc(), &mut linter, &p)?.as_str(),
         "42..51 ban-drop-table "
+    );
+    Ok(())
+}
+
+// Reports at one place stand in the order of their passes, and all of them by their places.
+#[test]
+fn two_passes_at_one_place(rt: HostRuntime) -> Result<(), Fail> {
+    let text = "DROP DATABASE d; SELECT 1; DROP DATABASE e;";
+    let p = parse(rt.alloc(), text)?;
+    let mut linter = linter_of(rt.alloc(), false)?;
+    assert_eq!(rt;
+        of_bans_and_marks(rt.alloc(), &mut linter, &p)?.as_str(),
+        "0..16 ban-drop-database 0..16 ban-drop-table 17..26 ban-drop-table 27..43 ban-drop-database 27..43 ban-drop-table "
+    );
+    assert_eq!(rt;
+        of_marks_and_bans(rt.alloc(), &mut linter, &p)?.as_str(),
+        "0..16 ban-drop-table 0..16 ban-drop-database 17..26 ban-drop-table 27..43 ban-drop-table 27..43 ban-drop-database "
     );
     Ok(())
 }

@@ -1,2 +1,3 @@
+pub mod BuildLaws
 pub mod ConstraintLaws
-pub mod Ranges
+pub mod ConstraintReports

@@ -17,7 +17,7 @@ pub(crate) fn insertion_fix(
 ) -> Result<Fix, NoMemory>
     ensures { IfOk result (λ fix. fix ≡ insertion_fix title text at) }
 {
-    let mut edits = Vec::new(alloc);
+    let mut edits = Vec::with_capacity(alloc, 1)?;
     edits.push(Edit::insert(text, at))?;
     Ok(Fix { title, edits })
 }

@@ -1,19 +1,16 @@
 -- What the reports of the linter's own passes are.
-use Rattle.std.proofs.Common.{◌≡◌, ◌≢◌, ℕ, zero, suc, Bool, true, false, List, [], ◌∷◌, ◌++◌, length, max, take, refl, sym, ap, ◌∙◌, subst, inl, inr, arith, rules, Option, Some, None}
+use Rattle.std.proofs.Common.{◌≡◌, ◌≢◌, ℕ, true, false, List, [], ◌∷◌, ◌++◌, length, max, refl, sym, ap, ◌∙◌, subst, inl, inr, arith, rules}
 use Rattle.std.proofs.lemmas.Bool.{cases_Bool, cases_lt}
-use Rattle.std.proofs.lemmas.List.Elements.{All-append, All-cons, All-head, All-nil, All-tail, All-weaker, filter-append}
+use Rattle.std.proofs.lemmas.List.Elements.{All-append, All-head, All-tail, All-weaker, filter-append}
 use Rattle.std.proofs.lemmas.List.{get_or_past}
 use Rattle.std.proofs.lemmas.Str.{IsCharBoundary-start}
-use Rattle.std.specs.List.{flat_map, list_any}
-use Rattle.std.specs.Prelude.{All, ◌&&◌, ◌||◌, if◌then◌else◌, slice_get}
+use Rattle.std.specs.Prelude.{All, ◌&&◌, if◌then◌else◌}
 use Rattle.std.specs.Str.{IsCharBoundary, IsUtf8}
 use denote.Enum.Bare.{same_true}
 use Rattle.lint_base.specs.contracts.rule.Rule.{the_type}
 use Rattle.sql_token.proofs.Boundaries.{token_between}
 use Rattle.sql_token.specs.Token.{Text}
 use Rattle.sql_tree.specs.declared.nodes.Action.{Action}
-use Rattle.sql_tree.specs.declared.nodes.Body.{Body}
-use Rattle.sql_tree.specs.declared.nodes.Body.TheVariants as body
 use Rattle.sql_tree.specs.declared.nodes.Stmt.{Stmt}
 use Rattle.sql_tree.specs.Range.{span_range_of, token_at}
 use Rattle.sql_tree.specs.Statement.{Tree, IsTree, no_token}
@@ -30,101 +27,19 @@ use Rattle.lint_track.specs.Earlier.{pieces_below}
 use Rattle.lint_track.specs.Transaction.{is_open, stmt_at}
 use Rattle.pass_drop.specs.declared.statement_ban.StatementBan.{StatementBan}
 use Rattle.pass_drop.specs.declared.statement_ban.StatementBan.TheVariants.{DropDatabase}
-use Rattle.pass_drop.specs.SameKind.{same_kind}
 use Rattle.pass_drop.specs.StatementBan as ban
 use Rattle.pass_lock.specs.ConstraintMissingNotValid as constraint
 use Rattle.pass_lock.specs.ConstraintMissingNotValid.{addition_report, validation_report}
 use Rattle.pass_lock.specs.RequireConcurrentIndexCreation as build
 use Rattle.pass_lock.specs.RequireConcurrentIndexCreation.{report}
+use Rattle.pass_drop.proofs.BanLaws.{bans_all}
+use Rattle.pass_lock.proofs.BuildLaws.{builds_all}
+use Rattle.pass_lock.proofs.ConstraintReports.{constraints_all}
 use Rattle.squawk_linter.specs.Answers.{reports}
 use Rattle.squawk_linter.specs.Laws.{reports_by}
 use Rattle.pass_groups.specs.OwnTable.{own_table}
 use Rattle.squawk_linter.specs.Reports.{cleared}
 use Rattle.squawk_linter.proofs.Gathering.{answer_placed}
-
--- ---- lists made by cases
-
-pub pieces_all : {X : Type 0} (P : X → Type 0) (f : ℕ → List X) (n : ℕ) → ((i : ℕ) → All P (f i)) → All P (pieces_below f n)
-pieces_all P f zero h = All-nil P
-pieces_all P f (suc n) h = All-append P (pieces_below f n) (f n) (pieces_all P f n h) (h n)
-
-where_all : {X : Type 0} (P : X → Type 0) (b : Bool) (xs : List X) → All P xs → All P (if b then xs else [])
-where_all P true xs h = h
-where_all P false xs h = All-nil P
-
-unless_all : {X : Type 0} (P : X → Type 0) (b : Bool) (xs : List X) → All P xs → All P (if b then [] else xs)
-unless_all P true xs h = All-nil P
-unless_all P false xs h = h
-
-flat_all : {X Y : Type 0} (P : Y → Type 0) (f : X → List Y) (xs : List X) → ((x : X) → All P (f x)) → All P (flat_map f xs)
-flat_all P f [] h = All-nil P
-flat_all P f (x ∷ xs) h = All-append P (f x) (flat_map f xs) (h x) (flat_all P f xs h)
-
-one_all : {X : Type 0} (P : X → Type 0) (x : X) → P x → All P (x ∷ [])
-one_all P x h = All-cons P x [] h (All-nil P)
-
--- ---- statements of a kind
-
--- what holds of each report of a statement
-pub bans_all : (P : Violation → Type 0) (b : StatementBan) (tree : Tree) (rules : Rules) (settings : LinterSettings) → ((s : Stmt) → P (ban.report b tree s))
-    → All P (ban.reports_of_ban b tree rules settings)
-bans_all P b tree rules settings h =
-    pieces_all P (ban.reports_at b tree rules settings) (length tree.stmts)
-    (λ i. where_all P (has rules (ban.rule_of b)) (ban.reports_of b tree (stmt_at tree i)) (of_statement (stmt_at tree i)))
-  where
-    of_statement : (s : Stmt) → All P (ban.reports_of b tree s)
-    of_statement s = where_all P (same_kind s.kind (ban.kind_of b)) (ban.report b tree s ∷ []) (one_all P (ban.report b tree s) (h s))
-
--- ---- index builds
-
--- what holds of each report of an index build
-pub builds_all : (P : Violation → Type 0) (tree : Tree) (rules : Rules) (settings : LinterSettings) → ((s : Stmt) (word : ℕ) → P (build.report tree s word))
-    → All P (build.reports_of_require_concurrent_index_creation tree rules settings)
-builds_all P tree rules settings h =
-    pieces_all P (build.reports_at tree rules settings) (length tree.stmts)
-    (λ i. where_all P (has rules rule.RequireConcurrentIndexCreation) (build.reports_of settings tree i (stmt_at tree i)) (by_body i (stmt_at tree i) (stmt_at tree i).body))
-  where
-    by_body : (i : ℕ) (s : Stmt) (b : Body) → All P (build.reports_by settings tree i s b)
-    by_body i s (body.Index word unique None guarded name path) = unless_all P _ (build.report tree s word ∷ []) (one_all P (build.report tree s word) (h s word))
-    by_body i s _ = All-nil P
-
--- ---- constraints
-
--- what holds of each report of a validation
-pub validations_all : (P : Violation → Type 0) (tree : Tree) (rules : Rules) (settings : LinterSettings) → ((a : Action) → P (constraint.validation_report tree a))
-    → All P (constraint.reports_of_validations tree rules settings)
-validations_all P tree rules settings h =
-    pieces_all P (constraint.validations_at tree rules settings) (length tree.stmts)
-    (λ i.
-    where_all P (has rules rule.ConstraintMissingNotValid && is_open settings.assume_in_transaction tree i) (constraint.validations tree (λ name. constraint.is_added settings.assume_in_transaction tree name i) (constraint.actions_of (stmt_at tree i)))
-    (of_statement (λ name. constraint.is_added settings.assume_in_transaction tree name i) (constraint.actions_of (stmt_at tree i))))
-  where
-    of_action : (known : List ℕ → Bool) (o : Option Action) → All P (constraint.validation tree known o)
-    of_action known None = All-nil P
-    of_action known (Some a) = where_all P (constraint.is_known_path tree known (constraint.validated a)) (constraint.validation_report tree a ∷ []) (one_all P (constraint.validation_report tree a) (h a))
-
-    of_statement : (known : List ℕ → Bool) (actions : List Action) → All P (constraint.validations tree known actions)
-    of_statement known actions =
-        pieces_all P (constraint.validation_at tree known actions) (length actions) (λ k. of_action (λ name. known name || list_any (constraint.adds_not_valid tree name) (take k actions)) (slice_get actions k))
-
--- what holds of each report of an added constraint
-pub additions_all : (P : Violation → Type 0) (tree : Tree) (rules : Rules) (settings : LinterSettings) → ((a : Action) → P (constraint.addition_report tree a))
-    → All P (constraint.reports_of_additions tree rules settings)
-additions_all P tree rules settings h =
-    pieces_all P (constraint.additions_at tree rules settings) (length tree.stmts)
-    (λ i. where_all P (has rules rule.ConstraintMissingNotValid) (constraint.additions_of settings tree i (stmt_at tree i)) (of_statement i (stmt_at tree i)))
-  where
-    of_action : (a : Action) → All P (constraint.addition tree a)
-    of_action a = where_all P (constraint.is_checked (constraint.added a)) (constraint.addition_report tree a ∷ []) (one_all P (constraint.addition_report tree a) (h a))
-
-    of_statement : (i : ℕ) (s : Stmt) → All P (constraint.additions_of settings tree i s)
-    of_statement i s =
-        unless_all P (constraint.is_new_table settings tree i (constraint.table_of s)) (flat_map (constraint.addition tree) (constraint.actions_of s)) (flat_all P (constraint.addition tree) (constraint.actions_of s) of_action)
-
-pub constraints_all : (P : Violation → Type 0) (tree : Tree) (rules : Rules) (settings : LinterSettings) → ((a : Action) → P (constraint.validation_report tree a)) → ((a : Action) → P (constraint.addition_report tree a))
-    → All P (constraint.reports_of_constraint_missing_not_valid tree rules settings)
-constraints_all P tree rules settings first second =
-    All-append P (constraint.reports_of_validations tree rules settings) (constraint.reports_of_additions tree rules settings) (validations_all P tree rules settings first) (additions_all P tree rules settings second)
 
 -- ---- places
 
