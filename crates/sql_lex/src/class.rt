@@ -10,10 +10,12 @@ const NUMBER: u8 = 2;
 
 const OPERATOR: u8 = 4;
 
-// For each byte a digit, whose low three bits are the flags above.
+const BLANK: u8 = 8;
+
+// For each byte a digit, whose low four bits are the flags above.
 static RUNS: [u8; 256] = *b"\
-    00000000000000000000000000000000\
-    04041440004404243333333333004444\
+    00000000088888000000000000000000\
+    84041440004404243333333333004444\
     43333333333333333333333333300043\
     43333333333333333333333333304040\
     11111111111111111111111111111111\
@@ -71,6 +73,14 @@ pub fn first_class(b: u8) -> u8
     ensures { Tells result b }
 {
     FIRST[b as usize]
+}
+
+/// Whether this is white space.
+#[inline]
+pub fn is_blank(b: u8) -> bool
+    ensures { result ≡ spec.is_blank b }
+{
+    RUNS[b as usize] & BLANK != 0
 }
 
 /// Whether a word goes on over this byte.

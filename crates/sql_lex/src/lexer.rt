@@ -1,6 +1,6 @@
 //! The tokens of a whole text.
 
-ghost use Rattle.std.specs.Prelude.{◌≡◌, ◌<◌, ◌^◌, ◌≤◌, ℕ, List, length, true, IfOk, IfErr, IfSome, IfNone};
+ghost use Rattle.std.specs.Prelude.{◌≡◌, ◌++◌, [], ◌∷◌, ◌<◌, ◌^◌, ◌≤◌, ℕ, List, length, true, IfOk, IfErr, IfSome, IfNone};
 ghost use Rattle.sql_token.specs.Token.{At, Lexed, NeverCloses, OpenAt};
 ghost use Rattle.sql_token.specs.declared.token.Tok.{Tok};
 ghost use Rattle.sql_lex.specs.Signs.{SignsFrom};
@@ -8,7 +8,7 @@ ghost use Rattle.sql_lex.specs.Cause.{IsCause, OkOrNoMemory, IsOpenOrNoMemory};
 
 use crate::error::LexError;
 use crate::op::begins_sign;
-use crate::scan::token_at;
+use crate::scan::{plain_kind, run_end, token_at};
 use sql_token::{Tok, TokKind};
 use std::alloc::Global;
 
@@ -18,19 +18,51 @@ fn is_operator(kind: TokKind) -> bool
     matches!(kind, TokKind::Op)
 }
 
-/// The token at this place, which may be a sign that the operator before it lost.
-#[inline(always)]
-fn next_token(text: &[u8], at: usize, after_operator: bool) -> Option<(TokKind, usize)>
+/// The token at this place behind one of the last kind, where it may be a sign that an operator lost.
+#[inline(never)]
+fn any_token(text: &[u8], at: usize, last: TokKind) -> Option<(TokKind, usize)>
     requires begins { at < length text.now }
-    requires signs { after_operator ≡ true → (0 < at) × SignsFrom text.now at }
+    requires signs { last ≡ TokKind.Op → (0 < at) × SignsFrom text.now at }
     ensures found { IfSome result (λ t. At text.now at t.0 t.1) }
     ensures within { IfSome result (λ t. (at < t.1) × (t.1 ≤ length text.now)) }
     ensures none { IfNone result (NeverCloses text.now at) }
 {
-    if after_operator && begins_sign(&text[at..]) {
+    if is_operator(last) && begins_sign(&text[at..]) {
         return Some((TokKind::Op, at + 1));
     }
     token_at(text, at)
+}
+
+/// The token at this place behind one of the last kind: most often white space, a word or a mark.
+#[inline(always)]
+fn next_token(text: &[u8], at: usize, last: TokKind) -> Option<(TokKind, usize)>
+    requires begins { at < length text.now }
+    requires signs { last ≡ TokKind.Op → (0 < at) × SignsFrom text.now at }
+    ensures found { IfSome result (λ t. At text.now at t.0 t.1) }
+    ensures within { IfSome result (λ t. (at < t.1) × (t.1 ≤ length text.now)) }
+    ensures none { IfNone result (NeverCloses text.now at) }
+{
+    match plain_kind(&text[at..]) {
+        Some(TokKind::Word) => Some((TokKind::Word, run_end(TokKind::Word, text, at + 1))),
+        Some(TokKind::Blank) => Some((TokKind::Blank, run_end(TokKind::Blank, text, at + 1))),
+        Some(TokKind::Punct) => Some((TokKind::Punct, at + 1)),
+        _ => any_token(text, at, last),
+    }
+}
+
+/// Puts a token behind the others.
+#[inline(always)]
+fn push_token(toks: &mut Vec<Tok>, kind: TokKind, start: usize, end: usize) -> Result<(), LexError>
+    requires { (start < 2 ^ 32) × (end < 2 ^ 32) }
+    ensures ok { IfOk result (λ _. toks.new.items ≡ toks.old.items ++ record { kind = kind; start = start; end = end } ∷ []) }
+    ensures err { IfErr result (λ e. e ≡ LexError.NoMemory) }
+{
+    toks.push(Tok {
+        kind,
+        start: start as u32,
+        end: end as u32,
+    })?;
+    Ok(())
 }
 
 fn tokens(alloc: Global, text: &[u8]) -> Result<Vec<Tok>, LexError>
@@ -40,18 +72,14 @@ fn tokens(alloc: Global, text: &[u8]) -> Result<Vec<Tok>, LexError>
 {
     let mut toks = Vec::new(alloc);
     let mut at = 0;
-    let mut after_operator = false;
+    let mut last = TokKind::Other;
     while at < text.len() {
-        let Some((kind, end)) = next_token(text, at, after_operator) else {
+        let Some((kind, end)) = next_token(text, at, last) else {
             return Err(LexError::Unterminated { at: at as u32 });
         };
-        toks.push(Tok {
-            kind,
-            start: at as u32,
-            end: end as u32,
-        })?;
+        push_token(&mut toks, kind, at, end)?;
         at = end;
-        after_operator = is_operator(kind);
+        last = kind;
     }
     Ok(toks)
 }

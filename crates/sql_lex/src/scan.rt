@@ -1,6 +1,6 @@
 //! The token at the front of a text.
 
-ghost use Rattle.std.specs.Prelude.{Bool, ◌≡◌, ◌≢◌, ◌<◌, ◌≤◌, ◌+◌, ℕ, length, slice_index, true, IfSome, IfNone};
+ghost use Rattle.std.specs.Prelude.{Bool, ◌==◌, false, ◌≡◌, ◌≢◌, ◌<◌, ◌≤◌, ◌+◌, ℕ, length, slice_index, true, IfSome, IfNone};
 ghost use Rattle.sql_token.specs.Quote.{IsQuoted};
 ghost use Rattle.sql_token.specs.Token as spec;
 ghost use Rattle.sql_lex.specs.Begins.{Begins};
@@ -8,19 +8,13 @@ ghost use Rattle.sql_lex.specs.First.{IsPlain, IsNoDigit};
 
 use crate::class::{
     BLANK_FIRST, DIGIT_FIRST, DOUBLE_FIRST, LETTER_FIRST, OPERATOR_FIRST, PUNCT_FIRST, QUOTE_FIRST,
-    WORD_FIRST, byte, first_class, is_in_number, is_op, is_word,
+    WORD_FIRST, byte, first_class, is_blank, is_in_number, is_op, is_word,
 };
 use crate::comment::{comment_len, opens};
 use crate::dollar::{begins_dollar, dollar_len};
 use crate::op::{begins_comment, begins_op, op_len};
 use crate::quote::quoted_len;
 use sql_token::TokKind;
-
-fn is_blank(b: u8) -> bool
-    ensures { result ≡ spec.is_blank b }
-{
-    b == b' ' || (9 <= b && b <= 13)
-}
 
 fn begins_word(b: u8) -> bool
     ensures { result ≡ spec.begins_word b }
@@ -85,7 +79,7 @@ fn runs_over(kind: TokKind, z: &[u8], at: usize) -> bool
 
 /// The end of the longest run of this kind.
 #[inline(always)]
-fn run_end(kind: TokKind, z: &[u8], from: usize) -> usize
+pub fn run_end(kind: TokKind, z: &[u8], from: usize) -> usize
     requires some { 0 < from }
     requires within { from ≤ length z.now }
     ensures run { spec.IsRun kind z.now from result }
@@ -165,6 +159,13 @@ fn str_len(z: &[u8]) -> Option<usize>
     quoted_len(b'\'', is_e(byte(z, 0)), z, str_body(z))
 }
 
+/// Whether this byte may stand behind the prefix letter of a token in quotes.
+fn is_behind_prefix(b: u8) -> bool
+    ensures { result ≡ false → ((b == 39) ≡ false) × ((b == 38) ≡ false) }
+{
+    b == b'\'' || b == b'&'
+}
+
 /// The kind of the token at the front, which begins with a letter.
 fn letter_kind(z: &[u8]) -> TokKind
     requires plain { IsPlain (slice_index z.now 0) }
@@ -179,6 +180,23 @@ fn letter_kind(z: &[u8]) -> TokKind
         TokKind::UName
     } else {
         TokKind::Word
+    }
+}
+
+/// The kind of the token at the front, where it is white space, a word or a mark and its first byte tells so.
+#[inline(always)]
+pub fn plain_kind(z: &[u8]) -> Option<TokKind>
+    requires { 0 < length z.now }
+    ensures kind { IfSome result (λ k. (is_start : Bool) → k ≡ spec.kind_of is_start z.now) }
+    // A byte order mark is white space too, but here a blank stands in front.
+    ensures blank { IfSome result (λ k. k ≡ TokKind.Blank → spec.is_blank (slice_index z.now 0) ≡ true) }
+{
+    match first_class(z[0]) {
+        BLANK_FIRST => Some(TokKind::Blank),
+        WORD_FIRST => Some(TokKind::Word),
+        LETTER_FIRST if !is_behind_prefix(byte(z, 1)) => Some(TokKind::Word),
+        PUNCT_FIRST => Some(TokKind::Punct),
+        _ => None,
     }
 }
 
