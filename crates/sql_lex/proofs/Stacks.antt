@@ -1,13 +1,15 @@
 -- Counting back finds what a stack has on top.
-use Rattle.std.proofs.Common.{◌≡◌, ℕ, suc, zero, ◌+◌, ◌<◌, ◌==◌, Bool, true, false, not, ◌&&◌, nat_le, nat_lt, if◌then◌else◌, List, [], ◌∷◌, length, refl, sym, ◌∙◌, arith, Option, Some, None, ◌⊎◌, inl, inr}
+use Rattle.std.proofs.Common.{◌≡◌, ℕ, suc, zero, ◌+◌, ◌-◌, ◌<◌, ◌≤◌, ◌==◌, Bool, true, false, not, ◌&&◌, nat_le, nat_lt, if◌then◌else◌, List, [], ◌∷◌, length, take, drop, get_or, refl, sym, ap, ◌∙◌, arith, Option, Some, None, ◌⊎◌, inl, inr}
 use Rattle.std.specs.Prelude.{option_map}
 use Rattle.std.proofs.lemmas.Bool.Decides.{nat_tests}
+use Rattle.std.proofs.lemmas.List.{take_rest}
 use Rattle.sql_token.specs.declared.terminal.Symbol.{Symbol}
 use Rattle.sql_token.specs.declared.terminal.Symbol.TheVariants as s
 use Rattle.sql_token.specs.declared.terminal.Terminal.{Terminal}
-use Rattle.sql_token.specs.Terminal.{is_opener, is_closer, is_round, is_unicode_name, is_opener_symbol, is_closer_symbol}
-use Rattle.sql_token.specs.Sound.{partner, matches, opened, closed, sound_from, is_sound}
-use Rattle.sql_lex.specs.Stack.{nests, popped, none_open}
+use Rattle.sql_keyword.specs.declared.words.Keyword.TheVariants.{Begin}
+use Rattle.sql_token.specs.Terminal.{is_keyword, is_opener, is_closer, is_round, is_unicode_name, is_opener_symbol, is_closer_symbol}
+use Rattle.sql_token.specs.Sound.{partner, matches, opened, closed, sound_from, is_sound, begins_atomic}
+use Rattle.sql_lex.specs.Stack.{StandsAnywhere, nests, popped, none_open}
 
 tail : List Bool → List Bool
 tail [] = []
@@ -118,3 +120,20 @@ bridge e (t ∷ ts) h =
 pub sound_nests : (ts : List Terminal) → nests [] ts ≡ is_sound ts
 unfolding is_sound unclosed
 sound_nests ts = sym (bridge [] ts refl)
+
+never_atomic : (t : Terminal) (ts : List Terminal) → is_keyword Begin t ≡ false → begins_atomic t ts ≡ false
+unfolding begins_atomic
+never_atomic t [] h = refl
+never_atomic t (u ∷ us) h = rw h refl
+
+passed_by : (b x : Bool) → (if b && false then false else x) ≡ x
+passed_by true x = refl
+passed_by false x = refl
+
+stands_anywhere : (st : List Bool) (t : Terminal) (ts : List Terminal) → StandsAnywhere t → nests st (t ∷ ts) ≡ nests st ts
+stands_anywhere st t ts h = rw (h.name, h.opener, h.closer, never_atomic t ts h.begin) (passed_by (none_open st) (nests st ts))
+
+-- a terminal at the front that may stand anywhere is passed by
+pub pass_by : (st : List Bool) (ts : List Terminal) (t : Terminal) → 1 ≤ length ts → StandsAnywhere (get_or ts 0 t) → nests st (take (length ts - 1) (drop 1 ts)) ≡ nests st ts
+pass_by st [] t some h = absurd (omega arith)
+pass_by st (u ∷ us) t some h = ap (nests st) (take_rest (u ∷ us) 1) ∙ sym (stands_anywhere st u us h)

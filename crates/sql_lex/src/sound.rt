@@ -1,12 +1,12 @@
 //! Which statements may be read at all.
 
-ghost use Rattle.std.specs.Prelude.{◌≡◌, []};
+ghost use Rattle.std.specs.Prelude.{◌≡◌, true, []};
 ghost use Rattle.sql_token.specs.Sound as spec;
 ghost use Rattle.sql_token.specs.Terminal.{is_round};
-ghost use Rattle.sql_lex.specs.Stack.{nests};
+ghost use Rattle.sql_lex.specs.Stack.{StandsAnywhere, nests};
 
 use crate::brackets::Brackets;
-use sql_token::{Keyword, Terminal};
+use sql_token::{Keyword, Symbol, Terminal, same_keyword};
 
 #[tactic(auto, unfolding(sql_token::specs::Sound::begins_atomic))]
 fn begins_atomic(terminal: Terminal, rest: &[Terminal]) -> bool
@@ -28,6 +28,22 @@ fn has_same_kind(round: bool, terminal: Terminal) -> bool
     }
 }
 
+/// Whether this may stand anywhere in a statement that may be read.
+#[tactic(auto, unfolding(sql_token::specs::Terminal::is_unicode_name, sql_token::specs::Terminal::is_opener, sql_token::specs::Terminal::is_closer, sql_token::specs::Terminal::is_keyword))]
+fn stands_anywhere(terminal: Terminal) -> bool
+    ensures { result ≡ true → StandsAnywhere terminal }
+{
+    match terminal.symbol {
+        Symbol::Keyword(found) => !same_keyword(found, Keyword::Begin),
+        Symbol::UName
+        | Symbol::OpenRound
+        | Symbol::CloseRound
+        | Symbol::OpenSquare
+        | Symbol::CloseSquare => false,
+        _ => true,
+    }
+}
+
 /// Goes terminal by terminal with a stack of the open brackets.
 fn nests(statement: &[Terminal]) -> bool
     ensures { result ≡ nests [] statement.now }
@@ -35,6 +51,10 @@ fn nests(statement: &[Terminal]) -> bool
     let mut brackets = Brackets::new();
     let mut left = statement;
     while let [terminal, rest @ ..] = left {
+        if stands_anywhere(*terminal) {
+            left = rest;
+            continue;
+        }
         if terminal.is_unicode_name() {
             return false;
         }
