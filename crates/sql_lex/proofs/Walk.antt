@@ -7,7 +7,7 @@ use Rattle.sql_token.specs.declared.terminal.Terminal.{Terminal}
 use Rattle.sql_token.specs.Token.{Text, Leads, Lexed, text_of}
 use Rattle.sql_token.specs.Terminal.{is_significant, symbol_of, terminals_from, is_opener, is_closer, is_semicolon}
 use Rattle.sql_token.specs.Depth.{onto, one_if, statements_from}
-use Rattle.sql_lex.specs.Cursor.{LieIn, IsWalk, Steps, IsNext}
+use Rattle.sql_lex.specs.Cursor.{GoesOn, LieIn, IsWalk, Steps, IsNext}
 
 -- these terminals before the first of these lists
 abbrev pub onto_all : List Terminal → List (List Terminal) → List (List Terminal)
@@ -67,6 +67,19 @@ pub goes_on : (buffer : List Terminal) (o c : ℕ) (t : Terminal) (ts from : Lis
 goes_on buffer o c t ts from all begins on same =
     let step : statements_from o c from ≡ onto t (statements_from (o + one_if (is_opener t)) (c + one_if (is_closer t)) ts) = rw (begins, on) refl in
     onto_all-push buffer t _ ∙ ap (onto_all buffer) (sym step) ∙ same
+
+no_end : (b s : Bool) → s ≡ false → b && s ≡ false
+no_end true s h = h
+no_end false s h = refl
+
+-- the terminal is neither a bracket nor `;`
+pub goes_over : (buffer : List Terminal) (o c : ℕ) (t : Terminal) (ts from : List Terminal) (all : List (List Terminal)) → from ≡ t ∷ ts → GoesOn t → onto_all buffer (statements_from o c from) ≡ all
+    → onto_all (buffer ++ t ∷ []) (statements_from o c ts) ≡ all
+goes_over buffer o c t ts from all begins h same =
+    let opened : o ≡ o + 0 = omega arith in
+    let closed : c ≡ c + 0 = omega arith in
+    (λ i. onto_all (buffer ++ t ∷ []) (statements_from (opened i) (closed i) ts))
+    ∙ (rw (h.opener, h.closer) at (goes_on buffer o c t ts from all begins (no_end (o == c) (is_semicolon t) h.semicolon) same))
 
 -- the terminal ends a statement
 pub ends : (buffer : List Terminal) (o c : ℕ) (t : Terminal) (ts from : List Terminal) (all : List (List Terminal)) → from ≡ t ∷ ts → (o == c && is_semicolon t) ≡ true → onto_all buffer (statements_from o c from) ≡ all

@@ -3,7 +3,7 @@ use Rattle.std.specs.Prelude.{◌≡◌, ◌≤◌, ◌<◌, ◌^◌, ℕ, Bool,
 use Rattle.sql_token.specs.declared.token.Tok.{Tok}
 use Rattle.sql_token.specs.declared.terminal.Terminal.{Terminal}
 use Rattle.sql_token.specs.Token.{Text}
-use Rattle.sql_token.specs.Terminal.{terminals_from}
+use Rattle.sql_token.specs.Terminal.{terminals_from, is_opener, is_closer, is_semicolon}
 use Rattle.sql_token.specs.Depth.{statements_from}
 
 -- These tokens lie in a text of so many bytes.
@@ -36,3 +36,9 @@ IsNext (t ∷ ts) old new = old ≡ (t ∷ ts) ∷ new
 pub record IsFirst (t : Text) (toks : List Tok) (n : ℕ) (statement : List Terminal) (m : ℕ) : Type 0 where
   pub within : m ≤ length toks
   pub step : IsNext statement (statements_after t toks n) (statements_after t toks m)
+
+-- neither a bracket nor `;`
+pub record GoesOn (t : Terminal) : Type 0 where
+  pub semicolon : is_semicolon t ≡ false
+  pub opener : is_opener t ≡ false
+  pub closer : is_closer t ≡ false
