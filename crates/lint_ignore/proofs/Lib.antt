@@ -4,5 +4,6 @@ pub mod Marks
 pub mod Parts
 pub mod Places
 pub mod RuleNumbers
+pub mod Silent
 pub mod UnusedNames
 pub mod Uses

@@ -315,7 +315,7 @@ parts_named whole p h =
 -- ---- comments
 
 -- all of a text
-abbrev all_of : Text → Part
+abbrev pub all_of : Text → Part
 all_of t = record { at = 0; bytes = t }
 
 token_stands : (tree : Tree) (i : ℕ) → IsTree tree → IsUtf8 tree.text → i < length tree.toks → IsPartOf (all_of tree.text) (token_part tree.text (token_at tree.toks i))
@@ -381,13 +381,17 @@ stands_ignored : (whole : Part) (o : Option Part) → IfSome o (IsPartOf whole) 
 stands_ignored whole None h = tt
 stands_ignored whole (Some body) h = begun whole body h
 
--- an ignore comment stands in its text
-comment_stands : (tree : Tree) (i : ℕ) → IsTree tree → IsUtf8 tree.text → i < length tree.toks → IfSome (ignore_in_token tree.text (token_at tree.toks i)) (StandsAt (all_of tree.text))
-comment_stands tree i is utf8 within =
+-- the body of a comment stands in its text
+pub body_stands : (tree : Tree) (i : ℕ) → IsTree tree → IsUtf8 tree.text → i < length tree.toks → IfSome (comment_body tree.text (token_at tree.toks i)) (IsPartOf (all_of tree.text))
+body_stands tree i is utf8 within =
     let tok : Tok = token_at tree.toks i in
     let here = token_stands tree i is utf8 within in
     let marks : CanCutMarks tok.kind (text_of tree.text tok) = marks_of tree i (text_of tree.text tok) is within here.utf8 refl in
-    stands_ignored (all_of tree.text) (comment_body tree.text tok) (stands_body (all_of tree.text) (inside tok.kind (token_part tree.text tok)) (stands_inside (all_of tree.text) (token_part tree.text tok) tok.kind here marks))
+    stands_body (all_of tree.text) (inside tok.kind (token_part tree.text tok)) (stands_inside (all_of tree.text) (token_part tree.text tok) tok.kind here marks)
+
+-- an ignore comment stands in its text
+comment_stands : (tree : Tree) (i : ℕ) → IsTree tree → IsUtf8 tree.text → i < length tree.toks → IfSome (ignore_in_token tree.text (token_at tree.toks i)) (StandsAt (all_of tree.text))
+comment_stands tree i is utf8 within = stands_ignored (all_of tree.text) (comment_body tree.text (token_at tree.toks i)) (body_stands tree i is utf8 within)
 
 kept_all : {Y : Type 0} (P : Y → Type 0) (o : Option Y) (ys : List Y) → IfSome o P → All P ys → All P (cons_option o ys)
 kept_all P None ys h all = all

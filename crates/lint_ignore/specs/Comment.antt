@@ -1,5 +1,5 @@
 -- Comments that speak to the linter.
-use Rattle.std.specs.Prelude.{◌≡◌, ◌≤◌, ℕ, ◌-◌, Bool, false, List, Option, Some, None, codes, nat_eq, bytes_eq, length, if◌then◌else◌}
+use Rattle.std.specs.Prelude.{◌≡◌, ◌≤◌, ℕ, ◌-◌, Bool, false, List, Option, Some, None, IfSome, codes, nat_eq, bytes_eq, length, if◌then◌else◌}
 use Rattle.std.specs.List.{list_any, starts_with}
 use Rattle.std.specs.Option.{option_and_then}
 use Rattle.std.specs.Str.{IsCharBoundary}
@@ -33,6 +33,10 @@ token_part t k = record { at = k.start; bytes = text_of t k }
 -- the body of a token that is a comment
 abbrev pub comment_body : Text → Tok → Option Part
 comment_body t k = option_and_then (λ p. Some (body_of p)) (inside k.kind (token_part t k))
+
+-- the token is no comment whose body begins with these words
+abbrev pub BeginsNoBody : List ℕ → Text → Tok → Type 0
+BeginsNoBody words t k = IfSome (comment_body t k) (λ body. starts_with nat_eq body.bytes words ≡ false)
 
 -- ---- ignore comments
 

@@ -1,11 +1,12 @@
 //! Comments that speak to the linter.
-ghost use Rattle.std.specs.Prelude.{◌≡◌, ◌<◌, ◌+◌, ◌^◌, length, MatchOption, Some, None};
-ghost use Rattle.lint_ignore.specs.Comment.{CanCutMarks, IsIgnore, comment_body, has_disable_comment, ignore_in, ignore_of, inside, is_disable_comment, token_part};
+ghost use Rattle.std.specs.Prelude.{◌≡◌, ◌<◌, ◌+◌, ◌^◌, All, false, length, MatchOption, Some, None};
+ghost use Rattle.lint_ignore.specs.Comment.{BeginsNoBody, CanCutMarks, IsIgnore, comment_body, has_disable_comment, ignore_in, ignore_of, inside, is_disable_comment, token_part};
 ghost use Rattle.lint_ignore.specs.Part.{part_of, range_of};
 ghost use Rattle.sql_tree.specs.Range.{token_at};
 
 use crate::ignore::IgnoreKind;
 use crate::part::Part;
+use memchr::memmem;
 use sql_token::TokKind;
 use sql_tree::Parse;
 use text_pos::TextRange;
@@ -110,6 +111,15 @@ pub fn ignore_rule_info<'t>(p: &Parse<'t>, i: usize) -> Option<(&'t str, TextRan
     }
 }
 
+// Whether the body of some comment may begin with these words: whether they stand anywhere in the
+// text. Most texts lack them, and a text is searched much faster than its tokens, which take several
+// times its memory.
+pub(crate) fn may_begin_body(p: &Parse, words: &str) -> bool
+    ensures { result ≡ false → All (BeginsNoBody words.now p.now.text) p.now.toks }
+{
+    memmem::find(p.text().as_bytes(), words.as_bytes()).is_some()
+}
+
 // Whether token `i` is the disable comment.
 fn is_disable_comment(p: &Parse, i: usize) -> bool
     requires { i < length p.now.toks }
@@ -126,6 +136,9 @@ fn is_disable_comment(p: &Parse, i: usize) -> bool
 pub fn has_disable_assume_in_transaction(p: &Parse) -> bool
     ensures { result ≡ has_disable_comment p.now }
 {
+    if !may_begin_body(p, DISABLE_TEXT) {
+        return false;
+    }
     for i in 0..p.tokens().len() {
         if is_disable_comment(p, i) {
             return true;

@@ -1,6 +1,6 @@
 //! The ignore comments of a text, found.
 
-use crate::comment::ignore_of;
+use crate::comment::{IGNORE_LINE_TEXT, ignore_of, may_begin_body};
 use crate::ignore::{Ignore, IgnoreKind, IgnorePiece};
 use crate::part::Part;
 use lint_base::{Reports, Rule, RuleSet, Text, UnknownName, Violation};
@@ -176,6 +176,9 @@ pub fn find_ignores(alloc: Global, p: &Parse, found: &mut Found) -> Result<(), N
     ensures ok { OnOk result (lists_of found.new ≡ followed_by (lists_of found.old) (found_from (length found.old.ignores.items) p.now)) }
     ensures err { OnErr result (HasGrown (lists_of found.old) (lists_of found.new) (found_from (length found.old.ignores.items) p.now)) }
 {
+    if !may_begin_body(p, IGNORE_LINE_TEXT) {
+        return Ok(());
+    }
     for i in 0..p.tokens().len() {
         if let Some((rest, kind)) = ignore_of(p, i) {
             add_ignore(alloc, rest, kind, found)?;

@@ -3,8 +3,12 @@ use Rattle.lint_base.specs.Grown.{at_err}
 use Rattle.lint_ignore.specs.Found.{lists_of, HasGrown, found_from}
 use Rattle.lint_ignore.specs.Part.{part_of}
 use Rattle.lint_ignore.proofs.Growth.{found_none, found_some, found_part}
+use Rattle.lint_ignore.proofs.Silent.{silent_found}
 use Rattle.lint_ignore.proofs.found.find_ignores.Goals as goal
 use Rattle.lint_ignore.proofs.found.find_ignores.Goals.{in-Some+in_ok-add_ignore, in_default}
+
+pub returns-then-not-may_begin_body-clause-ok : goal.returns-then-not-may_begin_body-clause-ok
+returns-then-not-may_begin_body-clause-ok c = silent_found c.args.p.now (lists_of c.args.found.now) (length c.args.found.now.ignores.items) (c.may_begin_body.ensures c.if-not-may_begin_body.true)
 
 pub returns-in_err-add_ignore-clause-err : goal.returns-in_err-add_ignore-clause-err
 returns-in_err-add_ignore-clause-err c =
