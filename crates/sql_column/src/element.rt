@@ -5,7 +5,7 @@ ghost use Rattle.sql_tree.specs.Column as spec;
 ghost use Rattle.sql_tree.specs.Constraint.{table_constraint};
 
 use crate::column::read_column;
-use sql_constraint::{is_exclusion, read_table_constraint};
+use sql_constraint::{is_exclusion, make_room, read_table_constraint};
 use sql_mark::{Mark, Parts, has_mark, inside_list};
 use sql_token::{Keyword, Symbol, Terminal};
 use sql_tree::Elem;
@@ -81,13 +81,14 @@ fn element(alloc: Global, terminals: &[Terminal]) -> Result<Elem, NoMemory>
 fn listed(alloc: Global, inside: &[Terminal]) -> Result<Items<Elem>, NoMemory>
     ensures { IfOk result (λ es. es ≡ spec.listed inside.now) }
 {
-    let mut elements = Items::new(alloc);
+    let mut elements = Vec::new(alloc);
     let mut parts = Parts::new(Mark::Comma, inside);
     while let Some(part) = parts.next_part() {
+        make_room(&mut elements, part, inside)?;
         let read = element(alloc, part)?;
         elements.push(read)?;
     }
-    Ok(elements)
+    Ok(Items::from_vec(elements))
 }
 
 /// The elements of the list that stands directly behind a table's path; none, where no list does. An element that does

@@ -6,6 +6,7 @@ ghost use Rattle.sql_tree.specs.Constraint as spec;
 ghost use Rattle.sql_constraint.specs.Views.{beside};
 
 use crate::constraint::{constraint_in, constraint_name};
+use crate::list::put;
 use sql_mark::{Mark, Pieces, kind_led};
 use sql_token::Terminal;
 use sql_tree::{ConKind, Constraint};
@@ -81,13 +82,13 @@ pub fn read_column_constraints(
 ) -> Result<Option<Items<Constraint>>, NoMemory>
     ensures { IfOk result (λ cs. cs ≡ spec.column_constraints earlier terminals.now) }
 {
-    let mut constraints = Items::new(alloc);
+    let mut constraints = Vec::new(alloc);
     let mut pieces = Pieces::new(Mark::Constraint, earlier, terminals);
     while let Some(piece) = pieces.next_piece() {
         match column_constraint(alloc, piece)? {
             None => return Ok(None),
-            Some(constraint) => constraints.push(constraint)?,
+            Some(constraint) => put(&mut constraints, constraint)?,
         }
     }
-    Ok(Some(constraints))
+    Ok(Some(Items::from_vec(constraints)))
 }

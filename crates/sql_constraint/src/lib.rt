@@ -3,7 +3,9 @@
 
 mod column;
 mod constraint;
+mod list;
 mod value;
 
 pub use column::read_column_constraints;
 pub use constraint::{behind_two, is_exclusion, read_table_constraint};
+pub use list::{make_room, put};

@@ -8,7 +8,7 @@ use Rattle.sql_constraint.proofs.column.read_column_constraints.Given as goal
 
 abbrev pub invariant-loop-piece : goal.invariant-loop-piece
 invariant-loop-piece l =
-    with_front l.constraints (all_of column_constraint l.pieces) ≡ all_of column_constraint (pieces constraint_start constraint_head l.fn.earlier l.terminals)
+    with_front l.constraints.items (all_of column_constraint l.pieces) ≡ all_of column_constraint (pieces constraint_start constraint_head l.fn.earlier l.terminals)
 
 abbrev pub decreases-loop-piece : goal.decreases-loop-piece
 decreases-loop-piece l = length l.pieces
