@@ -8,7 +8,7 @@ use crate::pieces::{read_attributes, read_column_option, read_pieces};
 use crate::starts::{behind_maybe, first_symbol, own_part, takes_constraint};
 use crate::tables::{first_rows_at, general_rows_at, own_rows};
 use sql_column::read_column;
-use sql_constraint::read_table_constraint;
+use sql_constraint::{make_room, put, read_table_constraint};
 use sql_mark::{Mark, Parts, span_of};
 use sql_part::{behind_word, nothing_kept, read_whole};
 use sql_token::{Keyword, Terminal};
@@ -282,15 +282,16 @@ fn several_actions(
 ) -> Result<Option<Items<Action>>, NoMemory>
     ensures { IfOk result (λ actions. actions ≡ spec.several_actions kind tail.now) }
 {
-    let mut actions = Items::new(alloc);
+    let mut actions = Vec::new(alloc);
     let mut parts = Parts::new(Mark::Comma, tail);
     while let Some(part) = parts.next_part() {
+        make_room(&mut actions, part, tail)?;
         match read_action(alloc, kind, part)? {
             None => return Ok(None),
             Some(action) => actions.push(action)?,
         }
     }
-    Ok(Some(actions))
+    Ok(Some(Items::from_vec(actions)))
 }
 
 #[tactic(auto, unfolding(sql_tree::specs::Action::one_action))]
@@ -304,9 +305,9 @@ fn one_action(
     match read_action(alloc, kind, tail)? {
         None => Ok(None),
         Some(action) => {
-            let mut actions = Items::new(alloc);
-            actions.push(action)?;
-            Ok(Some(actions))
+            let mut actions = Vec::new(alloc);
+            put(&mut actions, action)?;
+            Ok(Some(Items::from_vec(actions)))
         }
     }
 }

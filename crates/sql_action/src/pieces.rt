@@ -5,6 +5,7 @@ ghost use Rattle.std.specs.Option.{option_copied};
 ghost use Rattle.sql_tree.specs.ActionPieces as spec;
 ghost use Rattle.sql_tree.specs.Split.{uncons};
 
+use sql_constraint::{make_room, put};
 use sql_mark::{Mark, Parts, begins_with, closing, span_of, terminals_before};
 use sql_part::{nothing_kept, read_whole};
 use sql_token::{Keyword, Symbol, Terminal};
@@ -174,15 +175,15 @@ pub(crate) fn read_pieces(
     ensures { IfOk result (λ pieces. pieces ≡ spec.pieces_of list terminals.now) }
 {
     let rows = piece_rows(list);
-    let mut pieces = Items::new(alloc);
+    let mut pieces = Vec::new(alloc);
     let mut parts = Pieces::new(list, terminals);
     while let Some(part) = parts.next_piece() {
         match piece_by(rows, part) {
             None => return Ok(None),
-            Some(piece) => pieces.push(piece)?,
+            Some(piece) => put(&mut pieces, piece)?,
         }
     }
-    Ok(Some(pieces))
+    Ok(Some(Items::from_vec(pieces)))
 }
 
 /// The pieces of ALTER TYPE, between commas; `Ok(None)` where one is none.
@@ -193,15 +194,16 @@ pub(crate) fn read_attributes(
 ) -> Result<Option<Items<Piece>>, NoMemory>
     ensures { IfOk result (λ pieces. pieces ≡ spec.attributes terminals.now) }
 {
-    let mut pieces = Items::new(alloc);
+    let mut pieces = Vec::new(alloc);
     let mut parts = Parts::new(Mark::Comma, terminals);
     while let Some(part) = parts.next_part() {
+        make_room(&mut pieces, part, terminals)?;
         match piece_by(&ATTRIBUTE, part) {
             None => return Ok(None),
             Some(piece) => pieces.push(piece)?,
         }
     }
-    Ok(Some(pieces))
+    Ok(Some(Items::from_vec(pieces)))
 }
 
 // ---- options of a column
@@ -212,9 +214,9 @@ fn alone(alloc: Global, piece: Option<Piece>) -> Result<Option<Items<Piece>>, No
     match piece {
         None => Ok(None),
         Some(piece) => {
-            let mut pieces = Items::new(alloc);
-            pieces.push(piece)?;
-            Ok(Some(pieces))
+            let mut pieces = Vec::new(alloc);
+            put(&mut pieces, piece)?;
+            Ok(Some(Items::from_vec(pieces)))
         }
     }
 }

@@ -7,7 +7,7 @@ use Rattle.sql_action.proofs.pieces.read_attributes.Given as goal
 
 abbrev pub invariant-loop-part : goal.invariant-loop-part
 invariant-loop-part l =
-    with_front l.pieces (all_of (piece_by (map (λ r. (r.0, r.1.now)) ATTRIBUTE)) l.parts)
+    with_front l.pieces.items (all_of (piece_by (map (λ r. (r.0, r.1.now)) ATTRIBUTE)) l.parts)
     ≡ all_of (piece_by (map (λ r. (r.0, r.1.now)) ATTRIBUTE)) (split comma l.terminals)
 
 abbrev pub decreases-loop-part : goal.decreases-loop-part

@@ -6,7 +6,7 @@ use Rattle.sql_action.proofs.pieces.read_pieces.Given as goal
 
 abbrev pub invariant-loop-part : goal.invariant-loop-part
 invariant-loop-part l =
-    with_front l.pieces (all_of (piece_by (piece_rows l.fn.list)) l.parts)
+    with_front l.pieces.items (all_of (piece_by (piece_rows l.fn.list)) l.parts)
     ≡ all_of (piece_by (piece_rows l.fn.list)) (pieces_behind l.fn.list 0 l.fn.terminals)
 
 abbrev pub decreases-loop-part : goal.decreases-loop-part
