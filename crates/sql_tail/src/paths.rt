@@ -34,7 +34,7 @@ fn next_name<'a>(terminals: &'a [Terminal]) -> Option<(bool, u32, &'a [Terminal]
 pub fn read_paths(alloc: Global, path: Span, left: &[Terminal]) -> Result<Items<Span>, NoMemory>
     ensures { IfOk result (λ paths. paths ≡ spec.paths_from path.first path.last left.now) }
 {
-    let mut paths = Items::new(alloc);
+    let mut paths = Vec::with_capacity(alloc, 1)?;
     let mut here = left;
     let mut path = path;
     while let Some((is_path, number, rest)) = next_name(here) {
@@ -46,7 +46,7 @@ pub fn read_paths(alloc: Global, path: Span, left: &[Terminal]) -> Result<Items<
         here = rest;
     }
     paths.push(path)?;
-    Ok(paths)
+    Ok(Items::from_vec(paths))
 }
 
 /// A path or nothing, and no more than that: `None` where it is something else.

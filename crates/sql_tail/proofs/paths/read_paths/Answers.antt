@@ -4,6 +4,6 @@ use Rattle.sql_tail.proofs.paths.read_paths.Goals as goal
 
 pub loop-is_path-preserved-in_ok-push : goal.loop-is_path-preserved-in_ok-push
 loop-is_path-preserved-in_ok-push c =
-    path_put _ _ _ _ _ _ _ c.in_ok-push.ensures.ok
+    path_put _ _ _ _ _ _ _ c.in_ok-push.ensures.items
     (sym c.in-Some.ensures.value ∙ ap (λ b. Some (b, c.in-Some.number, c.in-Some.rest.now)) c.if-is_path.true)
     c.loop-is_path.invariant
