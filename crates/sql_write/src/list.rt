@@ -4,6 +4,7 @@ ghost use Rattle.std.specs.Prelude.{◌≡◌, IfOk, drop};
 ghost use Rattle.sql_tree.specs.Write as spec;
 
 use crate::target::targets_between;
+use sql_constraint::put;
 use sql_mark::{Mark, Parts, WriteMark, begins_list, inside_list};
 use sql_token::{Keyword, Symbol, Terminal};
 use sql_tree::{StmtKind, Target};
@@ -77,15 +78,15 @@ fn behind_one(terminals: &[Terminal]) -> &[Terminal]
 fn insert_lists(alloc: Global, tail: &[Terminal]) -> Result<Items<Items<Target>>, NoMemory>
     ensures { IfOk result (λ lists. lists ≡ spec.insert_lists tail.now) }
 {
-    let mut lists = Items::new(alloc);
+    let mut lists = Vec::new(alloc);
     let mut parts = Parts::new(Mark::Write(WriteMark::ThenInsert), tail);
     let _front = parts.next_part();
     while let Some(part) = parts.next_part() {
         if let Some(list) = column_list(alloc, behind_one(part))? {
-            lists.push(list)?;
+            put(&mut lists, list)?;
         }
     }
-    Ok(lists)
+    Ok(Items::from_vec(lists))
 }
 
 /// The lists of a statement of this kind, by what follows its table.
@@ -99,11 +100,11 @@ pub(crate) fn lists_of(
 {
     match kind {
         StmtKind::Insert => {
-            let mut lists = Items::new(alloc);
+            let mut lists = Vec::new(alloc);
             if let Some(list) = column_list(alloc, behind_alias(tail))? {
-                lists.push(list)?;
+                put(&mut lists, list)?;
             }
-            Ok(lists)
+            Ok(Items::from_vec(lists))
         }
         StmtKind::Merge => insert_lists(alloc, tail),
         _ => Ok(Items::new(alloc)),

@@ -7,6 +7,7 @@ ghost use Rattle.sql_tree.specs.Forms.{behind_word};
 ghost use Rattle.sql_tree.specs.Split.{behind_list};
 ghost use Rattle.sql_tree.specs.Write as spec;
 
+use sql_constraint::make_room;
 use sql_mark::{Mark, Parts, WriteMark, behind_list, names_from, until};
 use sql_part::behind_word;
 use sql_token::{Keyword, Terminal};
@@ -95,7 +96,7 @@ fn behind_distinct(terminals: &[Terminal]) -> &[Terminal]
 pub fn read_targets(alloc: Global, terminals: &[Terminal]) -> Result<Items<Target>, NoMemory>
     ensures { IfOk result (λ ts. ts ≡ spec.targets terminals.now) }
 {
-    let mut targets = Items::new(alloc);
+    let mut targets = Vec::new(alloc);
     let listed = until(
         Mark::Write(WriteMark::TargetListEnd),
         behind_distinct(terminals),
@@ -103,8 +104,9 @@ pub fn read_targets(alloc: Global, terminals: &[Terminal]) -> Result<Items<Targe
     let mut parts = Parts::new(Mark::Comma, listed);
     while let Some(part) = parts.next_part() {
         if let Some(found) = query_target(part) {
+            make_room(&mut targets, part, listed)?;
             targets.push(found)?;
         }
     }
-    Ok(targets)
+    Ok(Items::from_vec(targets))
 }

@@ -5,6 +5,7 @@ ghost use Rattle.sql_mark.specs.Marks.{test_of};
 ghost use Rattle.sql_tree.specs.Write as spec;
 
 use crate::target::{target, targets_between};
+use sql_constraint::{make_room, put};
 use sql_mark::{Mark, Parts, WriteMark, from_mark, has_mark, inside_list, is_list, span_of, until};
 use sql_token::{Keyword, Terminal};
 use sql_tree::{SetPart, StmtKind, Target};
@@ -46,13 +47,13 @@ fn part_of(
     let span = span_of(terminals);
     match single {
         Some(found) => {
-            let mut targets = Items::new(alloc);
-            targets.push(found)?;
+            let mut targets = Vec::new(alloc);
+            put(&mut targets, found)?;
             Ok(SetPart {
                 first: span.first,
                 last: span.last,
                 single: true,
-                targets,
+                targets: Items::from_vec(targets),
             })
         }
         None => {
@@ -85,14 +86,16 @@ fn set_part(alloc: Global, terminals: &[Terminal]) -> Result<Option<SetPart>, No
 fn set_clause(alloc: Global, end: Mark, terminals: &[Terminal]) -> Result<Items<SetPart>, NoMemory>
     ensures { IfOk result (λ clause. clause ≡ spec.set_clause (test_of end) terminals.now) }
 {
-    let mut clause = Items::new(alloc);
-    let mut parts = Parts::new(Mark::Comma, until(end, terminals));
+    let mut clause = Vec::new(alloc);
+    let inside = until(end, terminals);
+    let mut parts = Parts::new(Mark::Comma, inside);
     while let Some(part) = parts.next_part() {
         if let Some(found) = set_part(alloc, part)? {
+            make_room(&mut clause, part, inside)?;
             clause.push(found)?;
         }
     }
-    Ok(clause)
+    Ok(Items::from_vec(clause))
 }
 
 /// The terminals behind the first two; none, where there are no more.
@@ -115,14 +118,14 @@ fn set_clauses(
 ) -> Result<Items<Items<SetPart>>, NoMemory>
     ensures { IfOk result (λ clauses. clauses ≡ spec.set_clauses (test_of mark) (test_of end) tail.now) }
 {
-    let mut clauses = Items::new(alloc);
+    let mut clauses = Vec::new(alloc);
     let mut parts = Parts::new(mark, tail);
     let _front = parts.next_part();
     while let Some(part) = parts.next_part() {
         let clause = set_clause(alloc, end, behind_two(part))?;
-        clauses.push(clause)?;
+        put(&mut clauses, clause)?;
     }
-    Ok(clauses)
+    Ok(Items::from_vec(clauses))
 }
 
 /// The clause of an UPDATE, behind the first word SET.
@@ -130,12 +133,12 @@ fn set_clauses(
 fn update_clause(alloc: Global, tail: &[Terminal]) -> Result<Items<Items<SetPart>>, NoMemory>
     ensures { IfOk result (λ clauses. clauses ≡ spec.update_clause tail.now) }
 {
-    let mut clauses = Items::new(alloc);
+    let mut clauses = Vec::new(alloc);
     if let [_, rest @ ..] = from_mark(Mark::Word(Keyword::Set), tail) {
         let clause = set_clause(alloc, Mark::Write(WriteMark::ClauseEnd), rest)?;
-        clauses.push(clause)?;
+        put(&mut clauses, clause)?;
     }
-    Ok(clauses)
+    Ok(Items::from_vec(clauses))
 }
 
 /// The SET clauses of a statement of this kind, by what follows its table.

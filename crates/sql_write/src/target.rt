@@ -3,6 +3,7 @@
 ghost use Rattle.std.specs.Prelude.{◌≡◌, IfOk};
 ghost use Rattle.sql_tree.specs.Write as spec;
 
+use sql_constraint::make_room;
 use sql_mark::{Mark, Parts};
 use sql_token::{Symbol, Terminal};
 use sql_tree::Target;
@@ -73,12 +74,13 @@ pub(crate) fn targets_between(
 ) -> Result<Items<Target>, NoMemory>
     ensures { IfOk result (λ ts. ts ≡ spec.targets_between terminals.now) }
 {
-    let mut targets = Items::new(alloc);
+    let mut targets = Vec::new(alloc);
     let mut parts = Parts::new(Mark::Comma, terminals);
     while let Some(part) = parts.next_part() {
         if let Some(found) = target(part) {
+            make_room(&mut targets, part, terminals)?;
             targets.push(found)?;
         }
     }
-    Ok(targets)
+    Ok(Items::from_vec(targets))
 }

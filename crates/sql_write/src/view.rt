@@ -5,6 +5,7 @@ ghost use Rattle.sql_tree.specs.Split.{all_of, split, comma};
 ghost use Rattle.sql_tree.specs.Write as spec;
 
 use crate::query::read_targets;
+use sql_constraint::make_room;
 use sql_mark::{Mark, Parts, begins_list, from_mark, inside_list};
 use sql_token::{Keyword, Terminal};
 use sql_tree::{Target, ViewDefinition};
@@ -29,15 +30,16 @@ fn column_name(terminals: &[Terminal]) -> Option<Target>
 fn column_names(alloc: Global, terminals: &[Terminal]) -> Result<Option<Items<Target>>, NoMemory>
     ensures { IfOk result (λ names. names ≡ all_of spec.column_name (split comma terminals.now)) }
 {
-    let mut names = Items::new(alloc);
+    let mut names = Vec::new(alloc);
     let mut parts = Parts::new(Mark::Comma, terminals);
     while let Some(part) = parts.next_part() {
+        make_room(&mut names, part, terminals)?;
         match column_name(part) {
             None => return Ok(None),
             Some(name) => names.push(name)?,
         }
     }
-    Ok(Some(names))
+    Ok(Some(Items::from_vec(names)))
 }
 
 /// The names of the bracket list that stands first; `None` where it holds anything but names.

@@ -5,7 +5,7 @@ use Rattle.sql_tree.specs.Write.{column_list, others}
 use Rattle.sql_write.proofs.list.insert_lists.Given as goal
 
 abbrev pub invariant-loop-part : goal.invariant-loop-part
-invariant-loop-part l = l.lists ++ filter_map (λ part. column_list (drop 1 part)) l.parts ≡ filter_map (λ part. column_list (drop 1 part)) (others (split then_insert l.tail))
+invariant-loop-part l = l.lists.items ++ filter_map (λ part. column_list (drop 1 part)) l.parts ≡ filter_map (λ part. column_list (drop 1 part)) (others (split then_insert l.tail))
 
 abbrev pub decreases-loop-part : goal.decreases-loop-part
 decreases-loop-part l = length l.parts

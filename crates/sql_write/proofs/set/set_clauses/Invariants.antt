@@ -6,7 +6,7 @@ use Rattle.sql_write.proofs.set.set_clauses.Given as goal
 
 abbrev pub invariant-loop-part : goal.invariant-loop-part
 invariant-loop-part l =
-    l.clauses ++ map (λ part. set_clause (test_of l.fn.end) (drop 2 part)) l.parts
+    l.clauses.items ++ map (λ part. set_clause (test_of l.fn.end) (drop 2 part)) l.parts
     ≡ map (λ part. set_clause (test_of l.fn.end) (drop 2 part)) (others (split (test_of l.fn.mark) l.tail))
 
 abbrev pub decreases-loop-part : goal.decreases-loop-part

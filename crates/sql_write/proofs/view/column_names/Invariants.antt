@@ -5,7 +5,7 @@ use Rattle.sql_write.proofs.Front.{with_front}
 use Rattle.sql_write.proofs.view.column_names.Given as goal
 
 abbrev pub invariant-loop-part : goal.invariant-loop-part
-invariant-loop-part l = with_front l.names (all_of column_name l.parts) ≡ all_of column_name (split comma l.terminals)
+invariant-loop-part l = with_front l.names.items (all_of column_name l.parts) ≡ all_of column_name (split comma l.terminals)
 
 abbrev pub decreases-loop-part : goal.decreases-loop-part
 decreases-loop-part l = length l.parts
