@@ -1,3 +1,4 @@
 pub mod Front
+pub mod Puts
 pub mod Skips
 pub mod Tails

@@ -3,12 +3,13 @@
 ghost use Rattle.std.specs.Prelude.{◌≡◌, IfOk, map};
 ghost use Rattle.sql_tree.specs.Action as spec;
 ghost use Rattle.sql_tree.specs.Forms.{at};
+ghost use Rattle.sql_action.specs.Puts.{put_behind};
 
 use crate::pieces::{read_attributes, read_column_option, read_pieces};
 use crate::starts::{behind_maybe, first_symbol, own_part, takes_constraint};
 use crate::tables::{first_rows_at, general_rows_at, own_rows};
 use sql_column::read_column;
-use sql_constraint::{make_room, put, read_table_constraint};
+use sql_constraint::{make_room, read_table_constraint};
 use sql_mark::{Mark, Parts, span_of};
 use sql_part::{behind_word, nothing_kept, read_whole};
 use sql_token::{Keyword, Terminal};
@@ -42,15 +43,22 @@ fn adding(alloc: Global, terminals: &[Terminal], constraint: Constraint) -> Acti
 
 /// ADD and a table constraint.
 #[tactic(auto, unfolding(sql_tree::specs::Action::add_constraint))]
-fn add_constraint(alloc: Global, terminals: &[Terminal]) -> Result<Option<Action>, NoMemory>
-    ensures { IfOk result (λ action. action ≡ spec.add_constraint terminals.now) }
+fn add_constraint(
+    alloc: Global,
+    terminals: &[Terminal],
+    actions: &mut Vec<Action>,
+) -> Result<bool, NoMemory>
+    ensures { IfOk result (λ found. (found, actions.new.items) ≡ put_behind (spec.add_constraint terminals.now) actions.old.items) }
 {
     let Some(rest) = behind_word(Keyword::Add, terminals) else {
-        return Ok(None);
+        return Ok(false);
     };
     match read_table_constraint(alloc, rest)? {
-        None => Ok(None),
-        Some(constraint) => Ok(Some(adding(alloc, terminals, constraint))),
+        None => Ok(false),
+        Some(constraint) => {
+            actions.push(adding(alloc, terminals, constraint))?;
+            Ok(true)
+        }
     }
 }
 
@@ -59,13 +67,14 @@ fn added_constraint(
     alloc: Global,
     kind: StmtKind,
     terminals: &[Terminal],
-) -> Result<Option<Action>, NoMemory>
-    ensures { IfOk result (λ action. action ≡ spec.added_constraint kind terminals.now) }
+    actions: &mut Vec<Action>,
+) -> Result<bool, NoMemory>
+    ensures { IfOk result (λ found. (found, actions.new.items) ≡ put_behind (spec.added_constraint kind terminals.now) actions.old.items) }
 {
     if takes_constraint(kind, terminals) {
-        add_constraint(alloc, terminals)
+        add_constraint(alloc, terminals, actions)
     } else {
-        Ok(None)
+        Ok(false)
     }
 }
 
@@ -116,17 +125,18 @@ fn built(
     kind: ActionKind,
     kept: &Captures,
     rest: &[Terminal],
-) -> Result<Option<Action>, NoMemory>
-    ensures { IfOk result (λ action. action ≡ spec.built terminals.now kind (at kept.now rest.now)) }
+    actions: &mut Vec<Action>,
+) -> Result<bool, NoMemory>
+    ensures { IfOk result (λ found. (found, actions.new.items) ≡ put_behind (spec.built terminals.now kind (at kept.now rest.now)) actions.old.items) }
 {
     let Some(column) = column_in(alloc, kind, rest)? else {
-        return Ok(None);
+        return Ok(false);
     };
     let Some(pieces) = pieces_in(alloc, kind, rest)? else {
-        return Ok(None);
+        return Ok(false);
     };
     let span = span_of(terminals);
-    Ok(Some(Action {
+    actions.push(Action {
         kind,
         first: span.first,
         last: span.last,
@@ -138,22 +148,27 @@ fn built(
         column,
         constraint: None,
         pieces,
-    }))
+    })?;
+    Ok(true)
 }
 
-/// The action that the first of the rows reads; `Ok(None)` where none reads it, or the action is none of that row's kind.
+/// The action that the first of the rows reads; none where none reads it, or the action is none of that row's kind.
 #[tactic(auto, unfolding(sql_tree::specs::Action::by_rows))]
 fn by_rows(
     alloc: Global,
     rows: ActionRows,
     terminals: &[Terminal],
-) -> Result<Option<Action>, NoMemory>
-    ensures { IfOk result (λ action. action ≡ spec.by_rows (map (λ r. (r.0, r.1.now)) rows.entry.now) terminals.now) }
+    actions: &mut Vec<Action>,
+) -> Result<bool, NoMemory>
+    ensures { IfOk result (λ found. (found, actions.new.items) ≡ put_behind (spec.by_rows (map (λ r. (r.0, r.1.now)) rows.entry.now) terminals.now) actions.old.items) }
 {
+    if rows.is_empty() {
+        return Ok(false);
+    }
     let mut kept = nothing_kept();
     match read_whole(rows, &mut kept, terminals) {
-        None => Ok(None),
-        Some((kind, rest)) => built(alloc, terminals, kind, &kept, rest),
+        None => Ok(false),
+        Some((kind, rest)) => built(alloc, terminals, kind, &kept, rest, actions),
     }
 }
 
@@ -164,45 +179,53 @@ fn own_action(
     alloc: Global,
     kind: StmtKind,
     terminals: &[Terminal],
-) -> Result<Option<Action>, NoMemory>
-    ensures { IfOk result (λ action. action ≡ spec.own_action kind terminals.now) }
+    actions: &mut Vec<Action>,
+) -> Result<bool, NoMemory>
+    ensures { IfOk result (λ found. (found, actions.new.items) ≡ put_behind (spec.own_action kind terminals.now) actions.old.items) }
 {
     match own_part(kind, terminals) {
-        None => Ok(None),
-        Some(part) => by_rows(alloc, own_rows(kind), part),
+        None => Ok(false),
+        Some(part) => by_rows(alloc, own_rows(kind), part, actions),
     }
 }
 
-#[tactic(auto, unfolding(sql_tree::specs::Action::general_action))]
+#[tactic(auto, unfolding(sql_tree::specs::Action::general_action), using(crate::proofs::Puts::first_put, crate::proofs::Puts::other_put))]
 fn general_action(
     alloc: Global,
     kind: StmtKind,
     terminals: &[Terminal],
-) -> Result<Option<Action>, NoMemory>
-    ensures { IfOk result (λ action. action ≡ spec.general_action kind terminals.now) }
+    actions: &mut Vec<Action>,
+) -> Result<bool, NoMemory>
+    ensures { IfOk result (λ found. (found, actions.new.items) ≡ put_behind (spec.general_action kind terminals.now) actions.old.items) }
 {
-    if let Some(action) = added_constraint(alloc, kind, terminals)? {
-        return Ok(Some(action));
+    if added_constraint(alloc, kind, terminals, actions)? {
+        return Ok(true);
     }
-    by_rows(alloc, general_rows_at(first_symbol(terminals)), terminals)
+    by_rows(
+        alloc,
+        general_rows_at(first_symbol(terminals)),
+        terminals,
+        actions,
+    )
 }
 
-#[tactic(auto, unfolding(sql_tree::specs::Action::listed_action))]
+#[tactic(auto, unfolding(sql_tree::specs::Action::listed_action), using(crate::proofs::Puts::first_put, crate::proofs::Puts::other_put))]
 fn listed_action(
     alloc: Global,
     kind: StmtKind,
     terminals: &[Terminal],
-) -> Result<Option<Action>, NoMemory>
-    ensures { IfOk result (λ action. action ≡ spec.listed_action kind terminals.now) }
+    actions: &mut Vec<Action>,
+) -> Result<bool, NoMemory>
+    ensures { IfOk result (λ found. (found, actions.new.items) ≡ put_behind (spec.listed_action kind terminals.now) actions.old.items) }
 {
     let first = first_rows_at(first_symbol(terminals));
-    if let Some(action) = by_rows(alloc, first, terminals)? {
-        return Ok(Some(action));
+    if by_rows(alloc, first, terminals, actions)? {
+        return Ok(true);
     }
-    if let Some(action) = own_action(alloc, kind, terminals)? {
-        return Ok(Some(action));
+    if own_action(alloc, kind, terminals, actions)? {
+        return Ok(true);
     }
-    general_action(alloc, kind, terminals)
+    general_action(alloc, kind, terminals, actions)
 }
 
 fn takes_options(kind: StmtKind) -> bool
@@ -220,46 +243,55 @@ fn options(
     alloc: Global,
     kind: StmtKind,
     terminals: &[Terminal],
-) -> Result<Option<Action>, NoMemory>
-    ensures { IfOk result (λ action. action ≡ spec.options kind terminals.now) }
+    actions: &mut Vec<Action>,
+) -> Result<bool, NoMemory>
+    ensures { IfOk result (λ found. (found, actions.new.items) ≡ put_behind (spec.options kind terminals.now) actions.old.items) }
 {
     if takes_options(kind) {
-        by_rows(alloc, &OPTIONS, behind_maybe(Keyword::With, terminals))
+        by_rows(
+            alloc,
+            &OPTIONS,
+            behind_maybe(Keyword::With, terminals),
+            actions,
+        )
     } else {
-        Ok(None)
+        Ok(false)
     }
 }
 
-#[tactic(auto, unfolding(sql_tree::specs::Action::unlisted_action))]
+#[tactic(auto, unfolding(sql_tree::specs::Action::unlisted_action), using(crate::proofs::Puts::first_put, crate::proofs::Puts::other_put))]
 fn unlisted_action(
     alloc: Global,
     kind: StmtKind,
     terminals: &[Terminal],
-) -> Result<Option<Action>, NoMemory>
-    ensures { IfOk result (λ action. action ≡ spec.unlisted_action kind terminals.now) }
+    actions: &mut Vec<Action>,
+) -> Result<bool, NoMemory>
+    ensures { IfOk result (λ found. (found, actions.new.items) ≡ put_behind (spec.unlisted_action kind terminals.now) actions.old.items) }
 {
-    if let Some(action) = options(alloc, kind, terminals)? {
-        return Ok(Some(action));
+    if options(alloc, kind, terminals, actions)? {
+        return Ok(true);
     }
-    by_rows(alloc, &OTHER, terminals)
+    by_rows(alloc, &OTHER, terminals, actions)
 }
 
-/// The action that these terminals are; `Ok(None)` only where there is no terminal.
-#[tactic(auto, unfolding(sql_tree::specs::Action::action))]
+/// Puts the action that these terminals are behind the others, and tells whether there is one: there is none only where
+/// there is no terminal.
+#[tactic(auto, unfolding(sql_tree::specs::Action::action), using(crate::proofs::Puts::first_put, crate::proofs::Puts::other_put))]
 fn read_action(
     alloc: Global,
     kind: StmtKind,
     terminals: &[Terminal],
-) -> Result<Option<Action>, NoMemory>
-    ensures { IfOk result (λ action. action ≡ spec.action kind terminals.now) }
+    actions: &mut Vec<Action>,
+) -> Result<bool, NoMemory>
+    ensures { IfOk result (λ found. (found, actions.new.items) ≡ put_behind (spec.action kind terminals.now) actions.old.items) }
 {
     if terminals.is_empty() {
-        return Ok(None);
+        return Ok(false);
     }
-    if let Some(action) = listed_action(alloc, kind, terminals)? {
-        return Ok(Some(action));
+    if listed_action(alloc, kind, terminals, actions)? {
+        return Ok(true);
     }
-    unlisted_action(alloc, kind, terminals)
+    unlisted_action(alloc, kind, terminals, actions)
 }
 
 // ---- lists of actions
@@ -286,9 +318,8 @@ fn several_actions(
     let mut parts = Parts::new(Mark::Comma, tail);
     while let Some(part) = parts.next_part() {
         make_room(&mut actions, part, tail)?;
-        match read_action(alloc, kind, part)? {
-            None => return Ok(None),
-            Some(action) => actions.push(action)?,
+        if !read_action(alloc, kind, part, &mut actions)? {
+            return Ok(None);
         }
     }
     Ok(Some(Items::from_vec(actions)))
@@ -302,13 +333,11 @@ fn one_action(
 ) -> Result<Option<Items<Action>>, NoMemory>
     ensures { IfOk result (λ actions. actions ≡ spec.one_action kind tail.now) }
 {
-    match read_action(alloc, kind, tail)? {
-        None => Ok(None),
-        Some(action) => {
-            let mut actions = Vec::new(alloc);
-            put(&mut actions, action)?;
-            Ok(Some(Items::from_vec(actions)))
-        }
+    let mut actions = Vec::with_capacity(alloc, 1)?;
+    if read_action(alloc, kind, tail, &mut actions)? {
+        Ok(Some(Items::from_vec(actions)))
+    } else {
+        Ok(None)
     }
 }
 
