@@ -1,5 +1,5 @@
 -- How sets of spans change.
-use Rattle.std.proofs.Common.{◌≡◌, ◌∙◌, sym, ap, refl, ℕ, Bool, true, false, ◌&&◌, ◌||◌, cond, nat_eq, List, [], ◌∷◌, ◌++◌, length, map, Option, Some, None, is_none, arith}
+use Rattle.std.proofs.Common.{◌≡◌, ◌∙◌, sym, ap, refl, ℕ, Bool, true, false, ◌&&◌, ◌||◌, cond, nat_eq, List, [], ◌∷◌, ◌++◌, map, Option, Some, None, is_none, arith}
 use Rattle.std.proofs.lemmas.Bool.{eqb-true, false≢true}
 use Rattle.std.proofs.lemmas.Bool.Decides.{nat_tests}
 use Rattle.std.proofs.lemmas.List.Folds.{list_any-append}
@@ -9,7 +9,7 @@ use Rattle.std.specs.Map.{lookup}
 use Rattle.std.proofs.lemmas.List.{length-map}
 use Rattle.sql_token.specs.declared.token.Span.{Span}
 use Rattle.sql_tree.specs.Statement.{Tree}
-use Rattle.lint_track.specs.SpanSet.{Spans, PutsSpan, key_of, hash_of, has_names, is_some_named, is_hashed, is_other, has_span}
+use Rattle.lint_track.specs.SpanSet.{Spans, PutsSpan, ListsSpan, key_of, hash_of, has_names, is_some_named, is_hashed, is_other, has_span}
 use Rattle.lint_track.specs.Transaction.{same_path}
 use Rattle.lint_track.proofs.Paths.{same_so}
 
@@ -50,6 +50,14 @@ held_span tree set own names h = by (same_path names own) refl
     by : (s : Bool) → s ≡ same_path names own → has_span tree set names ≡ (s || has_span tree set names)
     by true e = ap (has_span tree set) (same_so names own (sym e)) ∙ h
     by false e = refl
+
+or_of : (a b : Bool) → a ≡ true → (a || b) ≡ true
+or_of a b h = ap (λ x. x || b) h
+
+-- what is hashed is in the set
+pub hashed_span : (tree : Tree) (set : Spans) (names : List (List ℕ)) → is_hashed tree set names ≡ true → has_span tree set names ≡ true
+unfolding has_span
+hashed_span tree set names h = or_of (is_hashed tree set names) (is_other tree set names) h
 
 -- what the set has behind one more span, whose names are not in it
 pub put_span : (tree : Tree) (old new : Spans) (hash : ℕ) (span : Span) (own : List (List ℕ)) → PutsSpan old new hash span → hash ≡ hash_of old.key own → own ≡ key_of old.key tree span → (names : List (List ℕ)) → has_span tree new names ≡ (same_path names own || has_span tree old names)
@@ -97,3 +105,12 @@ put_span tree old new hash span own h hash_is own_is names =
         ∙ ap (λ b. here || b) (list_any-append (has_names old.key tree names) old.others (span ∷ []))
         ∙ rotated here kept (has_names old.key tree names span)
         ∙ ap (λ s. s || (here || kept)) same
+
+-- what the set has behind one more span that is compared by itself
+pub list_span : (tree : Tree) (old new : Spans) (span : Span) → ListsSpan old new span → (names : List (List ℕ)) → has_span tree new names ≡ (same_path names (key_of old.key tree span) || has_span tree old names)
+unfolding has_span
+list_span tree old new span h names =
+    let own = has_names old.key tree names in
+    (λ i. is_some_named (h.key i) tree names (lookup (nat_eq (hash_of (h.key i) names)) (h.hashed i)) || list_any (has_names (h.key i) tree names) (h.others i))
+    ∙ ap (λ b. is_hashed tree old names || b) (list_any-append own old.others (span ∷ []))
+    ∙ rotated (is_hashed tree old names) (is_other tree old names) (own span)

@@ -55,3 +55,9 @@ pub record PutsSpan (old new : Spans) (hash : ℕ) (span : Span) : Type 0 where
   pub key : new.key ≡ old.key
   pub hashed : (q : ℕ) → lookup (nat_eq q) new.hashed ≡ (if nat_eq hash q && is_none (lookup (nat_eq hash) old.hashed) then Some span else lookup (nat_eq q) old.hashed)
   pub others : new.others ≡ (if is_none (lookup (nat_eq hash) old.hashed) then old.others else old.others ++ span ∷ [])
+
+-- the set with one more span among those that are compared one by one
+pub record ListsSpan (old new : Spans) (span : Span) : Type 0 where
+  pub key : new.key ≡ old.key
+  pub hashed : new.hashed ≡ old.hashed
+  pub others : new.others ≡ old.others ++ span ∷ []

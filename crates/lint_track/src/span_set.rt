@@ -6,7 +6,7 @@ ghost use Rattle.std.specs.Hash.FoldHasher as folding;
 ghost use Rattle.sql_tree.specs.Statement.{Tree};
 ghost use Rattle.lint_track.specs.Transaction.{same_path};
 ghost use Rattle.lint_track.specs.SpanSet as spec;
-ghost use Rattle.lint_track.specs.SpanSet.{key_of, hash_of, has_span, PutsSpan};
+ghost use Rattle.lint_track.specs.SpanSet.{key_of, hash_of, has_span, PutsSpan, ListsSpan};
 ghost use Rattle.lint_track.specs.KeyText.{kind_of, texts_of};
 
 use crate::name::name_at;
@@ -22,6 +22,9 @@ use text_pos::NoMemory;
 /// The greatest capacity of a table whose memory is kept when a set is cleared. Clearing takes time by the capacity, so
 /// one set that grew large must not slow down the small ones behind it.
 pub(crate) const KEPT_CAPACITY: usize = 64;
+
+/// How many spans of a set are compared one by one, before it hashes.
+const FEW: usize = 8;
 
 /// What a set tells spans apart by.
 #[derive(Clone, Copy, Debug, PartialEq, Eq)]
@@ -124,7 +127,7 @@ impl SpanSet {
     /// Whether a span of the set has the same names as this one. The error is want of memory, which paths of more than
     /// two names take.
 
-    #[tactic(auto, using(crate::proofs::SpanLaws::empty_span))]
+    #[tactic(auto, using(crate::proofs::SpanLaws::empty_span), unfolding(crate::specs::SpanSet::has_span))]
     pub fn contains(&self, p: &Parse<'_>, span: Span) -> Result<bool, NoMemory>
         ensures { IfOk result (λ b. b ≡ has_span p.now self.now (key_of self.now.key p.now span)) }
     {
@@ -132,7 +135,11 @@ impl SpanSet {
             return Ok(false);
         }
         let key = read_key(self.alloc, p, self.key, span)?;
-        self.has_key(p, &key, hash(&key))
+        if self.is_other(p, &key)? {
+            Ok(true)
+        } else {
+            self.is_hashed(p, &key)
+        }
     }
 
     fn is_empty(&self) -> bool
@@ -142,25 +149,14 @@ impl SpanSet {
         self.hashed.is_empty() && self.others.is_empty()
     }
 
-    #[tactic(auto, unfolding(crate::specs::SpanSet::has_span))]
-    fn has_key<'t>(&self, p: &Parse<'t>, key: &KeyText<'t>, hash: u64) -> Result<bool, NoMemory>
-        requires kind { kind_of key.now ≡ self.now.key }
-        requires hash { hash ≡ hash_of (kind_of key.now) (texts_of key.now) }
-        ensures { IfOk result (λ b. b ≡ has_span p.now self.now (texts_of key.now)) }
-    {
-        if self.is_hashed(p, key, hash)? {
-            Ok(true)
-        } else {
-            self.is_other(p, key)
-        }
-    }
-
-    fn is_hashed<'t>(&self, p: &Parse<'t>, key: &KeyText<'t>, hash: u64) -> Result<bool, NoMemory>
-        requires kind { kind_of key.now ≡ self.now.key }
-        requires hash { hash ≡ hash_of (kind_of key.now) (texts_of key.now) }
+    fn is_hashed<'t>(&self, p: &Parse<'t>, key: &KeyText<'t>) -> Result<bool, NoMemory>
+        requires { kind_of key.now ≡ self.now.key }
         ensures { IfOk result (λ b. b ≡ spec.is_hashed p.now self.now (texts_of key.now)) }
     {
-        match self.hashed.get(&hash) {
+        if self.hashed.is_empty() {
+            return Ok(false);
+        }
+        match self.hashed.get(&hash(key)) {
             Some(span) => is_same(self.alloc, p, key, *span),
             None => Ok(false),
         }
@@ -185,13 +181,23 @@ impl SpanSet {
             ≡ (same_path names (key_of self.old.key p.now span) || has_span p.now self.old names)) }
         ensures err { OnErr result (self.new ≡ self.old) }
     {
+        if self.others.len() < FEW {
+            return self.list(span);
+        }
         let key = read_key(self.alloc, p, self.key, span)?;
-        let hashed = hash(&key);
-        if self.has_key(p, &key, hashed)? {
+        if self.is_hashed(p, &key)? {
             Ok(())
         } else {
-            self.add(hashed, span)
+            self.add(hash(&key), span)
         }
+    }
+
+    fn list(&mut self, span: Span) -> Result<(), NoMemory>
+        ensures ok { OnOk result (ListsSpan self.old self.new span) }
+        ensures err { OnErr result (self.new ≡ self.old) }
+    {
+        self.others.push(span)?;
+        Ok(())
     }
 
     fn add(&mut self, hash: u64, span: Span) -> Result<(), NoMemory>
@@ -219,11 +225,21 @@ impl SpanSet {
         ensures hashed { self.new.hashed ≡ [] }
         ensures others { self.new.others ≡ [] }
     {
+        if !self.hashed.is_empty() {
+            self.forget_hashed();
+        }
+        self.others.clear();
+    }
+
+    fn forget_hashed(&mut self)
+        ensures key { self.new.key ≡ self.old.key }
+        ensures hashed { self.new.hashed ≡ [] }
+        ensures others { self.new.others ≡ self.old.others }
+    {
         if self.hashed.capacity() <= KEPT_CAPACITY {
             self.hashed.clear();
         } else {
             self.hashed = HashMap::new(self.alloc);
         }
-        self.others.clear();
     }
 }

@@ -1,4 +1,4 @@
-use Rattle.std.proofs.Common.{refl, ap, map}
+use Rattle.std.proofs.Common.{ap, map}
 use Rattle.sql_tree.specs.PathNames.{names_of}
 use Rattle.lint_track.proofs.TrackingLaws.{tracking_start}
 use Rattle.lint_track.proofs.tables.TablesCreatedInTransaction.new.Goals as goal
