@@ -1,30 +1,24 @@
 -- How sets of spans change.
-use Rattle.std.proofs.Common.{◌≡◌, ◌∙◌, sym, ap, refl, ℕ, Bool, true, false, ◌&&◌, ◌||◌, cond, nat_eq, List, [], ◌∷◌, ◌++◌, map, Option, Some, None, is_none, arith}
+use Rattle.std.proofs.Common.{◌≡◌, ◌∙◌, sym, ap, refl, ℕ, Bool, true, false, ◌&&◌, ◌||◌, cond, nat_eq, List, [], ◌∷◌, ◌++◌, Option, Some, None, is_none, arith}
 use Rattle.std.proofs.lemmas.Bool.{eqb-true, false≢true}
 use Rattle.std.proofs.lemmas.Bool.Decides.{nat_tests}
 use Rattle.std.proofs.lemmas.List.Folds.{list_any-append}
-use Rattle.std.specs.Hash as fed
-use Rattle.std.specs.List.{flat_map, list_any}
+use Rattle.std.specs.List.{list_any}
 use Rattle.std.specs.Map.{lookup}
-use Rattle.std.proofs.lemmas.List.{length-map}
 use Rattle.sql_token.specs.declared.token.Span.{Span}
 use Rattle.sql_tree.specs.Statement.{Tree}
 use Rattle.lint_track.specs.SpanSet.{Spans, PutsSpan, ListsSpan, key_of, hash_of, has_names, is_some_named, is_hashed, is_other, has_span}
 use Rattle.lint_track.specs.Transaction.{same_path}
 use Rattle.lint_track.proofs.Paths.{same_so}
 
-flat_map-map : {K L A : Type 0} (f : K → L) (h : L → List A) (xs : List K) → flat_map (λ x. h (f x)) xs ≡ flat_map h (map f xs)
-flat_map-map f h [] = refl
-flat_map-map f h (x ∷ xs) = ap (λ ys. h (f x) ++ ys) (flat_map-map f h xs)
-
--- what a list writes to a hasher is what its items write
-pub slice-map : {K L : Type 0} (f : K → L) (h : L → fed.HashWrites) (xs : List K) → fed.slice (λ x. h (f x)) xs ≡ fed.slice h (map f xs)
-slice-map f h xs = λ i. fed.usize (sym (length-map xs f) i) ++ flat_map-map f h xs i
-
 pub empty_span : (tree : Tree) (set : Spans) → set.hashed ≡ [] → set.others ≡ [] → (names : List (List ℕ)) → has_span tree set names ≡ false
 unfolding has_span
 empty_span tree set h o names =
-    λ i. is_some_named set.key tree names (lookup (nat_eq (hash_of set.key names)) (h i)) || list_any (has_names set.key tree names) (o i)
+    λ i. is_some_named set.key tree names (lookup (nat_eq (hash_of names)) (h i)) || list_any (has_names set.key tree names) (o i)
+
+-- where nothing is hashed
+pub none_hashed : (tree : Tree) (set : Spans) → set.hashed ≡ [] → (names : List (List ℕ)) → is_hashed tree set names ≡ false
+none_hashed tree set h names = λ i. is_some_named set.key tree names (lookup (nat_eq (hash_of names)) (h i))
 
 -- ---- one more span
 
@@ -60,15 +54,15 @@ unfolding has_span
 hashed_span tree set names h = or_of (is_hashed tree set names) (is_other tree set names) h
 
 -- what the set has behind one more span, whose names are not in it
-pub put_span : (tree : Tree) (old new : Spans) (hash : ℕ) (span : Span) (own : List (List ℕ)) → PutsSpan old new hash span → hash ≡ hash_of old.key own → own ≡ key_of old.key tree span → (names : List (List ℕ)) → has_span tree new names ≡ (same_path names own || has_span tree old names)
+pub put_span : (tree : Tree) (old new : Spans) (hash : ℕ) (span : Span) (own : List (List ℕ)) → PutsSpan old new hash span → hash ≡ hash_of own → own ≡ key_of old.key tree span → (names : List (List ℕ)) → has_span tree new names ≡ (same_path names own || has_span tree old names)
 unfolding has_span
 put_span tree old new hash span own h hash_is own_is names =
-    (λ i. is_some_named (h.key i) tree names (lookup (nat_eq (hash_of (h.key i) names)) new.hashed) || list_any (has_names (h.key i) tree names) (h.others i))
+    (λ i. is_some_named (h.key i) tree names (lookup (nat_eq (hash_of names)) new.hashed) || list_any (has_names (h.key i) tree names) (h.others i))
     ∙ ap (λ o. is_some_named old.key tree names o || list_any (has_names old.key tree names) (cond (is_none (lookup (nat_eq hash) old.hashed)) old.others (old.others ++ span ∷ []))) (h.hashed at)
     ∙ by (lookup (nat_eq hash) old.hashed) refl
   where
     at : ℕ
-    at = hash_of old.key names
+    at = hash_of names
 
     kept : Bool
     kept = is_other tree old names
@@ -85,7 +79,7 @@ put_span tree old new hash span own h hash_is own_is names =
     -- other hashes, other names
     other : (b : Bool) → b ≡ same_path names own → nat_eq hash at ≡ false → same_path names own ≡ false
     other true e apart =
-        let equal : hash ≡ at = hash_is ∙ ap (hash_of old.key) (sym (same_so names own (sym e))) in
+        let equal : hash ≡ at = hash_is ∙ ap hash_of (sym (same_so names own (sym e))) in
         absurd (false≢true (sym apart ∙ nat_eq-same hash at equal))
     other false e apart = sym e
 
@@ -111,6 +105,6 @@ pub list_span : (tree : Tree) (old new : Spans) (span : Span) → ListsSpan old 
 unfolding has_span
 list_span tree old new span h names =
     let own = has_names old.key tree names in
-    (λ i. is_some_named (h.key i) tree names (lookup (nat_eq (hash_of (h.key i) names)) (h.hashed i)) || list_any (has_names (h.key i) tree names) (h.others i))
+    (λ i. is_some_named (h.key i) tree names (lookup (nat_eq (hash_of names)) (h.hashed i)) || list_any (has_names (h.key i) tree names) (h.others i))
     ∙ ap (λ b. is_hashed tree old names || b) (list_any-append own old.others (span ∷ []))
     ∙ rotated (is_hashed tree old names) (is_other tree old names) (own span)

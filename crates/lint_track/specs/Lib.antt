@@ -1,7 +1,7 @@
 pub mod Created
 pub mod Earlier
-pub mod KeyText
 pub mod Names
+pub mod NamesLeft
 pub mod SpanSet
 pub mod Transaction
 pub mod Tracking

@@ -1,6 +1,5 @@
 -- Sets of spans of a text, told apart by the names that stand in them.
 use Rattle.std.specs.Prelude.{◌≡◌, ℕ, Bool, false, ◌&&◌, ◌||◌, nat_eq, List, [], ◌∷◌, ◌++◌, fold, Option, Some, None, is_none, if◌then◌else◌}
-use Rattle.std.specs.Hash as fed
 use Rattle.std.specs.Hash.FoldHasher as folding
 use Rattle.std.specs.List.{flat_map, list_any}
 use Rattle.std.specs.Map.{lookup}
@@ -18,15 +17,11 @@ abbrev pub key_of : SpanKey → Tree → Span → List (List ℕ)
 key_of by.Path tree span = path_cuts tree.text tree.toks span
 key_of by.LastName tree span = name_at tree span.last ∷ []
 
--- what such names write to a hasher
-abbrev pub key_writes : SpanKey → List (List ℕ) → fed.HashWrites
-key_writes by.Path names = fed.slice text_writes names
-key_writes by.LastName names = flat_map text_writes names
+-- the hash of names: each writes its bytes, and then a byte that no name has
+unfoldable pub hash_of : List (List ℕ) → ℕ
+hash_of names = folding.finish (fold folding.write folding.initial (flat_map text_writes names))
 
-unfoldable pub hash_of : SpanKey → List (List ℕ) → ℕ
-hash_of key names = folding.finish (fold folding.write folding.initial (key_writes key names))
-
--- a set: a span for each hash, and the spans whose hash was taken
+-- a set: a span for each hash, and the spans that are compared one by one
 pub record Spans : Type 0 where
   pub key : SpanKey
   pub hashed : List (ℕ × Span)
@@ -41,7 +36,7 @@ is_some_named key tree names None = false
 is_some_named key tree names (Some span) = has_names key tree names span
 
 abbrev pub is_hashed : Tree → Spans → List (List ℕ) → Bool
-is_hashed tree set names = is_some_named set.key tree names (lookup (nat_eq (hash_of set.key names)) set.hashed)
+is_hashed tree set names = is_some_named set.key tree names (lookup (nat_eq (hash_of names)) set.hashed)
 
 abbrev pub is_other : Tree → Spans → List (List ℕ) → Bool
 is_other tree set names = list_any (has_names set.key tree names) set.others

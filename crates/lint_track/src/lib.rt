@@ -7,6 +7,7 @@
 
 mod created_tables;
 mod name;
+mod names;
 mod open;
 mod span_set;
 mod statement;

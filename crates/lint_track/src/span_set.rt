@@ -1,18 +1,16 @@
 //! Sets of spans of a text, told apart by the names that stand in them.
 
 ghost use Rattle.std.specs.Prelude.{◌≡◌, ◌||◌, ℕ, List, [], false, fold, IfOk, OnOk, OnErr};
-ghost use Rattle.std.specs.Bool.{OnTrue};
 ghost use Rattle.std.specs.Hash.FoldHasher as folding;
 ghost use Rattle.sql_tree.specs.Statement.{Tree};
 ghost use Rattle.lint_track.specs.Transaction.{same_path};
 ghost use Rattle.lint_track.specs.SpanSet as spec;
 ghost use Rattle.lint_track.specs.SpanSet.{key_of, hash_of, has_span, PutsSpan, ListsSpan};
-ghost use Rattle.lint_track.specs.KeyText.{kind_of, texts_of};
 
 use crate::name::name_at;
-use sql_name::FullName;
+use crate::names::{hash_path, is_same_path};
 use sql_token::Span;
-use sql_tree::{NamePath, Parse};
+use sql_tree::Parse;
 use std::alloc::Global;
 use std::collections::HashMap;
 use std::hash::{FoldHasher, Hash, Hasher};
@@ -24,7 +22,7 @@ use text_pos::NoMemory;
 pub(crate) const KEPT_CAPACITY: usize = 64;
 
 /// How many spans of a set are compared one by one, before it hashes.
-const FEW: usize = 8;
+const FEW: usize = 4;
 
 /// What a set tells spans apart by.
 #[derive(Clone, Copy, Debug, PartialEq, Eq)]
@@ -33,13 +31,6 @@ pub enum SpanKey {
     Path,
     /// The full text of the span's last token as a name: names of constraints.
     LastName,
-}
-
-/// The names by which a span is told apart. They borrow from the text.
-#[derive(Drop)]
-pub(crate) enum KeyText<'t> {
-    Path(NamePath<'t>),
-    LastName(FullName<'t>),
 }
 
 /// A set of spans of one text, told apart by the names that stand in them. It holds no text: the text is at hand in each
@@ -62,22 +53,6 @@ impl Model for SpanSet {
     ghost view = { λ s. record { key = s.key; hashed = s.hashed.entries; others = s.others.items } };
 }
 
-/// The names by which a span is told apart.
-fn read_key<'t>(
-    alloc: Global,
-    p: &Parse<'t>,
-    key: SpanKey,
-    span: Span,
-) -> Result<KeyText<'t>, NoMemory>
-    ensures kind { IfOk result (λ k. kind_of k ≡ key) }
-    ensures texts { IfOk result (λ k. texts_of k ≡ key_of key p.now span) }
-{
-    match key {
-        SpanKey::Path => Ok(KeyText::Path(NamePath::of(alloc, p, span)?)),
-        SpanKey::LastName => Ok(KeyText::LastName(name_at(p, span.last))),
-    }
-}
-
 /// The hash of a value by a hasher of its own.
 fn hash_alone<T: Hash>(value: &T) -> u64
     ensures { result ≡ folding.finish (fold folding.write folding.initial (T.hash_input value.now)) }
@@ -87,27 +62,23 @@ fn hash_alone<T: Hash>(value: &T) -> u64
     hasher.finish()
 }
 
-fn hash(key: &KeyText<'_>) -> u64
-    ensures { result ≡ hash_of (kind_of key.now) (texts_of key.now) }
+/// The hash of the names by which a span is told apart.
+fn hash(p: &Parse<'_>, key: SpanKey, span: Span) -> u64
+    ensures { result ≡ hash_of (key_of key p.now span) }
 {
     match key {
-        KeyText::Path(path) => hash_alone(path),
-        KeyText::LastName(name) => hash_alone(name),
+        SpanKey::Path => hash_path(p, span),
+        SpanKey::LastName => hash_alone(&name_at(p, span.last)),
     }
 }
 
-/// Whether the span has these names.
-fn is_same<'t>(
-    alloc: Global,
-    p: &Parse<'t>,
-    key: &KeyText<'t>,
-    span: Span,
-) -> Result<bool, NoMemory>
-    ensures { IfOk result (λ b. b ≡ same_path (texts_of key.now) (key_of (kind_of key.now) p.now span)) }
+/// Whether two spans have the same names.
+fn is_same(p: &Parse<'_>, key: SpanKey, a: Span, b: Span) -> bool
+    ensures { result ≡ same_path (key_of key p.now a) (key_of key p.now b) }
 {
     match key {
-        KeyText::Path(path) => Ok(*path == NamePath::of(alloc, p, span)?),
-        KeyText::LastName(name) => Ok(*name == name_at(p, span.last)),
+        SpanKey::Path => is_same_path(p, a, b),
+        SpanKey::LastName => name_at(p, a.last) == name_at(p, b.last),
     }
 }
 
@@ -124,54 +95,42 @@ impl SpanSet {
             others: Vec::new(alloc),
         }
     }
-    /// Whether a span of the set has the same names as this one. The error is want of memory, which paths of more than
-    /// two names take.
 
-    #[tactic(auto, using(crate::proofs::SpanLaws::empty_span), unfolding(crate::specs::SpanSet::has_span))]
+    /// Whether a span of the set has the same names as this one. It takes no memory, so that there is no error.
+    #[tactic(auto, unfolding(crate::specs::SpanSet::has_span))]
     pub fn contains(&self, p: &Parse<'_>, span: Span) -> Result<bool, NoMemory>
         ensures { IfOk result (λ b. b ≡ has_span p.now self.now (key_of self.now.key p.now span)) }
     {
-        if self.is_empty() {
-            return Ok(false);
-        }
-        let key = read_key(self.alloc, p, self.key, span)?;
-        if self.is_other(p, &key)? {
-            Ok(true)
-        } else {
-            self.is_hashed(p, &key)
+        Ok(self.is_found(p, span) || self.is_other(p, span))
+    }
+
+    /// Whether a span of those that are hashed has these names. Where nothing is hashed, it reads no names.
+    #[tactic(auto, using(crate::proofs::SpanLaws::none_hashed))]
+    fn is_found(&self, p: &Parse<'_>, span: Span) -> bool
+        ensures { result ≡ spec.is_hashed p.now self.now (key_of self.now.key p.now span) }
+    {
+        !self.hashed.is_empty() && self.is_hashed(p, span, hash(p, self.key, span))
+    }
+
+    fn is_hashed(&self, p: &Parse<'_>, span: Span, hash: u64) -> bool
+        requires { hash ≡ hash_of (key_of self.now.key p.now span) }
+        ensures { result ≡ spec.is_hashed p.now self.now (key_of self.now.key p.now span) }
+    {
+        match self.hashed.get(&hash) {
+            Some(other) => is_same(p, self.key, span, *other),
+            None => false,
         }
     }
 
-    fn is_empty(&self) -> bool
-        ensures hashed { OnTrue result (self.now.hashed ≡ []) }
-        ensures others { OnTrue result (self.now.others ≡ []) }
+    fn is_other(&self, p: &Parse<'_>, span: Span) -> bool
+        ensures { result ≡ spec.is_other p.now self.now (key_of self.now.key p.now span) }
     {
-        self.hashed.is_empty() && self.others.is_empty()
-    }
-
-    fn is_hashed<'t>(&self, p: &Parse<'t>, key: &KeyText<'t>) -> Result<bool, NoMemory>
-        requires { kind_of key.now ≡ self.now.key }
-        ensures { IfOk result (λ b. b ≡ spec.is_hashed p.now self.now (texts_of key.now)) }
-    {
-        if self.hashed.is_empty() {
-            return Ok(false);
-        }
-        match self.hashed.get(&hash(key)) {
-            Some(span) => is_same(self.alloc, p, key, *span),
-            None => Ok(false),
-        }
-    }
-
-    fn is_other<'t>(&self, p: &Parse<'t>, key: &KeyText<'t>) -> Result<bool, NoMemory>
-        requires { kind_of key.now ≡ self.now.key }
-        ensures { IfOk result (λ b. b ≡ spec.is_other p.now self.now (texts_of key.now)) }
-    {
-        for span in self.others.as_slice() {
-            if is_same(self.alloc, p, key, *span)? {
-                return Ok(true);
+        for other in self.others.as_slice() {
+            if is_same(p, self.key, span, *other) {
+                return true;
             }
         }
-        Ok(false)
+        false
     }
 
     /// Puts a span in. After a refusal, which is want of memory, nothing has changed.
@@ -184,11 +143,11 @@ impl SpanSet {
         if self.others.len() < FEW {
             return self.list(span);
         }
-        let key = read_key(self.alloc, p, self.key, span)?;
-        if self.is_hashed(p, &key)? {
+        let hash = hash(p, self.key, span);
+        if self.is_hashed(p, span, hash) {
             Ok(())
         } else {
-            self.add(hash(&key), span)
+            self.add(hash, span)
         }
     }
 

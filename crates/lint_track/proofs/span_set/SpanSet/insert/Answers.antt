@@ -1,5 +1,5 @@
-use Rattle.std.proofs.Common.{Result, Ok, Err, OnOk, ◌∙◌, ℕ, List, sym, ap, refl}
-use Rattle.lint_track.specs.SpanSet.{Spans, is_hashed, key_of, hash_of}
+use Rattle.std.proofs.Common.{Result, Ok, Err, OnOk, ◌∙◌, sym, ap, refl}
+use Rattle.lint_track.specs.SpanSet.{Spans, key_of, hash_of}
 use Rattle.lint_track.proofs.SpanLaws.{hashed_span, held_span, list_span, put_span}
 use Rattle.lint_track.proofs.span_set.SpanSet.insert.Goals as goal
 
@@ -11,18 +11,15 @@ pub returns-then-len-lt-FEW-clause-ok : goal.returns-then-len-lt-FEW-clause-ok
 returns-then-len-lt-FEW-clause-ok c =
     on_ok c.list.result _ _ (λ lists. list_span c.args.p.now c.args.self.now c.list.new.self c.args.span lists) c.list.ensures.ok
 
-pub returns-then-branch-clause-ok : goal.returns-then-branch-clause-ok
-returns-then-branch-clause-ok c names =
+pub returns-then-is_hashed-clause-ok : goal.returns-then-is_hashed-clause-ok
+returns-then-is_hashed-clause-ok c names =
     let p = c.args.p.now in
     let set = c.args.self.now in
-    let own = c.in_ok-key.ensures.texts ∙ ap (λ (k : Spans). key_of k.key p c.args.span) c.self.view_is in
-    held_span p set (key_of set.key p c.args.span) names (hashed_span p set _ (ap (λ (n : List (List ℕ)). is_hashed p set n) (sym own) ∙ sym c.in_ok-is_hashed.ensures ∙ c.if-branch.true))
+    held_span p set (key_of set.key p c.args.span) names (hashed_span p set _ (sym c.is_hashed.ensures ∙ c.if-is_hashed.true))
 
-pub returns-clause-ok : goal.returns-clause-ok
-returns-clause-ok c =
+pub returns-else-is_hashed-clause-ok : goal.returns-else-is_hashed-clause-ok
+returns-else-is_hashed-clause-ok c =
     let p = c.args.p.now in
     let set = c.args.self.now in
-    let own = c.in_ok-key.ensures.texts ∙ ap (λ (k : Spans). key_of k.key p c.args.span) c.self.view_is in
-    let kind = c.in_ok-key.ensures.kind ∙ ap (λ (k : Spans). k.key) c.self.view_is in
-    let hashed = c.hash.ensures ∙ (λ i. hash_of (kind i) (own i)) in
-    on_ok c.add.result _ _ (λ puts names. put_span p set c.add.new.self c.hash.result c.args.span (key_of set.key p c.args.span) puts hashed refl names) c.add.ensures.ok
+    let hashed = c.hash-hash.ensures ∙ ap (λ (k : Spans). hash_of (key_of k.key p c.args.span)) c.self.view_is in
+    on_ok c.add.result _ _ (λ puts names. put_span p set c.add.new.self c.hash-hash.result c.args.span (key_of set.key p c.args.span) puts hashed refl names) c.add.ensures.ok

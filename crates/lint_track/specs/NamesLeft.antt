@@ -1,0 +1,13 @@
+-- The names of a span that a walk over its tokens has left.
+use Rattle.std.specs.Prelude.{ℕ, List, drop, take}
+use Rattle.std.specs.List.{flat_map}
+use Rattle.sql_tree.specs.Path.{name_cuts}
+use Rattle.sql_tree.specs.Statement.{Tree}
+use Rattle.lint_track.specs.declared.names.Names.{Names}
+
+-- the names among the tokens from number i to before number n
+abbrev pub names_from : Tree → ℕ → ℕ → List (List ℕ)
+names_from tree n i = flat_map (name_cuts tree.text) (drop i (take n tree.toks))
+
+abbrev pub names_left : Names → List (List ℕ)
+names_left names = names_from names.file.now names.end names.next
