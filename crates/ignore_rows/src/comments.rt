@@ -42,6 +42,20 @@ const COMMENTS: &[(&str, &str)] = &[
     ),
     ("-- squawk-ignore a\r\n", "Line 16..18 \" a\" "),
     ("CREATE TABLE t (a text DEFAULT '-- squawk-ignore b');", ""),
+    (
+        "CREATE TABLE \"-- squawk-ignore a\" (b text); -- squawk-ignore c",
+        "Line 60..62 \" c\" ",
+    ),
+    (
+        "CREATE TABLE t (a text DEFAULT '-- squawk-disable-assume-in-transaction'); -- squawk-ignore",
+        "Line 91..91 \"\" ",
+    ),
+    ("-- squawk-ignor a\n-- squawk-", ""),
+    ("BEGIN; COMMIT;--squawk-ignore-file", "File 34..34 \"\" "),
+    (
+        "BEGIN; COMMIT;--squawk-disable-assume-in-transaction",
+        "disable",
+    ),
     ("-- squawk-disable-assume-in-transaction", "disable"),
     (
         "BEGIN; COMMIT; /* squawk-disable-assume-in-transaction -- why */",
@@ -76,6 +90,14 @@ const NAMES: &[(&str, &str)] = &[
         "| 17..30 unknown name `unused-ignore` | ",
     ),
     ("-- squawk-ignore", "| | "),
+    (
+        "CREATE TABLE \"-- squawk-ignore foo\" (a text DEFAULT '-- squawk-ignore foo'); -- a squawk-ignore foo",
+        "| | ",
+    ),
+    (
+        "BEGIN; COMMIT;--squawk-ignore foo",
+        "| 30..33 unknown name `foo` | ",
+    ),
 ];
 
 fn push_range(alloc: Global, out: &mut String, range: TextRange) -> Result<(), Fail> {

@@ -86,7 +86,7 @@ pub silent_undisabled : (t : Text) (toks : List Tok) → All (BeginsNoBody disab
 silent_undisabled t toks h =
     list_any_none (is_disable_comment t) toks (All-weaker (BeginsNoBody disable_text t) (λ k. is_disable_comment t k ≡ false) (λ k one. not_disable (comment_body t k) one) toks h)
 
--- a text for the file begins with the one for a line
+-- the words of a file ignore begin with those of a line ignore
 not_file : (s : List ℕ) → starts_with nat_eq s line_text ≡ false → starts_with nat_eq s file_text ≡ false
 not_file s h =
     elim (cases_Bool (starts_with nat_eq s file_text)) [
