@@ -33,6 +33,18 @@ fn any_token(text: &[u8], at: usize, last: TokKind) -> Option<(TokKind, usize)>
     token_at(text, at)
 }
 
+/// The same, inlined so that room for the answer is made only where the call stands, and not for each token.
+#[inline(always)]
+fn rare_token(text: &[u8], at: usize, last: TokKind) -> Option<(TokKind, usize)>
+    requires begins { at < length text.now }
+    requires signs { last ≡ TokKind.Op → (0 < at) × SignsFrom text.now at }
+    ensures found { IfSome result (λ t. At text.now at t.0 t.1) }
+    ensures within { IfSome result (λ t. (at < t.1) × (t.1 ≤ length text.now)) }
+    ensures none { IfNone result (NeverCloses text.now at) }
+{
+    any_token(text, at, last)
+}
+
 /// The token at this place behind one of the last kind: most often white space, a word or a mark.
 #[inline(always)]
 fn next_token(text: &[u8], at: usize, last: TokKind) -> Option<(TokKind, usize)>
@@ -46,7 +58,7 @@ fn next_token(text: &[u8], at: usize, last: TokKind) -> Option<(TokKind, usize)>
         Some(TokKind::Word) => Some((TokKind::Word, run_end(TokKind::Word, text, at + 1))),
         Some(TokKind::Blank) => Some((TokKind::Blank, run_end(TokKind::Blank, text, at + 1))),
         Some(TokKind::Punct) => Some((TokKind::Punct, at + 1)),
-        _ => any_token(text, at, last),
+        _ => rare_token(text, at, last),
     }
 }
 
