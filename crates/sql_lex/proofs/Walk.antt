@@ -1,11 +1,18 @@
 -- The walk over the statements.
-use Rattle.std.proofs.Common.{◌≡◌, ℕ, zero, suc, ◌+◌, ◌^◌, ◌<◌, ◌≤◌, List, [], ◌∷◌, ◌++◌, length, drop, get_or, refl, sym, ap, ◌∙◌, arith, ◌==◌, true, false, ◌&&◌, Bool, not}
+use Rattle.std.proofs.Common.{◌≡◌, ℕ, zero, suc, ◌+◌, ◌^◌, ◌<◌, ◌≤◌, List, [], ◌∷◌, ◌++◌, length, drop, get_or, refl, sym, ap, ◌∙◌, arith, ◌==◌, true, false, ◌&&◌, Bool, not, if◌then◌else◌, Option, Some, None}
+use Rattle.std.specs.Prelude.{slice_index}
 use Rattle.std.proofs.lemmas.Bool.Decides.{nat_tests}
 use Rattle.std.proofs.lemmas.List.{drop_all, drop_more}
 use Rattle.sql_token.specs.declared.token.Tok.{Tok}
 use Rattle.sql_token.specs.declared.terminal.Terminal.{Terminal}
 use Rattle.sql_token.specs.Token.{Text, Leads, Lexed, text_of}
-use Rattle.sql_token.specs.Terminal.{is_significant, symbol_of, terminals_from, is_opener, is_closer, is_semicolon}
+use Rattle.sql_token.specs.declared.token.TokKind.{TokKind}
+use Rattle.sql_token.specs.declared.token.TokKind.TheVariants.{Blank, LineComment, BlockComment, Word, Quoted, Str, UName, Dollar, Param, Number, Op, Punct, Other}
+use Rattle.sql_token.specs.declared.terminal.Symbol.{Symbol}
+use Rattle.sql_token.specs.declared.terminal.Symbol.TheVariants as s
+use Rattle.sql_keyword.specs.declared.words.Keyword.{Keyword}
+use Rattle.sql_keyword.specs.Slots.{keyword_of}
+use Rattle.sql_token.specs.Terminal.{is_significant, symbol_of, word_symbol, terminals_from, is_opener, is_closer, is_semicolon, is_opener_symbol, is_closer_symbol, is_semicolon_symbol}
 use Rattle.sql_token.specs.Depth.{onto, one_if, statements_from}
 use Rattle.sql_lex.specs.Cursor.{GoesOn, LieIn, IsWalk, Steps, IsNext}
 
@@ -67,6 +74,47 @@ pub goes_on : (buffer : List Terminal) (o c : ℕ) (t : Terminal) (ts from : Lis
 goes_on buffer o c t ts from all begins on same =
     let step : statements_from o c from ≡ onto t (statements_from (o + one_if (is_opener t)) (c + one_if (is_closer t)) ts) = rw (begins, on) refl in
     onto_all-push buffer t _ ∙ ap (onto_all buffer) (sym step) ∙ same
+
+-- no bracket and no `;`
+abbrev Passes : Symbol → Type 0
+Passes y = (is_semicolon_symbol y ≡ false) × (is_opener_symbol y ≡ false) × (is_closer_symbol y ≡ false)
+
+word_passes : (w : Option Keyword) → Passes (word_symbol w)
+word_passes None = (refl, refl, refl)
+word_passes (Some k) = (refl, refl, refl)
+
+number_passes : (one : Bool) → Passes (if one then s.One else s.Number)
+number_passes true = (refl, refl, refl)
+number_passes false = (refl, refl, refl)
+
+operator_passes : (equals alone star : Bool) → Passes (if equals then (if alone then s.Equals else s.EqualsOperator) else (if star then s.Star else s.Operator))
+operator_passes true true star = (refl, refl, refl)
+operator_passes true false star = (refl, refl, refl)
+operator_passes false alone true = (refl, refl, refl)
+operator_passes false alone false = (refl, refl, refl)
+
+passes : (k : TokKind) (bs : Text) → (k ≡ Punct → ⊥) → Passes (symbol_of k bs)
+unfolding symbol_of
+passes Word bs h = word_passes (keyword_of bs)
+passes Number bs h = number_passes (slice_index bs 0 == 49 && length bs == 1)
+passes Op bs h = operator_passes (slice_index bs 0 == 61) (length bs == 1) (slice_index bs 0 == 42 && length bs == 1)
+passes Punct bs h = absurd (h refl)
+passes Blank bs h = (refl, refl, refl)
+passes LineComment bs h = (refl, refl, refl)
+passes BlockComment bs h = (refl, refl, refl)
+passes Quoted bs h = (refl, refl, refl)
+passes Str bs h = (refl, refl, refl)
+passes UName bs h = (refl, refl, refl)
+passes Dollar bs h = (refl, refl, refl)
+passes Param bs h = (refl, refl, refl)
+passes Other bs h = (refl, refl, refl)
+
+-- brackets and `;` are marks
+pub no_mark : (k : TokKind) (bs : Text) (n : ℕ) (t : Terminal) → t ≡ record { symbol = symbol_of k bs; number = n } → (k ≡ Punct → ⊥) → GoesOn t
+unfolding is_semicolon is_opener is_closer
+no_mark k bs n t is h =
+    let p = passes k bs h in
+    record { semicolon = ap is_semicolon is ∙ p.0; opener = ap is_opener is ∙ p.1; closer = ap is_closer is ∙ p.2 }
 
 no_end : (b s : Bool) → s ≡ false → b && s ≡ false
 no_end true s h = h

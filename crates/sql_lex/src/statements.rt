@@ -1,13 +1,13 @@
 //! The statements of a text, one after another.
 
-ghost use Rattle.std.specs.Prelude.{◌≡◌, ◌<◌, ◌≤◌, ◌^◌, ◌==◌, ◌&&◌, false, [], length, IfOk, OnErr};
+ghost use Rattle.std.specs.Prelude.{◌≡◌, ◌<◌, ◌≤◌, ◌^◌, ◌==◌, ◌&&◌, [], length, IfOk, OnErr};
 ghost use Rattle.sql_token.specs.Depth.{one_if, statements};
 ghost use Rattle.sql_token.specs.Terminal.{terminals, symbol_of, is_semicolon};
 ghost use Rattle.sql_token.specs.Token.{Lexed, text_of};
-ghost use Rattle.sql_lex.specs.Cursor.{GoesOn, IsWalk, Steps, IsFirst};
+ghost use Rattle.sql_lex.specs.Cursor.{IsWalk, Steps, IsFirst};
 
-use crate::symbol::{is_significant, symbol_of};
-use sql_token::{Span, Symbol, Terminal, Tok};
+use crate::symbol::{is_mark, is_significant, symbol_of};
+use sql_token::{Span, Terminal, Tok};
 use std::alloc::Global;
 use std::marker::Model;
 use text_pos::NoMemory;
@@ -72,21 +72,6 @@ pub(crate) fn terminal_of(text: &[u8], tok: Tok, number: u32) -> Terminal
     }
 }
 
-/// Whether this is a bracket or `;`: a statement goes on over all else.
-#[tactic(auto, unfolding(sql_token::specs::Terminal::is_semicolon, sql_token::specs::Terminal::is_opener, sql_token::specs::Terminal::is_closer))]
-fn is_bracket_or_semicolon(terminal: Terminal) -> bool
-    ensures { result ≡ false → GoesOn terminal }
-{
-    match terminal.symbol {
-        Symbol::OpenRound
-        | Symbol::CloseRound
-        | Symbol::OpenSquare
-        | Symbol::CloseSquare
-        | Symbol::Semicolon => true,
-        _ => false,
-    }
-}
-
 /// Whether a statement ends with this terminal, before which so many brackets opened and closed.
 fn ends_statement(opened: usize, closed: usize, terminal: Terminal) -> bool
     ensures { result ≡ (opened == closed && is_semicolon terminal) }
@@ -125,7 +110,7 @@ fn take_first(
         let terminal = terminal_of(text, tok, number as u32);
         number += 1;
         statement.push(terminal)?;
-        if !is_bracket_or_semicolon(terminal) {
+        if !is_mark(tok.kind) {
             continue;
         }
         if ends_statement(opened, closed, terminal) {

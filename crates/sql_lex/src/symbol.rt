@@ -1,6 +1,6 @@
 //! What a token is to the grammar.
 
-ghost use Rattle.std.specs.Prelude.{◌≡◌, slice_index};
+ghost use Rattle.std.specs.Prelude.{◌≡◌, ◌≢◌, false, slice_index};
 ghost use Rattle.sql_keyword.specs.Slots.{keyword_of};
 ghost use Rattle.sql_token.specs.Terminal as spec;
 
@@ -15,6 +15,13 @@ pub fn is_significant(kind: TokKind) -> bool
         kind,
         TokKind::Blank | TokKind::LineComment | TokKind::BlockComment
     )
+}
+
+/// Whether a token of this kind may be a bracket or `;`: a statement goes on over all others.
+pub fn is_mark(kind: TokKind) -> bool
+    ensures { result ≡ false → kind ≢ TokKind.Punct }
+{
+    matches!(kind, TokKind::Punct)
 }
 
 fn word_symbol(bytes: &[u8]) -> Symbol
