@@ -55,8 +55,7 @@ impl CreatedTables {
         self.open.inside()
     }
 
-    /// Whether the open transaction created the table of this path. The error is want of memory, which paths of more than
-    /// two names take.
+    /// Whether the open transaction created the table of this path. It takes no memory, and does not fail.
     pub fn contains(&self, p: &Parse<'_>, path: Span) -> Result<bool, NoMemory>
         ensures { IfOk result (λ b. (assumed : Bool) (i : ℕ) → IsKnown p.now assumed i self.now
             → b ≡ is_new assumed p.now (path_cuts p.now.text p.now.toks path) i) }

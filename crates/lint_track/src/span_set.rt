@@ -21,7 +21,8 @@ use text_pos::NoMemory;
 /// one set that grew large must not slow down the small ones behind it.
 pub(crate) const KEPT_CAPACITY: usize = 64;
 
-/// How many spans of a set are compared one by one, before it hashes.
+/// How many spans a set keeps in a list before it hashes: most transactions create no more tables, and to compare these
+/// costs less than to hash each.
 const FEW: usize = 4;
 
 /// What a set tells spans apart by.
@@ -34,14 +35,14 @@ pub enum SpanKey {
 }
 
 /// A set of spans of one text, told apart by the names that stand in them. It holds no text: the text is at hand in each
-/// call. A span is found by a hash of its names, and confirmed by the names themselves.
+/// call. The first few spans are compared one by one; any other is found by a hash of its names, and confirmed by the names.
 #[derive(Drop)]
 pub struct SpanSet {
     alloc: Global,
     key: SpanKey,
     /// A span for each hash.
     hashed: HashMap<u64, Span>,
-    /// The spans whose hash was taken, with other names.
+    /// The first few spans, and those whose hash was taken, with other names.
     others: Vec<Span>,
 }
 
@@ -96,7 +97,7 @@ impl SpanSet {
         }
     }
 
-    /// Whether a span of the set has the same names as this one. It takes no memory, so that there is no error.
+    /// Whether a span of the set has the same names as this one. It takes no memory, and does not fail.
     #[tactic(auto, unfolding(crate::specs::SpanSet::has_span))]
     pub fn contains(&self, p: &Parse<'_>, span: Span) -> Result<bool, NoMemory>
         ensures { IfOk result (λ b. b ≡ has_span p.now self.now (key_of self.now.key p.now span)) }
