@@ -18,3 +18,5 @@ mod large;
 mod shown;
 #[cfg(test)]
 mod shown_body;
+#[cfg(test)]
+mod spans;

@@ -39,7 +39,8 @@ use Rattle.squawk_linter.specs.Headline.{Entry, HasNoIgnoreComment, addition_ent
 use Rattle.pass_groups.specs.OwnTable.{own_table}
 use Rattle.squawk_linter.specs.Reports.{cleared, reports_from, start_of, with_unknown_names}
 use Rattle.squawk_linter.proofs.Gathering.{gathered_plain}
-use Rattle.squawk_linter.proofs.Tables.{bans_all, validations_all}
+use Rattle.pass_drop.proofs.BanLaws.{bans_all}
+use Rattle.pass_lock.proofs.ConstraintReports.{validations_all}
 
 -- ---- filters, maps and the order of places
 
