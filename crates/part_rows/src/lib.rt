@@ -18,5 +18,3 @@ mod large;
 mod shown;
 #[cfg(test)]
 mod shown_body;
-#[cfg(test)]
-mod spans;
