@@ -92,6 +92,15 @@ opening_next tree i s old new e n h =
     in
     rw add-one now
 
+-- where nothing stamps
+pub not_stamped : (o : Option Opening) → option_map (stamped false) o ≡ o
+not_stamped None = refl
+not_stamped (Some o) = ap (λ (b : Bool). Some (record o { is_stamped = b })) (or_false o.is_stamped)
+  where
+    or_false : (b : Bool) → (b || false) ≡ b
+    or_false true = refl
+    or_false false = refl
+
 block_by_parts : (tree : Tree) (e b : ℕ) → block_of tree e b ≡ cond (ends_at tree e) (flat_map (block_from e) (opening_at tree e b)) []
 block_by_parts tree e b = by (ends_at tree e) (leads_to tree b e) (any_between (stamps_at tree) b e)
   where

@@ -1,9 +1,11 @@
 //! The blocks that Alembic writes around a migration.
 
 ghost use Rattle.std.specs.Prelude.{◌≡◌, ◌+◌, ◌≤◌, ◌++◌, length, IfOk, OnOk};
+ghost use Rattle.std.specs.List.{flat_map};
+ghost use Rattle.std.specs.Option.{option_map, option_to_list};
 ghost use Rattle.lint_pass.specs.Blocks as spec;
 ghost use Rattle.lint_pass.specs.Blocks.{blocks_of};
-ghost use Rattle.lint_pass.specs.BlockWalk.{opening_after, block_by};
+ghost use Rattle.lint_pass.specs.BlockWalk.{stamped, opening_after, block_from, block_by};
 
 use crate::cursor::Cursor;
 use crate::steps::Steps;
@@ -65,52 +67,19 @@ fn is_version_table(alloc: Global, p: &Parse<'_>, path: Option<Span>) -> Result<
     }
 }
 
-/// Whether the statement writes the version that a database is at.
-fn is_stamp(alloc: Global, p: &Parse<'_>, s: &Stmt) -> Result<bool, NoMemory>
-    ensures { IfOk result (λ b. b ≡ spec.is_stamp p.now s.now) }
+/// Whether the statement is an UPDATE.
+fn is_update(s: &Stmt) -> bool
+    ensures { result ≡ spec.is_update_kind s.now.kind }
 {
     match s.kind {
-        StmtKind::Update => is_version_table(alloc, p, written(s)),
-        _ => Ok(false),
+        StmtKind::Update => true,
+        _ => false,
     }
 }
 
-/// What is known of the block that may have begun, behind statement `i`.
-fn opening_after(
-    alloc: Global,
-    p: &Parse<'_>,
-    s: &Stmt,
-    i: u32,
-    opening: Option<Opening>,
-) -> Result<Option<Opening>, NoMemory>
-    ensures { IfOk result (λ o. o ≡ opening_after p.now s.now i opening) }
-{
-    if s.kind == StmtKind::Begin {
-        return Ok(Some(Opening {
-            begin: i,
-            is_stamped: false,
-        }));
-    }
-    if is_end(s) {
-        return Ok(None);
-    }
-    match opening {
-        Some(Opening { begin, is_stamped }) => Ok(Some(Opening {
-            begin,
-            is_stamped: is_stamped || is_stamp(alloc, p, s)?,
-        })),
-        None => Ok(None),
-    }
-}
-
-/// Adds the block that statement `i` ends.
-fn push_block(
-    blocks: &mut Vec<Block>,
-    s: &Stmt,
-    i: u32,
-    opening: Option<Opening>,
-) -> Result<(), NoMemory>
-    ensures { OnOk result (blocks.new.items ≡ blocks.old.items ++ block_by s.now i opening) }
+/// Adds the block that a COMMIT or a ROLLBACK, which is statement `i`, ends.
+fn push_block(blocks: &mut Vec<Block>, i: u32, opening: Option<Opening>) -> Result<(), NoMemory>
+    ensures { OnOk result (blocks.new.items ≡ blocks.old.items ++ flat_map (block_from i) (option_to_list opening)) }
 {
     match opening {
         Some(
@@ -118,7 +87,7 @@ fn push_block(
                 begin,
                 is_stamped: true,
             },
-        ) if is_end(s) => {
+        ) => {
             blocks.push(Block {
                 first: begin,
                 last: i,
@@ -127,6 +96,51 @@ fn push_block(
         }
         _ => Ok(()),
     }
+}
+
+/// The same BEGIN behind an UPDATE, which may write the version that a database is at.
+fn stamped(
+    alloc: Global,
+    p: &Parse<'_>,
+    s: &Stmt,
+    opening: Option<Opening>,
+) -> Result<Option<Opening>, NoMemory>
+    ensures { IfOk result (λ o. o ≡ option_map (stamped (spec.is_version_table p.now (spec.written_by s.now.body))) opening) }
+{
+    match opening {
+        Some(Opening { begin, is_stamped }) => Ok(Some(Opening {
+            begin,
+            is_stamped: is_stamped || is_version_table(alloc, p, written(s))?,
+        })),
+        None => Ok(None),
+    }
+}
+
+/// Goes behind statement `i`: what is known of the block that may have begun, and the blocks that have ended.
+#[tactic(auto, using(crate::proofs::BlockLaws::not_stamped))]
+fn go_behind(
+    alloc: Global,
+    p: &Parse<'_>,
+    s: &Stmt,
+    i: u32,
+    opening: &mut Option<Opening>,
+    blocks: &mut Vec<Block>,
+) -> Result<(), NoMemory>
+    ensures opening { OnOk result (opening.new ≡ opening_after p.now s.now i opening.old) }
+    ensures found { OnOk result (blocks.new.items ≡ blocks.old.items ++ block_by s.now i opening.old) }
+{
+    if s.kind == StmtKind::Begin {
+        *opening = Some(Opening {
+            begin: i,
+            is_stamped: false,
+        });
+    } else if is_end(s) {
+        push_block(blocks, i, *opening)?;
+        *opening = None;
+    } else if is_update(s) {
+        *opening = stamped(alloc, p, s, *opening)?;
+    }
+    Ok(())
 }
 
 /// The blocks of the cursor's tree, by place. The cursor stands before the first statement, and goes over all of them.
@@ -144,8 +158,7 @@ pub fn find_blocks<L: Ledger>(
     let mut blocks = Vec::new(alloc);
     let mut opening = None;
     while let Some((i, s)) = cursor.next(steps) {
-        push_block(&mut blocks, s, i, opening)?;
-        opening = opening_after(alloc, p, s, i, opening)?;
+        go_behind(alloc, p, s, i, &mut opening, &mut blocks)?;
     }
     Ok(blocks)
 }

@@ -1,4 +1,5 @@
 pub mod EarlierLaws
+pub mod NameLaws
 pub mod Paths
 pub mod SpanLaws
 pub mod TrackingLaws

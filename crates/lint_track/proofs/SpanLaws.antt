@@ -1,5 +1,5 @@
 -- How sets of spans change.
-use Rattle.std.proofs.Common.{◌≡◌, ◌∙◌, sym, ap, refl, ℕ, Bool, true, false, ◌&&◌, ◌||◌, cond, nat_eq, List, [], ◌∷◌, ◌++◌, Option, Some, None, is_none, arith}
+use Rattle.std.proofs.Common.{◌≡◌, ◌∙◌, sym, ap, refl, ℕ, Bool, true, false, ◌&&◌, ◌||◌, cond, nat_eq, List, [], ◌∷◌, ◌++◌, Option, Some, None, is_none, Result, Ok, Err, OnOk, arith}
 use Rattle.std.proofs.lemmas.Bool.{eqb-true, false≢true}
 use Rattle.std.proofs.lemmas.Bool.Decides.{nat_tests}
 use Rattle.std.proofs.lemmas.List.Folds.{list_any-append}
@@ -10,6 +10,10 @@ use Rattle.sql_tree.specs.Statement.{Tree}
 use Rattle.lint_track.specs.SpanSet.{Spans, PutsSpan, ListsSpan, key_of, hash_of, has_names, is_some_named, is_hashed, is_other, has_span}
 use Rattle.lint_track.specs.Transaction.{same_path}
 use Rattle.lint_track.proofs.Paths.{same_so}
+
+pub on_ok : {X E : Type 0} (r : Result X E) (P Q : Type 0) → (P → Q) → OnOk r P → OnOk r Q
+on_ok (Ok x) P Q f p = f p
+on_ok (Err e) P Q f p = tt
 
 pub empty_span : (tree : Tree) (set : Spans) → set.hashed ≡ [] → set.others ≡ [] → (names : List (List ℕ)) → has_span tree set names ≡ false
 unfolding has_span

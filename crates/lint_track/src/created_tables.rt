@@ -63,7 +63,9 @@ impl CreatedTables {
         self.tables.contains(p, path)
     }
 
-    /// Goes behind a statement of the tree. After a refusal, which is want of memory, nothing has changed.
+    /// Goes behind a statement of the tree. After a refusal, which is want of memory, nothing has changed. It is inlined, since
+    /// most statements only ask for two comparisons.
+    #[inline(always)]
     pub fn update(&mut self, p: &Parse<'_>, s: &Stmt) -> Result<(), NoMemory>
         ensures tracks { OnOk result ((assumed : Bool) (i : ℕ) → s.now ≡ stmt_at p.now i
             → IsKnown p.now assumed i self.old → IsKnown p.now assumed (i + 1) self.new) }

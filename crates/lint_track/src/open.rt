@@ -40,7 +40,18 @@ impl OpenTransaction {
         ensures tracks { (tree : Tree) (assumed : Bool) (i : ℕ) → s.now ≡ stmt_at tree i
             → self.old ≡ is_open assumed tree i → self.new ≡ is_open assumed tree (i + 1) }
     {
-        self.is_inside = stays_open(self.is_inside, s);
+        self.go_behind(s);
+    }
+
+    /// Whether a transaction is open changes at few statements, and is written at these alone.
+    fn go_behind(&mut self, s: &Stmt)
+        ensures { self.new ≡ (spec.begins s.now || spec.chains s.now || (self.old && not (spec.ends s.now))) }
+    {
+        if begins(s) {
+            self.is_inside = true;
+        } else if ends(s) {
+            self.is_inside = chains(s);
+        }
     }
 
     /// Whether a transaction is open here.
@@ -49,11 +60,4 @@ impl OpenTransaction {
     {
         self.is_inside
     }
-}
-
-// Whether a transaction is open behind a statement.
-fn stays_open(is_inside: bool, s: &Stmt) -> bool
-    ensures { result ≡ (spec.begins s.now || spec.chains s.now || (is_inside && not (spec.ends s.now))) }
-{
-    begins(s) || chains(s) || (is_inside && !ends(s))
 }

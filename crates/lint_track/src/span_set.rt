@@ -2,7 +2,9 @@
 
 ghost use Rattle.std.specs.Prelude.{◌≡◌, ◌||◌, ℕ, List, [], false, fold, IfOk, OnOk, OnErr};
 ghost use Rattle.std.specs.Hash.FoldHasher as folding;
+ghost use Rattle.std.specs.Str.{bytes_eq};
 ghost use Rattle.sql_tree.specs.Statement.{Tree};
+ghost use Rattle.lint_track.specs.Names as given;
 ghost use Rattle.lint_track.specs.Transaction.{same_path};
 ghost use Rattle.lint_track.specs.SpanSet as spec;
 ghost use Rattle.lint_track.specs.SpanSet.{key_of, hash_of, has_span, PutsSpan, ListsSpan};
@@ -79,8 +81,16 @@ fn is_same(p: &Parse<'_>, key: SpanKey, a: Span, b: Span) -> bool
 {
     match key {
         SpanKey::Path => is_same_path(p, a, b),
-        SpanKey::LastName => name_at(p, a.last) == name_at(p, b.last),
+        SpanKey::LastName => is_same_name(p, a.last, b.last),
     }
+}
+
+/// Whether two tokens give the same name. It stands apart, since most sets are sets of paths.
+#[inline(never)]
+fn is_same_name(p: &Parse<'_>, a: u32, b: u32) -> bool
+    ensures { result ≡ bytes_eq (given.name_at p.now a) (given.name_at p.now b) }
+{
+    name_at(p, a) == name_at(p, b)
 }
 
 impl SpanSet {
@@ -142,8 +152,21 @@ impl SpanSet {
         ensures err { OnErr result (self.new ≡ self.old) }
     {
         if self.others.len() < FEW {
-            return self.list(span);
+            self.list(span)
+        } else {
+            self.insert_hashed(p, span)
         }
+    }
+
+    /// Puts a span in where there are many. It stands apart, so that those who put in a few spans need not make room for what
+    /// it needs.
+    #[inline(never)]
+    fn insert_hashed(&mut self, p: &Parse<'_>, span: Span) -> Result<(), NoMemory>
+        ensures key { self.new.key ≡ self.old.key }
+        ensures ok { OnOk result ((names : List (List ℕ)) → has_span p.now self.new names
+            ≡ (same_path names (key_of self.old.key p.now span) || has_span p.now self.old names)) }
+        ensures err { OnErr result (self.new ≡ self.old) }
+    {
         let hash = hash(p, self.key, span);
         if self.is_hashed(p, span, hash) {
             Ok(())
@@ -191,6 +214,8 @@ impl SpanSet {
         self.others.clear();
     }
 
+    /// It stands apart, since most sets have nothing hashed.
+    #[inline(never)]
     fn forget_hashed(&mut self)
         ensures key { self.new.key ≡ self.old.key }
         ensures hashed { self.new.hashed ≡ [] }

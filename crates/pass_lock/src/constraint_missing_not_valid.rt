@@ -265,8 +265,8 @@ impl ValidationsState {
         ensures names { (tree : Tree) (name : List ℕ) → has_name tree self.new.names name
             ≡ (has_name tree self.old.names name && not (track.ends s.now)) }
     {
-        forget_at_end(&mut self.names, s);
         self.open.update(s);
+        forget_at_end(&mut self.names, s);
     }
 }
 

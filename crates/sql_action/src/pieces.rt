@@ -3,7 +3,7 @@
 ghost use Rattle.std.specs.Prelude.{◌≡◌, ◌≤◌, ◌+◌, ◌-◌, IfOk, length, map};
 ghost use Rattle.std.specs.Option.{option_copied};
 ghost use Rattle.sql_tree.specs.ActionPieces as spec;
-ghost use Rattle.sql_tree.specs.Split.{uncons};
+ghost use Rattle.sql_tree.specs.Split.{chunks, uncons};
 
 use sql_constraint::{make_room, put};
 use sql_mark::{Mark, Parts, begins_with, closing, span_of, terminals_before};
@@ -135,16 +135,17 @@ struct Pieces<'a> {
 impl<'a> Model for Pieces<'a> {
     ghost use Rattle.std.specs.Prelude.{List};
     ghost use Rattle.sql_token.specs.declared.terminal.Terminal.{Terminal};
-    ghost use Rattle.sql_tree.specs.ActionPieces.{pieces_behind};
+    ghost use Rattle.sql_tree.specs.ActionPieces.{piece_len};
+    ghost use Rattle.sql_tree.specs.Split.{chunks};
 
     ghost Value = { List (List Terminal) };
 
-    ghost view = { λ p. pieces_behind p.list 0 p.left.now };
+    ghost view = { λ p. chunks (piece_len p.list) p.left.now };
 }
 
 impl<'a> Pieces<'a> {
     fn new(list: PieceList, left: &'a [Terminal]) -> Pieces<'a>
-        ensures { result ≡ spec.pieces_behind list 0 left.now }
+        ensures { result ≡ chunks (spec.piece_len list) left.now }
     {
         Pieces { list, left }
     }

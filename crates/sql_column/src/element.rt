@@ -1,7 +1,8 @@
 //! The elements of a table's list (PostgreSQL manual, CREATE TABLE).
 
-ghost use Rattle.std.specs.Prelude.{◌≡◌, IfOk};
+ghost use Rattle.std.specs.Prelude.{◌≡◌, [], ◌∷◌, ◌++◌, if◌then◌else◌, IfOk, OnOk};
 ghost use Rattle.sql_tree.specs.Column as spec;
+ghost use Rattle.sql_tree.specs.Groups.{is_empty};
 ghost use Rattle.sql_tree.specs.Constraint.{table_constraint};
 
 use crate::column::read_column;
@@ -40,39 +41,57 @@ fn leads_constraint(first: Terminal, after: &[Terminal]) -> bool
     is_constraint_symbol(first.symbol) || first.is_keyword(Keyword::Exclude) && is_exclusion(after)
 }
 
-fn constraint_element(alloc: Global, terminals: &[Terminal]) -> Result<Elem, NoMemory>
-    ensures { IfOk result (λ e. e ≡ spec.constraint_element (table_constraint terminals.now)) }
+fn put_constraint(
+    alloc: Global,
+    terminals: &[Terminal],
+    elements: &mut Vec<Elem>,
+) -> Result<(), NoMemory>
+    ensures { OnOk result (elements.new.items ≡ elements.old.items ++ spec.constraint_element (table_constraint terminals.now) ∷ []) }
 {
     match read_table_constraint(alloc, terminals)? {
-        None => Ok(Elem::Other),
-        Some(constraint) => Ok(Elem::Constraint(constraint)),
+        None => elements.push(Elem::Other)?,
+        Some(constraint) => elements.push(Elem::Constraint(constraint))?,
     }
+    Ok(())
 }
 
-fn column_element(alloc: Global, terminals: &[Terminal]) -> Result<Elem, NoMemory>
-    ensures { IfOk result (λ e. e ≡ spec.column_element (spec.column terminals.now)) }
+fn put_column(
+    alloc: Global,
+    terminals: &[Terminal],
+    elements: &mut Vec<Elem>,
+) -> Result<(), NoMemory>
+    ensures { OnOk result (elements.new.items ≡ elements.old.items ++ spec.column_element (spec.column terminals.now) ∷ []) }
 {
     match read_column(alloc, terminals)? {
-        None => Ok(Elem::Other),
-        Some(column) => Ok(Elem::Column(column)),
+        None => elements.push(Elem::Other)?,
+        Some(column) => elements.push(Elem::Column(column))?,
     }
+    Ok(())
 }
 
-/// The element that these terminals are, by the first of them: a constraint of the table, LIKE, or a column.
+/// Puts the element that these terminals are behind the others.
 #[tactic(auto, unfolding(sql_tree::specs::Column::element))]
-fn element(alloc: Global, terminals: &[Terminal]) -> Result<Elem, NoMemory>
-    ensures { IfOk result (λ e. e ≡ spec.element terminals.now) }
+fn put_element(
+    alloc: Global,
+    terminals: &[Terminal],
+    elements: &mut Vec<Elem>,
+) -> Result<(), NoMemory>
+    ensures { OnOk result (elements.new.items ≡ elements.old.items ++ spec.element terminals.now ∷ []) }
 {
     match terminals {
-        [] => Ok(Elem::Other),
+        [] => {
+            elements.push(Elem::Other)?;
+            Ok(())
+        }
         [first, rest @ ..] => {
             if leads_constraint(*first, rest) {
-                return constraint_element(alloc, terminals);
+                return put_constraint(alloc, terminals, elements);
             }
             if first.is_keyword(Keyword::Like) {
-                return Ok(Elem::Like);
+                elements.push(Elem::Like)?;
+                return Ok(());
             }
-            column_element(alloc, terminals)
+            put_column(alloc, terminals, elements)
         }
     }
 }
@@ -85,10 +104,19 @@ fn listed(alloc: Global, inside: &[Terminal]) -> Result<Items<Elem>, NoMemory>
     let mut parts = Parts::new(Mark::Comma, inside);
     while let Some(part) = parts.next_part() {
         make_room(&mut elements, part, inside)?;
-        let read = element(alloc, part)?;
-        elements.push(read)?;
+        put_element(alloc, part, &mut elements)?;
     }
     Ok(Items::from_vec(elements))
+}
+
+/// The elements of a list, by what stands inside its brackets; none, where nothing does.
+pub fn elements_inside(alloc: Global, inside: &[Terminal]) -> Result<Items<Elem>, NoMemory>
+    ensures { IfOk result (λ es. es ≡ if is_empty inside.now then [] else spec.listed inside.now) }
+{
+    if inside.is_empty() {
+        return Ok(Items::new(alloc));
+    }
+    listed(alloc, inside)
 }
 
 /// The elements of the list that stands directly behind a table's path; none, where no list does. An element that does
@@ -97,11 +125,7 @@ fn listed(alloc: Global, inside: &[Terminal]) -> Result<Items<Elem>, NoMemory>
 pub fn read_elements(alloc: Global, tail: &[Terminal]) -> Result<Items<Elem>, NoMemory>
     ensures { IfOk result (λ es. es ≡ spec.elements tail.now) }
 {
-    let inside = inside_list(tail);
-    if inside.is_empty() {
-        return Ok(Items::new(alloc));
-    }
-    listed(alloc, inside)
+    elements_inside(alloc, inside_list(tail))
 }
 
 /// Whether ON COMMIT DROP stands behind a table's path.

@@ -4,11 +4,10 @@ use Rattle.std.proofs.Common.{◌≡◌, refl, Some}
 use Rattle.sql_keyword.specs.declared.words.Keyword.{Keyword}
 use Rattle.sql_keyword.specs.declared.words.Keyword.TheVariants as k
 use Rattle.sql_keyword.specs.Texts.{text}
-use Rattle.sql_keyword.specs.Slots.{slot, start_of, length_of, number_of, text_at, keyword_of}
-use Rattle.sql_keyword.specs.Numbers.{of_number, of_group}
+use Rattle.sql_keyword.specs.Slots.{slot, start_of, length_of, keyword_in, text_at, keyword_of}
 
 pub found : (k : Keyword) → keyword_of (text k) ≡ Some k
-unfolding text slot start_of length_of number_of text_at keyword_of of_number of_group
+unfolding text slot start_of length_of keyword_in text_at keyword_of
 found k.Abort = refl
 found k.Access = refl
 found k.Add = refl

@@ -1,3 +1,6 @@
 mod Below
+mod Entries
 mod Found
+mod Fours
+mod Letters
 mod Right

@@ -1,36 +1,23 @@
 -- The look-up finds a keyword exactly where its text stands.
-use Rattle.std.proofs.Common.{if◌then◌else◌, nat_lt, nat_le, ◌-◌, ◌/◌, ◌||◌, subst, ◌≡◌, refl, arith, ◌<◌, sym, ◌∙◌, ap, ℕ, zero, suc, List, [], ◌∷◌, map, length, Bool, true, false, Option, Some, None, ◌↔◌, IsTrue, slice_index}
-use Rattle.std.proofs.lemmas.List.{length-map}
+use Rattle.std.proofs.Common.{if◌then◌else◌, nat_lt, nat_le, ◌-◌, ◌%◌, ◌||◌, subst, ◌≡◌, refl, arith, ◌<◌, sym, ◌∙◌, ap, ℕ, List, map, length, Bool, true, false, Option, Some, None, ◌↔◌, IsTrue, slice_index}
 use Rattle.std.proofs.lemmas.Slice.Eq.{bytes_eq-Decides}
 use Rattle.std.specs.Char.{to_ascii_lowercase}
 use Rattle.std.specs.Str.{str_eq_ignore_ascii_case, bytes_eq}
 use Rattle.sql_keyword.specs.declared.words.Keyword.{Keyword}
 use Rattle.sql_keyword.specs.declared.slots.TheConstants.{SLOT_COUNT}
 use Rattle.sql_keyword.specs.Texts.{text}
-use Rattle.sql_keyword.specs.Slots.{slot, start_of, length_of, number_of, text_at, keyword_of, lower_at, text_in}
-use Rattle.sql_keyword.specs.Numbers.{of_number, of_group}
+use Rattle.sql_keyword.specs.Slots.{slot, start_of, length_of, keyword_in, text_at, text_in, letter_at, keyword_of}
 use Rattle.sql_keyword.proofs.Below.{all_below, below_so}
 use Rattle.sql_keyword.proofs.Found.{found}
-
-lowered : (bs : List ℕ) (i : ℕ) → lower_at bs i ≡ slice_index (map to_ascii_lowercase bs) i
-lowered [] zero = refl
-lowered [] (suc i) = refl
-lowered (b ∷ bs) zero = refl
-lowered (b ∷ bs) (suc i) = lowered bs i
-
-same_length : (a b : List ℕ) → map to_ascii_lowercase a ≡ map to_ascii_lowercase b → length a ≡ length b
-same_length a b e = sym (length-map a to_ascii_lowercase) ∙ ap length e ∙ length-map b to_ascii_lowercase
-
-same_at : (a b : List ℕ) → map to_ascii_lowercase a ≡ map to_ascii_lowercase b → (i : ℕ) → lower_at a i ≡ lower_at b i
-same_at a b e i = lowered a i ∙ ap (λ l. slice_index l i) e ∙ sym (lowered b i)
+use Rattle.sql_keyword.proofs.Letters.{place, same_length, same_at}
 
 -- the slot depends on the lowercase bytes alone
 same_slot : (a b : List ℕ) → map to_ascii_lowercase a ≡ map to_ascii_lowercase b → slot a ≡ slot b
 unfolding slot
 same_slot a b e =
     let n : length a ≡ length b = same_length a b e in
-    let at = same_at a b e in
-    rw (n, at 0, at 1, at (length b / 2), at (length b - 2), at (length b - 1)) refl
+    let at : (i : ℕ) → letter_at a i ≡ letter_at b i = λ i. sym (place (slice_index a i)) ∙ ap (λ l. l % 32) (same_at a b e i) ∙ place (slice_index b i) in
+    rw (n, at 0, at 1, at (length b - 2), at (length b - 1)) refl
 
 same_keyword : (a b : List ℕ) → map to_ascii_lowercase a ≡ map to_ascii_lowercase b → keyword_of a ≡ keyword_of b
 unfolding keyword_of
@@ -45,10 +32,10 @@ spelled_as None t = true
 spelled_as (Some k) t = bytes_eq t (text k)
 
 abbrev is_spelled : ℕ → Bool
-is_spelled n = spelled_as (of_number (number_of n)) (text_in n)
+is_spelled n = spelled_as (keyword_in n) (text_in n)
 
 all_spelled : all_below is_spelled SLOT_COUNT ≡ true
-unfolding text text_at start_of length_of number_of of_number of_group
+unfolding text text_at start_of length_of keyword_in
 all_spelled = refl
 
 slot_below : (bs : List ℕ) → slot bs < SLOT_COUNT
@@ -72,8 +59,8 @@ spelled_so (Some j) t k h e =
 forward : (bs : List ℕ) (k : Keyword) → keyword_of bs ≡ Some k → IsTrue (str_eq_ignore_ascii_case bs (text k))
 unfolding keyword_of
 forward bs k h =
-    let p = pick (nat_lt (length bs) 2 || nat_le 16 (length bs)) (str_eq_ignore_ascii_case bs (text_in (slot bs))) (of_number (number_of (slot bs))) k h in
-    let e = spelled_so (of_number (number_of (slot bs))) (text_in (slot bs)) k (entry_spelled bs) p.1 in
+    let p = pick (nat_lt (length bs) 2 || nat_le 16 (length bs)) (str_eq_ignore_ascii_case bs (text_in (slot bs))) (keyword_in (slot bs)) k h in
+    let e = spelled_so (keyword_in (slot bs)) (text_in (slot bs)) k (entry_spelled bs) p.1 in
     let P : List ℕ → Type 0 = λ t. IsTrue (str_eq_ignore_ascii_case bs t) in
     subst P e p.0
 

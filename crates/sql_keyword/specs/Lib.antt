@@ -1,4 +1,4 @@
 pub mod Same
 pub mod Texts
-pub mod Numbers
+pub mod Letters
 pub mod Slots

@@ -1,43 +1,82 @@
 //! Words without regard to ASCII case.
+//!
+//! Four letters are compared as one number, and fewer by `&` and not by `&&`, with no jump between them.
 
-ghost use Rattle.std.specs.Prelude.{◌≡◌};
-ghost use Rattle.std.specs.Char.{to_ascii_lowercase};
+ghost use Rattle.std.specs.Prelude.{◌≡◌, ◌+◌, ◌≤◌, length};
+ghost use Rattle.std.specs.Bool.{Decides};
+ghost use Rattle.std.specs.Char.{eq_ignore_ascii_case};
 ghost use Rattle.std.specs.Str.{str_eq_ignore_ascii_case};
+ghost use Rattle.sql_keyword.specs.Letters.{IsCapital, AreCapitals, AreSame, AreFourBytes, four_of};
 
-/// For each byte its ASCII lower case.
-pub static LOWER: [u8; 256] = [
-    0, 1, 2, 3, 4, 5, 6, 7, 8, 9, 10, 11, 12, 13, 14, 15, 16, 17, 18, 19, 20, 21, 22, 23, 24, 25,
-    26, 27, 28, 29, 30, 31, 32, 33, 34, 35, 36, 37, 38, 39, 40, 41, 42, 43, 44, 45, 46, 47, 48, 49,
-    50, 51, 52, 53, 54, 55, 56, 57, 58, 59, 60, 61, 62, 63, 64, 97, 98, 99, 100, 101, 102, 103,
-    104, 105, 106, 107, 108, 109, 110, 111, 112, 113, 114, 115, 116, 117, 118, 119, 120, 121, 122,
-    91, 92, 93, 94, 95, 96, 97, 98, 99, 100, 101, 102, 103, 104, 105, 106, 107, 108, 109, 110, 111,
-    112, 113, 114, 115, 116, 117, 118, 119, 120, 121, 122, 123, 124, 125, 126, 127, 128, 129, 130,
-    131, 132, 133, 134, 135, 136, 137, 138, 139, 140, 141, 142, 143, 144, 145, 146, 147, 148, 149,
-    150, 151, 152, 153, 154, 155, 156, 157, 158, 159, 160, 161, 162, 163, 164, 165, 166, 167, 168,
-    169, 170, 171, 172, 173, 174, 175, 176, 177, 178, 179, 180, 181, 182, 183, 184, 185, 186, 187,
-    188, 189, 190, 191, 192, 193, 194, 195, 196, 197, 198, 199, 200, 201, 202, 203, 204, 205, 206,
-    207, 208, 209, 210, 211, 212, 213, 214, 215, 216, 217, 218, 219, 220, 221, 222, 223, 224, 225,
-    226, 227, 228, 229, 230, 231, 232, 233, 234, 235, 236, 237, 238, 239, 240, 241, 242, 243, 244,
-    245, 246, 247, 248, 249, 250, 251, 252, 253, 254, 255,
-];
+/// All bits of a letter but the one that tells a small letter from a capital one.
+const LETTER_BITS: u8 = 0xdf;
 
-/// The ASCII lower case of a byte, by the table.
-pub fn lower(byte: u8) -> u8
-    ensures { result ≡ to_ascii_lowercase byte }
+/// The same bits of four letters.
+const LETTER_BITS_OF_FOUR: u32 = 0xdfdf_dfdf;
+
+/// Whether a byte is a capital letter, or the small letter to it.
+fn is_letter(byte: u8, capital: u8) -> bool
+    requires { IsCapital capital }
+    ensures { result ≡ eq_ignore_ascii_case byte capital }
 {
-    LOWER[byte as usize]
+    byte & LETTER_BITS == capital
 }
 
-/// Whether two texts are the same without regard to ASCII case.
+fn are_two_same(word: &[u8], text: &[u8], at: usize) -> bool
+    requires within { (at + 2 ≤ length word.now) × (at + 2 ≤ length text.now) }
+    requires capitals { AreCapitals text.now }
+    ensures { Decides result (AreSame word.now text.now at (at + 2)) }
+{
+    is_letter(word[at], text[at]) & is_letter(word[at + 1], text[at + 1])
+}
+
+/// The first four bytes as one number.
+fn first_four(bytes: &[u8]) -> u32
+    requires { 4 ≤ length bytes.now }
+    ensures value { result ≡ four_of bytes.now }
+    ensures bytes { AreFourBytes bytes.now }
+{
+    u32::from_le_bytes([bytes[0], bytes[1], bytes[2], bytes[3]])
+}
+
+fn are_four_same(word: &[u8], text: &[u8], at: usize) -> bool
+    requires within { (at + 4 ≤ length word.now) × (at + 4 ≤ length text.now) }
+    requires capitals { AreCapitals text.now }
+    ensures { Decides result (AreSame word.now text.now at (at + 4)) }
+{
+    first_four(&word[at..]) & LETTER_BITS_OF_FOUR == first_four(&text[at..])
+}
+
+fn are_eight_same(word: &[u8], text: &[u8], at: usize) -> bool
+    requires within { (at + 8 ≤ length word.now) × (at + 8 ≤ length text.now) }
+    requires capitals { AreCapitals text.now }
+    ensures { Decides result (AreSame word.now text.now at (at + 8)) }
+{
+    are_four_same(word, text, at) & are_four_same(word, text, at + 4)
+}
+
+/// Whether all letters of two texts of one length are the same: the last and the first ones, which meet.
+fn are_all_same(word: &[u8], text: &[u8]) -> bool
+    requires within { (2 ≤ length word.now) × (length word.now ≤ 16) }
+    requires lengths { length text.now ≡ length word.now }
+    requires capitals { AreCapitals text.now }
+    ensures { Decides result (AreSame word.now text.now 0 (length word.now)) }
+{
+    let len = word.len();
+    if len < 4 {
+        are_two_same(word, text, len - 2) & are_two_same(word, text, 0)
+    } else if len < 8 {
+        are_four_same(word, text, len - 4) & are_four_same(word, text, 0)
+    } else {
+        are_eight_same(word, text, len - 8) & are_eight_same(word, text, 0)
+    }
+}
+
+/// Whether a word is this text, which has capital letters alone, without regard to ASCII case.
 pub fn is_same_word(word: &[u8], text: &[u8]) -> bool
+    requires within { (2 ≤ length word.now) × (length word.now ≤ 16) }
+    requires capitals { AreCapitals text.now }
     ensures { result ≡ str_eq_ignore_ascii_case word.now text.now }
 {
-    let mut rest = text;
-    for byte in word {
-        match rest.split_first() {
-            Some((first, others)) if lower(*byte) == lower(*first) => rest = others,
-            _ => return false,
-        }
-    }
-    rest.is_empty()
+    word.len() == text.len() && are_all_same(word, text)
 }

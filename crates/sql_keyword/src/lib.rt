@@ -3,21 +3,20 @@
 #![tactic(auto)]
 
 mod case;
-mod numbers;
 mod slots;
 mod words;
 
-ghost use Rattle.std.specs.Prelude.{IsTrue, ◌≡◌, ◌<◌, ◌≤◌, ◌↔◌, length};
+ghost use Rattle.std.specs.Prelude.{IsTrue, ◌≡◌, ◌<◌, ◌≤◌, ◌+◌, ◌%◌, ◌↔◌, length};
 ghost use Rattle.std.specs.Str.{str_eq_ignore_ascii_case};
 ghost use Rattle.sql_keyword.specs.Texts.{text};
 ghost use Rattle.sql_keyword.specs.declared.words.Keyword.{Keyword};
-ghost use Rattle.sql_keyword.specs.Slots.{slot, start_of, length_of, number_of, text_at, text_in, keyword_of};
+ghost use Rattle.sql_keyword.specs.Letters.{AreCapitals};
+ghost use Rattle.sql_keyword.specs.Slots.{slot, start_of, length_of, text_at, text_in, keyword_in, keyword_of};
 
-use case::{is_same_word, lower};
-use numbers::of_number;
+use case::is_same_word;
 use slots::{
-    BEFORE_LAST_WEIGHT, LAST_WEIGHT, LENGTH_WEIGHT, LENGTHS, MIDDLE_WEIGHT, NUMBERS, SECOND_WEIGHT,
-    SHIFTS, SLOT_COUNT, STARTS, TEXTS,
+    BEFORE_LAST_WEIGHT, KEYWORDS, LAST_WEIGHT, LENGTH_WEIGHT, LENGTHS, SECOND_WEIGHT, SHIFTS,
+    SLOT_COUNT, STARTS, TEXTS,
 };
 pub use words::{Keyword, same_keyword};
 
@@ -27,6 +26,13 @@ const SHORTEST: usize = 2;
 /// The longest keyword has so many letters.
 const LONGEST: usize = 15;
 
+/// The place of a letter in the alphabet, counted from 1, in either case.
+fn place(letter: u8) -> usize
+    ensures { result ≡ letter % 32 }
+{
+    letter as usize % 32
+}
+
 /// The slot of the one keyword that these bytes may be.
 #[tactic(auto, unfolding(crate::specs::Slots::slot))]
 fn slot_of(bytes: &[u8]) -> usize
@@ -35,15 +41,13 @@ fn slot_of(bytes: &[u8]) -> usize
     ensures within { result < SLOT_COUNT }
 {
     let len = bytes.len();
-    let first = lower(bytes[0]) as usize;
-    let second = lower(bytes[1]) as usize;
-    let middle = lower(bytes[len / 2]) as usize;
-    let before_last = lower(bytes[len - 2]) as usize;
-    let last = lower(bytes[len - 1]) as usize;
-    (SHIFTS[first % 32] as usize
+    let first = place(bytes[0]);
+    let second = place(bytes[1]);
+    let before_last = place(bytes[len - 2]);
+    let last = place(bytes[len - 1]);
+    (SHIFTS[first] as usize
         + LENGTH_WEIGHT * len
         + SECOND_WEIGHT * second
-        + MIDDLE_WEIGHT * middle
         + BEFORE_LAST_WEIGHT * before_last
         + LAST_WEIGHT * last)
         % SLOT_COUNT
@@ -58,7 +62,7 @@ fn start_of(slot: usize) -> u16
     STARTS[slot]
 }
 
-/// How many letters it has.
+/// How many letters it has, or 0 where no keyword has the slot.
 #[tactic(auto, unfolding(crate::specs::Slots::length_of))]
 fn length_of(slot: usize) -> u8
     requires { slot < SLOT_COUNT }
@@ -67,33 +71,31 @@ fn length_of(slot: usize) -> u8
     LENGTHS[slot]
 }
 
-/// Its number, or 0.
-#[tactic(auto, unfolding(crate::specs::Slots::number_of))]
-fn number_of(slot: usize) -> u8
-    requires { slot < SLOT_COUNT }
-    ensures { result ≡ number_of slot }
-{
-    NUMBERS[slot]
-}
-
+/// So many letters of the texts.
 #[tactic(auto, unfolding(crate::specs::Slots::text_at))]
 fn text_at(start: usize, len: usize) -> &'static [u8]
-    requires { (start < 65536) × (len < 256) }
+    requires { start + len ≤ length TEXTS.now }
     ensures { result.now ≡ text_at start len }
 {
-    if start + len <= TEXTS.len() {
-        &TEXTS[start..start + len]
-    } else {
-        &[]
-    }
+    &TEXTS[start..start + len]
 }
 
 /// The text of a slot's keyword.
 fn text_in(slot: usize) -> &'static [u8]
     requires { slot < SLOT_COUNT }
-    ensures { result.now ≡ text_in slot }
+    ensures text { result.now ≡ text_in slot }
+    ensures capitals { AreCapitals result.now }
 {
     text_at(start_of(slot) as usize, length_of(slot) as usize)
+}
+
+/// The keyword of a slot.
+#[tactic(auto, unfolding(crate::specs::Slots::keyword_in))]
+fn keyword_in(slot: usize) -> Option<Keyword>
+    requires { slot < SLOT_COUNT }
+    ensures { result ≡ keyword_in slot }
+{
+    KEYWORDS[slot]
 }
 
 #[tactic(auto, unfolding(crate::specs::Slots::keyword_of))]
@@ -105,7 +107,7 @@ fn look_up(bytes: &[u8]) -> Option<Keyword>
     }
     let slot = slot_of(bytes);
     if is_same_word(bytes, text_in(slot)) {
-        of_number(number_of(slot))
+        keyword_in(slot)
     } else {
         None
     }

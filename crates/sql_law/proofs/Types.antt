@@ -1,5 +1,5 @@
 -- Column types under other numbers.
-use Rattle.std.proofs.Common.{◌≡◌, ℕ, ◌+◌, ◌==◌, Bool, if◌then◌else◌, List, [], ◌∷◌, map, take, drop, refl, Option, Some, None}
+use Rattle.std.proofs.Common.{◌≡◌, ℕ, ◌+◌, ◌==◌, Bool, if◌then◌else◌, List, [], ◌∷◌, map, take, drop, not, refl, ap, Option, Some, None}
 use Rattle.std.specs.Option.{option_map, option_and_then}
 use Rattle.std.proofs.lemmas.List.{length-map, take-map, drop-map}
 use Rattle.sql_keyword.specs.declared.words.Keyword.{Keyword}
@@ -13,13 +13,14 @@ use Rattle.sql_token.specs.Depth.{one_if, span_of}
 use Rattle.sql_tree.specs.declared.nodes.TyKind.{TyKind}
 use Rattle.sql_tree.specs.declared.nodes.TyKind.TheVariants as ty
 use Rattle.sql_tree.specs.Groups.{path_first}
+use Rattle.sql_tree.specs.Split.{before}
 use Rattle.sql_tree.specs.ColumnMarks.{type_end, value_end}
-use Rattle.sql_tree.specs.ColumnType.{type_len, plain_of, arguments, with_arguments, behind_varying, character_kind, character_type, double_type, is_time_zone, zone, list_len, maybe_span, time_type, word_type, symbol_type, path_type, plain_type, is_kept, kept_from, before_groups, array_of, array_by_groups, ends_with, has_word_array, array_by_word, column_type}
+use Rattle.sql_tree.specs.ColumnType.{type_len, plain_of, arguments, with_arguments, behind_varying, character_kind, character_type, double_type, is_time_zone, zone, list_len, maybe_span, time_type, word_type, symbol_type, path_type, plain_type, no_group, only_groups, before_groups, array_of, array_by_groups, ends_with, has_word_array, array_by_word, column_type}
 use Rattle.sql_law.specs.Moved.{span_moved, type_moved}
 use Rattle.sql_law.specs.Renumber.{renumber, IsBlind}
 use Rattle.sql_law.specs.Trees.{TypeLenRenumbers, TypeRenumbers}
 use Rattle.sql_law.proofs.Basics.{moves, bind_moved, either_moved, HasEnds, ends}
-use Rattle.sql_law.proofs.Marks.{begins_sees, begins_list_sees, closing_renumbers, before_renumbers}
+use Rattle.sql_law.proofs.Marks.{begins_sees, begins_list_sees, closing_renumbers, before_renumbers, has_moved}
 use Rattle.sql_law.proofs.Groups.{is_list_sees, path_first_moved}
 
 -- ---- where a type ends
@@ -134,15 +135,17 @@ plain_type_moved f (t ∷ ts) =
 
 -- ---- arrays
 
-kept_from_sees : (f : ℕ → ℕ) (kept n o c : ℕ) (ts : List Terminal) → kept_from kept n o c (map (renumber f) ts) ≡ kept_from kept n o c ts
-unfolding is_opener is_closer
-kept_from_sees f kept n o c [] = refl
-kept_from_sees f kept n o c (t ∷ ts) =
-    kept_from_sees f (if is_kept (o == c) kept n t then n + 1 else kept) (n + 1) (o + one_if (is_opener t)) (c + one_if (is_closer t)) ts
+pub no_group_is_blind : IsBlind no_group
+unfolding no_group
+no_group_is_blind f earlier t after = refl
+
+pub only_groups_is_blind : IsBlind only_groups
+unfolding only_groups
+only_groups_is_blind f earlier t after = ap not (has_moved no_group no_group_is_blind f (t ∷ after))
 
 before_groups_sees : (f : ℕ → ℕ) (ts : List Terminal) → before_groups (map (renumber f) ts) ≡ before_groups ts
 unfolding before_groups
-before_groups_sees f ts = kept_from_sees f 0 0 0 0 ts
+before_groups_sees f ts = before_renumbers only_groups only_groups_is_blind f ts
 
 array_of_moved : (f : ℕ → ℕ) (ts inner : List Terminal) → HasEnds f ts →
     array_of (map (renumber f) ts) (map (renumber f) inner) ≡ option_map (type_moved f) (array_of ts inner)
@@ -167,7 +170,7 @@ unfolding array_by_word
 array_by_word_moved f ts e = simp (before_groups_sees, take-map, drop-map, length-map, ends_with_sees, closing_renumbers, array_of_moved, moves)
 
 no_type : column_type [] ≡ None
-unfolding column_type array_by_word array_by_groups array_of plain_type before_groups ends_with
+unfolding column_type array_by_word array_by_groups array_of plain_type before_groups before ends_with
 no_type = refl
 
 some_type : (f : ℕ → ℕ) (ts : List Terminal) → HasEnds f ts →

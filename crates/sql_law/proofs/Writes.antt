@@ -12,7 +12,7 @@ use Rattle.sql_tree.specs.declared.nodes.Target.{Target}
 use Rattle.sql_tree.specs.Forms.{behind_word, behind_words}
 use Rattle.sql_tree.specs.Groups.{inside_list}
 use Rattle.sql_tree.specs.Split.{Test, comma, word, equals, do_update_set, then_update_set, then_insert, clause_end, merge_clause_end, target_list_end, until, from_mark, behind_list, split}
-use Rattle.sql_tree.specs.Write.{are_accessors, target, targets_between, assigned, list_targets, set_part_of, set_part, set_clause, others, set_clauses, update_clause, sets_of, begins_query, column_list, behind_name, behind_alias, insert_lists, lists_of, table_write, name_behind_as, alias_name, path_name, name_or, query_target, left_or, behind_distinct, targets, column_name, view_columns, targets_of_select, view_targets, named_or, view_definition}
+use Rattle.sql_tree.specs.Write.{is_behind_dot, begins_name, no_accessor, target, targets_between, assigned, list_targets, set_part_of, set_part, set_clause, others, set_clauses, update_clause, sets_of, begins_query, column_list, behind_name, behind_alias, insert_lists, lists_of, table_write, name_behind_as, alias_name, path_name, name_or, query_target, left_or, behind_distinct, targets, column_name, view_columns, targets_of_select, view_targets, named_or, view_definition}
 use Rattle.sql_law.specs.Moved.{target_moved, set_part_moved}
 use Rattle.sql_law.specs.Renumber.{renumber, IsBlind}
 use Rattle.sql_law.specs.Trees.{TargetsRenumber, ViewRenumbers, WriteRenumbers}
@@ -22,16 +22,22 @@ use Rattle.sql_law.proofs.Groups.{is_list_sees, inside_list_moved, names_end_mov
 
 -- ---- names with accessors
 
-accessors_see : (f : ℕ → ℕ) (earlier : Terminal) (o c : ℕ) (ts : List Terminal) →
-    are_accessors (renumber f earlier) o c (map (renumber f) ts) ≡ are_accessors earlier o c ts
-unfolding is_name is_dot is_opener is_closer
-accessors_see f earlier o c [] = refl
-accessors_see f earlier o c (t ∷ ts) = rw (accessors_see f t (o + one_if (is_opener t)) (c + one_if (is_closer t)) ts) refl
+behind_dot_sees : (f : ℕ → ℕ) (earlier : Option Terminal) → is_behind_dot (option_map (renumber f) earlier) ≡ is_behind_dot earlier
+behind_dot_sees f None = refl
+behind_dot_sees f (Some earlier) = simp moves
+
+begins_name_sees : (f : ℕ → ℕ) (ts : List Terminal) → begins_name (map (renumber f) ts) ≡ begins_name ts
+begins_name_sees f [] = refl
+begins_name_sees f (t ∷ ts) = simp moves
+
+pub no_accessor_is_blind : IsBlind no_accessor
+unfolding no_accessor
+no_accessor_is_blind f earlier t after = simp (moves, behind_dot_sees, begins_name_sees)
 
 target_of_moved : (f : ℕ → ℕ) (ts : List Terminal) → target (map (renumber f) ts) ≡ option_map (target_moved f) (target ts)
 unfolding target
 target_of_moved f [] = refl
-target_of_moved f (t ∷ ts) = simp (accessors_see f t 0 0 ts, length-map ts (renumber f), moves)
+target_of_moved f (t ∷ ts) = simp (before_renumbers no_accessor no_accessor_is_blind f ts, length-map ts (renumber f), moves)
 
 targets_between_moved : (f : ℕ → ℕ) (ts : List Terminal) →
     targets_between (map (renumber f) ts) ≡ map (target_moved f) (targets_between ts)

@@ -4,6 +4,8 @@ ghost use Rattle.sql_tree.specs.declared.kinds.ActionKind.{ActionKind};
 ghost use Rattle.sql_tree.specs.declared.kinds.PieceKind.{PieceKind};
 ghost use Rattle.sql_tree.specs.Split as marks;
 ghost use Rattle.sql_tree.specs.ColumnMarks as column_marks;
+ghost use Rattle.sql_tree.specs.ColumnType as types;
+ghost use Rattle.sql_tree.specs.Write as writes;
 ghost use Rattle.sql_tree.specs.ActionPieces as piece_marks;
 ghost use Rattle.sql_law.specs.Renumber.{IsBlind, WordIsBlind, BeforeRenumbers, SplitRenumbers, ClosingRenumbers, PartRenumbers, PartsRenumber, FrontRenumbers, WholeRenumbers};
 ghost use Rattle.sql_law.specs.Trees.{ExpressionRenumbers, TypeLenRenumbers, TypeRenumbers, ConstraintRenumbers, ColumnRenumbers, ElementsRenumber, DropRenumbers, DomainRenumbers, ActionRenumbers, PiecesRenumber, ActionsRenumber, TargetsRenumber, ViewRenumbers, WriteRenumbers, SoundRenumbers, FormRenumbers, StatementRenumbers};
@@ -30,6 +32,9 @@ pub fn piece_marks_renumber()
     ensures type_end { IsBlind column_marks.type_end }
     ensures value_end { IsBlind column_marks.value_end }
     ensures constraint_start { IsBlind column_marks.constraint_start }
+    ensures no_group { IsBlind types.no_group }
+    ensures only_groups { IsBlind types.only_groups }
+    ensures no_accessor { IsBlind writes.no_accessor }
     ensures sequence_option { IsBlind piece_marks.sequence_option }
     ensures identity_option { IsBlind piece_marks.identity_option }
     ensures policy_part { IsBlind piece_marks.policy_part }

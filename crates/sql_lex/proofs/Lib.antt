@@ -1,5 +1,6 @@
 pub mod Answer
 pub mod Bits
+pub mod Firsts
 pub mod Insides
 pub mod Plain
 pub mod SignLaws

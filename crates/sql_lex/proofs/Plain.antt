@@ -30,6 +30,9 @@ from_one false z q = refl
 here_kind : (t : Text) (i : ℕ) (k : TokKind) {z : Text} → z ≡ drop i t → k ≡ kind_of (i == 0) z → k ≡ kind_of (i == 0) (drop i t)
 here_kind t i k rest kind = kind ∙ ap (λ (x : Text). kind_of (i == 0) x) rest
 
+blank_kind : (s : Bool) (z : Text) → is_blank (get_or z 0 0) ≡ true → Blank ≡ kind_of s z
+blank_kind s z h = rw h refl
+
 pub word_at : (t : Text) (i j : ℕ) {z : Text} → z ≡ drop i t → Word ≡ kind_of (i == 0) z → IsRun Word t (i + 1) j → At t i Word j
 word_at t i j rest kind r = record {
   before = omega (arith, r.begun);
@@ -55,3 +58,9 @@ punct_at t i rest kind within = record {
   kind = here_kind t i Punct rest kind;
   takes = omega arith;
 }
+
+-- white space begins here
+pub blank_here : (t : Text) (i j : ℕ) → is_blank (get_or t i 0) ≡ true → IsRun Blank t (i + 1) j → At t i Blank j
+blank_here t i j blank r =
+    let here : is_blank (get_or (drop i t) 0 0) ≡ true = ap is_blank (drop_at t i 0 i (omega arith)) ∙ blank in
+    blank_at t i j refl (blank_kind (i == 0) (drop i t) here) here r

@@ -1,5 +1,5 @@
 -- Behind an operator that lost its trailing signs each of them is an operator.
-use Rattle.std.proofs.Common.{◌≡◌, ℕ, zero, suc, ◌+◌, ◌-◌, ◌<◌, ◌≤◌, max, Bool, true, false, not, ◌&&◌, ◌||◌, ◌==◌, if◌then◌else◌, length, take, drop, get_or, length-drop, refl, sym, ap, ◌∙◌, subst, arith, ◌⊎◌, inl, inr, add-one}
+use Rattle.std.proofs.Common.{◌≡◌, ℕ, zero, suc, ◌+◌, ◌-◌, ◌<◌, ◌≤◌, max, Bool, true, false, not, ◌&&◌, ◌||◌, ◌==◌, if◌then◌else◌, List, [], ◌∷◌, length, take, drop, get_or, length-drop, refl, sym, ap, ◌∙◌, subst, arith, ◌⊎◌, inl, inr, add-one}
 use Rattle.std.proofs.lemmas.Bool.{cases_eq, false≢true}
 use Rattle.std.proofs.lemmas.Bool.Decides.{nat_tests}
 use Rattle.std.proofs.lemmas.List.{get_or-drop, get_or-take, length-take-le}
@@ -8,11 +8,12 @@ use Rattle.std.proofs.lemmas.List.Sums.{suffix_len-take_no, suffix_len-take_yes,
 use Rattle.std.proofs.Math.Seq.{take-length}
 use Rattle.std.specs.Char.{is_ascii_digit}
 use Rattle.std.specs.List.{suffix_len, list_any}
+use Rattle.sql_token.specs.declared.token.Tok.{Tok}
 use Rattle.sql_token.specs.declared.token.TokKind.{TokKind}
 use Rattle.sql_token.specs.declared.token.TokKind.TheVariants.{Blank, LineComment, BlockComment, Word, Quoted, Str, UName, Dollar, Param, Number, Op, Punct, Other}
 use Rattle.sql_token.specs.Quote.{mark_len}
 use Rattle.sql_token.specs.Comment.{opens}
-use Rattle.sql_token.specs.Token.{Text, is_blank, is_special, is_sign, is_op, is_punct, is_prefix, begins_word, begins_blank, begins_line, begins_comment, runs_over, op_len, IsOp, At, Takes, kind_of}
+use Rattle.sql_token.specs.Token.{Text, is_blank, is_special, is_sign, is_op, is_punct, is_prefix, begins_word, begins_blank, begins_line, begins_comment, runs_over, op_len, IsOp, At, Leads, Takes, kind_of}
 use Rattle.sql_token.proofs.TokenLaws.{at_place}
 use Rattle.sql_lex.specs.Signs.{begins_sign, Signs, SignsFrom}
 
@@ -83,6 +84,14 @@ behind t i j before within p =
 -- what stands behind an operator
 pub signs_behind : (t : Text) (i j : ℕ) (k : TokKind) → k ≡ Op → At t i k j → SignsFrom t j
 signs_behind t i j k is here = behind t i j here.before here.within (subst (λ (x : TokKind). Takes (i == 0) x (drop i t) (j - i)) is here.takes)
+
+-- what stands behind tokens the last of which is an operator
+pub behind_tokens : (t : Text) (i j : ℕ) (ks : List Tok) (n : ℕ) (k : Tok) → Leads t i ks j → length ks ≡ n + 1 → (get_or ks n k).kind ≡ Op → (0 < j) × SignsFrom t j
+behind_tokens t i j [] n k lead size is = absurd (omega arith)
+behind_tokens t i j (x ∷ []) zero k lead size is = subst (λ (m : ℕ). (0 < m) × SignsFrom t m) lead.2 (omega (arith, lead.1.before), signs_behind t i x.end x.kind is lead.1)
+behind_tokens t i j (x ∷ []) (suc n) k lead size is = absurd (omega arith)
+behind_tokens t i j (x ∷ y ∷ ks) zero k lead size is = absurd (omega arith)
+behind_tokens t i j (x ∷ y ∷ ks) (suc n) k lead size is = behind_tokens t x.end j (y ∷ ks) n k lead.2 (omega arith) is
 
 sign_not_special : (b : ℕ) → is_sign b ≡ true → is_special b ≡ false
 sign_not_special b h = grind (arith, nat_tests)

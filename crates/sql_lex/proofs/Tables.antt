@@ -32,13 +32,20 @@ has_flag table flag b = not (nat_eq (bit_and (get_or table b 0) flag) 0)
 pub from_flags : (table : List ℕ) (flag : ℕ) (test : ℕ → Bool) (b : ℕ) → b < 256 → all_below (λ x. beq (has_flag table flag x) (test x)) 256 ≡ true → has_flag table flag b ≡ test b
 from_flags table flag test b lt h = beq_same _ _ (at_below (λ x. beq (has_flag table flag x) (test x)) 256 h b lt)
 
--- the tests that a class tells, where the table has that class
-abbrev pub told : List ℕ → ℕ → (ℕ → Bool) → ℕ → Bool
-told table class test b = if get_or table b 0 == class then test b else true
-
 told_true : (c test : Bool) → c ≡ true → (if c then test else true) ≡ true → test ≡ true
 told_true true test e h = h
 told_true false test e h = cc
+
+-- a test that a flag tells, where it is set
+abbrev pub told_by_flag : List ℕ → ℕ → (ℕ → Bool) → ℕ → Bool
+told_by_flag table flag test b = if has_flag table flag b then test b else true
+
+pub from_flag : (table : List ℕ) (flag : ℕ) (test : ℕ → Bool) (b : ℕ) → b < 256 → all_below (told_by_flag table flag test) 256 ≡ true → has_flag table flag b ≡ true → test b ≡ true
+from_flag table flag test b lt h is = told_true (has_flag table flag b) (test b) is (at_below (told_by_flag table flag test) 256 h b lt)
+
+-- the tests that a class tells, where the table has that class
+abbrev pub told : List ℕ → ℕ → (ℕ → Bool) → ℕ → Bool
+told table class test b = if get_or table b 0 == class then test b else true
 
 pub from_class : (table : List ℕ) (class : ℕ) (test : ℕ → Bool) (b : ℕ) → b < 256 → all_below (told table class test) 256 ≡ true → get_or table b 0 ≡ class → test b ≡ true
 from_class table class test b lt h is = told_true (get_or table b 0 == class) (test b) (grind (arith, nat_tests)) (at_below (told table class test) 256 h b lt)

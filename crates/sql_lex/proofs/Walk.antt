@@ -2,7 +2,7 @@
 use Rattle.std.proofs.Common.{◌≡◌, ℕ, zero, suc, ◌+◌, ◌^◌, ◌<◌, ◌≤◌, List, [], ◌∷◌, ◌++◌, length, drop, get_or, refl, sym, ap, ◌∙◌, arith, ◌==◌, true, false, ◌&&◌, Bool, not, if◌then◌else◌, Option, Some, None}
 use Rattle.std.specs.Prelude.{slice_index}
 use Rattle.std.proofs.lemmas.Bool.Decides.{nat_tests}
-use Rattle.std.proofs.lemmas.List.{drop_all, drop_more}
+use Rattle.std.proofs.lemmas.List.{drop_all, drop_more, get_or_default}
 use Rattle.sql_token.specs.declared.token.Tok.{Tok}
 use Rattle.sql_token.specs.declared.terminal.Terminal.{Terminal}
 use Rattle.sql_token.specs.Token.{Text, Leads, Lexed, text_of}
@@ -14,12 +14,7 @@ use Rattle.sql_keyword.specs.declared.words.Keyword.{Keyword}
 use Rattle.sql_keyword.specs.Slots.{keyword_of}
 use Rattle.sql_token.specs.Terminal.{is_significant, symbol_of, word_symbol, terminals_from, is_opener, is_closer, is_semicolon, is_opener_symbol, is_closer_symbol, is_semicolon_symbol}
 use Rattle.sql_token.specs.Depth.{onto, one_if, statements_from}
-use Rattle.sql_lex.specs.Cursor.{GoesOn, LieIn, IsWalk, Steps, IsNext}
-
--- these terminals before the first of these lists
-abbrev pub onto_all : List Terminal → List (List Terminal) → List (List Terminal)
-onto_all [] lists = lists
-onto_all (t ∷ ts) lists = onto t (onto_all ts lists)
+use Rattle.sql_lex.specs.Cursor.{GoesOn, LieIn, IsWalk, Steps, IsNext, onto_all}
 
 full : (buffer : List Terminal) (t : Terminal) (all others : List (List Terminal)) → all ≡ (buffer ++ t ∷ []) ∷ others → IsNext (buffer ++ t ∷ []) all others
 full [] t all others e = e
@@ -67,6 +62,12 @@ after_blank t ks n k h blank = rw (drop_more ks n k h, blank) refl
 pub after_some : (t : Text) (ks : List Tok) (n : ℕ) (k : Tok) → n < length ks → is_significant (get_or ks n k).kind ≡ true
     → terminals_after t ks n ≡ record { symbol = symbol_of (get_or ks n k).kind (text_of t (get_or ks n k)); number = n } ∷ terminals_after t ks (n + 1)
 after_some t ks n k h some = rw (drop_more ks n k h, some) refl
+
+-- a token that is neither white space nor a word
+pub stops_at : (ks : List Tok) (n : ℕ) (d : Tok) → is_significant (get_or ks n d).kind ≡ true → ((get_or ks n d).kind ≡ Word → ⊥) → (k : Tok) → n < length ks → (is_significant (get_or ks n k).kind ≡ true) × ((get_or ks n k).kind ≡ Word → ⊥)
+stops_at ks n d some other k h =
+    let same : get_or ks n k ≡ get_or ks n d = get_or_default ks n k d h in
+    (ap (λ (t : Tok). is_significant t.kind) same ∙ some, λ w. other (ap (λ (t : Tok). t.kind) (sym same) ∙ w))
 
 -- the terminal goes on with a statement
 pub goes_on : (buffer : List Terminal) (o c : ℕ) (t : Terminal) (ts from : List Terminal) (all : List (List Terminal)) → from ≡ t ∷ ts → (o == c && is_semicolon t) ≡ false → onto_all buffer (statements_from o c from) ≡ all

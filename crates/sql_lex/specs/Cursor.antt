@@ -1,10 +1,11 @@
 -- The walk over the statements of a text.
-use Rattle.std.specs.Prelude.{◌≡◌, ◌≤◌, ◌<◌, ◌^◌, ℕ, Bool, true, false, List, [], ◌∷◌, length, drop}
+use Rattle.std.specs.Prelude.{◌≡◌, ◌≤◌, ◌<◌, ◌^◌, ℕ, Bool, true, false, List, [], ◌∷◌, length, drop, slice_index_or}
 use Rattle.sql_token.specs.declared.token.Tok.{Tok}
+use Rattle.sql_token.specs.declared.token.TokKind.TheVariants.{Word}
 use Rattle.sql_token.specs.declared.terminal.Terminal.{Terminal}
 use Rattle.sql_token.specs.Token.{Text}
-use Rattle.sql_token.specs.Terminal.{terminals_from, is_opener, is_closer, is_semicolon}
-use Rattle.sql_token.specs.Depth.{statements_from}
+use Rattle.sql_token.specs.Terminal.{terminals_from, is_opener, is_closer, is_semicolon, is_significant}
+use Rattle.sql_token.specs.Depth.{onto, statements_from}
 
 -- These tokens lie in a text of so many bytes.
 abbrev pub LieIn : ℕ → List Tok → Type 0
@@ -36,6 +37,19 @@ IsNext (t ∷ ts) old new = old ≡ (t ∷ ts) ∷ new
 pub record IsFirst (t : Text) (toks : List Tok) (n : ℕ) (statement : List Terminal) (m : ℕ) : Type 0 where
   pub within : m ≤ length toks
   pub step : IsNext statement (statements_after t toks n) (statements_after t toks m)
+
+-- these terminals before the first of these lists
+abbrev pub onto_all : List Terminal → List (List Terminal) → List (List Terminal)
+onto_all [] lists = lists
+onto_all (t ∷ ts) lists = onto t (onto_all ts lists)
+
+-- From the token with the number n to before that with the number m stand words and white space, and the one with the
+-- number m is neither. With their terminals behind those before, what is left gives the same statements.
+pub record GoesOver (t : Text) (toks : List Tok) (before : List Terminal) (n : ℕ) (after : List Terminal) (m : ℕ) : Type 0 where
+  pub begun : n ≤ m
+  pub within : m ≤ length toks
+  pub same : (o c : ℕ) → onto_all after (statements_from o c (terminals_from t m (drop m toks))) ≡ onto_all before (statements_from o c (terminals_from t n (drop n toks)))
+  pub stops : (k : Tok) → m < length toks → (is_significant (slice_index_or toks m k).kind ≡ true) × ((slice_index_or toks m k).kind ≡ Word → ⊥)
 
 -- neither a bracket nor `;`
 pub record GoesOn (t : Terminal) : Type 0 where

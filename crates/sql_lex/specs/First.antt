@@ -32,6 +32,18 @@ pub record IsSign (b : ℕ) : Type 0 where
   pub number : IsNoDigit b
   pub word : begins_word b ≡ false
 
+-- a word begins with b, and no other token
+pub record LeadsWord (b : ℕ) : Type 0 where
+  pub other : IsNoPrefix b
+  pub number : IsNoDigit b
+  pub word : begins_word b ≡ true
+
+-- a mark begins with b, and no other token
+pub record LeadsPunct (b : ℕ) : Type 0 where
+  pub sign : IsSign b
+  pub operator : is_op b ≡ false
+  pub mark : is_punct b ≡ true
+
 -- what the class of a byte tells of it
 pub record Tells (class b : ℕ) : Type 0 where
   pub blank : class ≡ BLANK_FIRST → is_blank b ≡ true

@@ -6,4 +6,5 @@ pub mod First
 pub mod Inside
 pub mod Signs
 pub mod Stack
+pub mod Stop
 pub mod View

@@ -1,7 +1,8 @@
 -- Signs that an operator lost: they stand behind it, each one a token.
-use Rattle.std.specs.Prelude.{◌≡◌, ◌≤◌, ◌<◌, ℕ, Bool, true, false, not, ◌&&◌, length, slice_index}
+use Rattle.std.specs.Prelude.{◌≡◌, ◌≤◌, ◌<◌, ℕ, Bool, true, false, not, ◌&&◌, List, length, slice_index}
+use Rattle.sql_token.specs.declared.token.Tok.{Tok}
 use Rattle.sql_token.specs.declared.token.TokKind.TheVariants.{Op}
-use Rattle.sql_token.specs.Token.{Text, is_sign, begins_comment, runs_over}
+use Rattle.sql_token.specs.Token.{Text, Leads, is_sign, begins_comment, runs_over}
 
 -- a sign that begins no comment
 abbrev pub begins_sign : Text → Bool
@@ -17,3 +18,7 @@ pub record Signs (t : Text) (i e : ℕ) : Type 0 where
 
 abbrev pub SignsFrom : Text → ℕ → Type 0
 SignsFrom t i = (e : ℕ) × Signs t i e
+
+-- Signs that an operator lost may stand behind these tokens, wherever they lead to.
+abbrev pub LeadsToSigns : List Tok → Type 0
+LeadsToSigns ks = (t : Text) (j : ℕ) → Leads t 0 ks j → (0 < j) × SignsFrom t j

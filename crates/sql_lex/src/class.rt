@@ -1,8 +1,8 @@
 //! Bytes of a text, and their classes.
 
-ghost use Rattle.std.specs.Prelude.{◌≡◌, ◌≢◌, ◌<◌, length, slice_index};
+ghost use Rattle.std.specs.Prelude.{◌≡◌, ◌≢◌, ◌<◌, ◌||◌, length, slice_index, true};
 ghost use Rattle.sql_token.specs.Token as spec;
-ghost use Rattle.sql_lex.specs.First.{Tells};
+ghost use Rattle.sql_lex.specs.First.{LeadsPunct, LeadsWord, Tells};
 
 const WORD: u8 = 1;
 
@@ -12,16 +12,20 @@ const OPERATOR: u8 = 4;
 
 const BLANK: u8 = 8;
 
-// For each byte a digit, whose low four bits are the flags above.
+const LEADS_PUNCT: u8 = 16;
+
+const LEADS_WORD: u8 = 32;
+
+// For each byte a letter, whose low six bits are the flags above.
 static RUNS: [u8; 256] = *b"\
-    00000000088888000000000000000000\
-    84041440004404243333333333004444\
-    43333333333333333333333333300043\
-    43333333333333333333333333304040\
-    11111111111111111111111111111111\
-    11111111111111111111111111111111\
-    11111111111111111111111111111111\
-    11111111111111111111111111111111";
+    @@@@@@@@@HHHHH@@@@@@@@@@@@@@@@@@\
+    HD@DADD@PPDDPDBDCCCCCCCCCCPPDDDD\
+    DcCccCccccccccCccccccCccCccP@PDc\
+    DcCccCccccccccCccccccCccCcc@D@D@\
+    aaaaaaaaaaaaaaaaaaaaaaaaaaaaaaaa\
+    aaaaaaaaaaaaaaaaaaaaaaaaaaaaaaaa\
+    aaaaaaaaaaaaaaaaaaaaaaaaaaaaaaaa\
+    aaaaaaaaaaaaaaaAaaaaaaaaaaaaaaaa";
 
 /// White space.
 pub const BLANK_FIRST: u8 = b'_';
@@ -99,10 +103,35 @@ pub fn is_in_number(b: u8) -> bool
     RUNS[b as usize] & NUMBER != 0
 }
 
+/// Whether a token that begins with this byte is a word whatever follows. Of a letter that may be the prefix of a
+/// string constant this is not told.
+#[inline]
+pub fn leads_word(b: u8) -> bool
+    ensures { result ≡ true → LeadsWord b }
+{
+    RUNS[b as usize] & LEADS_WORD != 0
+}
+
+/// Whether this is a mark that begins no number.
+#[inline]
+pub fn leads_punct(b: u8) -> bool
+    ensures { result ≡ true → LeadsPunct b }
+{
+    RUNS[b as usize] & LEADS_PUNCT != 0
+}
+
 /// Whether this is a byte of an operator.
 #[inline]
 pub fn is_op(b: u8) -> bool
     ensures { result ≡ spec.is_op b }
 {
     RUNS[b as usize] & OPERATOR != 0
+}
+
+/// Whether a word or white space goes on over this byte.
+#[inline]
+pub fn is_in_run(b: u8) -> bool
+    ensures { result ≡ (spec.is_word b || spec.is_blank b) }
+{
+    RUNS[b as usize] & (WORD | BLANK) != 0
 }

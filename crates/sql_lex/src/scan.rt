@@ -8,7 +8,7 @@ ghost use Rattle.sql_lex.specs.First.{IsPlain, IsNoDigit};
 
 use crate::class::{
     BLANK_FIRST, DIGIT_FIRST, DOUBLE_FIRST, LETTER_FIRST, OPERATOR_FIRST, PUNCT_FIRST, QUOTE_FIRST,
-    WORD_FIRST, byte, first_class, is_blank, is_in_number, is_op, is_word,
+    WORD_FIRST, byte, first_class, is_blank, is_in_number, is_op, is_word, leads_punct, leads_word,
 };
 use crate::comment::{comment_len, opens};
 use crate::dollar::{begins_dollar, dollar_len};
@@ -87,6 +87,22 @@ pub fn run_end(kind: TokKind, z: &[u8], from: usize) -> usize
 {
     let mut end = from;
     while end < z.len() && runs_over(kind, z, end) {
+        end += 1;
+    }
+    end
+}
+
+/// The end of the longest run of this kind, where none goes on over the byte at `stop`.
+#[inline(always)]
+pub fn run_before(kind: TokKind, z: &[u8], from: usize, stop: usize) -> usize
+    requires some { 0 < from }
+    requires within { (from ≤ stop) × (stop < length z.now) }
+    requires stops { spec.runs_over kind z.now stop ≡ false }
+    ensures run { spec.IsRun kind z.now from result }
+    ensures within { (from ≤ result) × (result ≤ length z.now) }
+{
+    let mut end = from;
+    while runs_over(kind, z, end) {
         end += 1;
     }
     end
@@ -183,20 +199,28 @@ fn letter_kind(z: &[u8]) -> TokKind
     }
 }
 
-/// The kind of the token at the front, where it is white space, a word or a mark and its first byte tells so.
+/// Whether this is a letter that may be the prefix of a string constant.
+fn is_letter(b: u8) -> bool
+    ensures { result ≡ true → IsPlain b × IsNoDigit b × (spec.begins_word b ≡ true) }
+{
+    first_class(b) == LETTER_FIRST
+}
+
+/// The kind of the token at the front, where it is a word or a mark and its first bytes tell so.
 #[inline(always)]
 pub fn plain_kind(z: &[u8]) -> Option<TokKind>
     requires { 0 < length z.now }
-    ensures kind { IfSome result (λ k. (is_start : Bool) → k ≡ spec.kind_of is_start z.now) }
-    // A byte order mark is white space too, but here a blank stands in front.
-    ensures blank { IfSome result (λ k. k ≡ TokKind.Blank → spec.is_blank (slice_index z.now 0) ≡ true) }
+    ensures { IfSome result (λ k. (is_start : Bool) → k ≡ spec.kind_of is_start z.now) }
 {
-    match first_class(z[0]) {
-        BLANK_FIRST => Some(TokKind::Blank),
-        WORD_FIRST => Some(TokKind::Word),
-        LETTER_FIRST if !is_behind_prefix(byte(z, 1)) => Some(TokKind::Word),
-        PUNCT_FIRST => Some(TokKind::Punct),
-        _ => None,
+    let first = z[0];
+    if leads_word(first) {
+        Some(TokKind::Word)
+    } else if leads_punct(first) {
+        Some(TokKind::Punct)
+    } else if is_letter(first) && !is_behind_prefix(byte(z, 1)) {
+        Some(TokKind::Word)
+    } else {
+        None
     }
 }
 

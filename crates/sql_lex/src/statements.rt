@@ -1,13 +1,14 @@
 //! The statements of a text, one after another.
 
-ghost use Rattle.std.specs.Prelude.{◌≡◌, ◌<◌, ◌≤◌, ◌^◌, ◌==◌, ◌&&◌, [], length, IfOk, OnErr};
+ghost use Rattle.std.specs.Prelude.{◌≡◌, ◌≢◌, ◌<◌, ◌≤◌, ◌^◌, ◌==◌, ◌&&◌, ◌+◌, true, false, [], length, IfOk, OnErr, IfSome, IfNone};
 ghost use Rattle.sql_token.specs.Depth.{one_if, statements};
-ghost use Rattle.sql_token.specs.Terminal.{terminals, symbol_of, is_semicolon};
+ghost use Rattle.sql_token.specs.Terminal.{terminals, symbol_of, is_semicolon, is_opener, is_closer};
 ghost use Rattle.sql_token.specs.Token.{Lexed, text_of};
-ghost use Rattle.sql_lex.specs.Cursor.{IsWalk, Steps, IsFirst};
+ghost use Rattle.sql_token.specs.declared.token.TokKind.TheVariants.{Word, Punct};
+ghost use Rattle.sql_lex.specs.Cursor.{GoesOver, IsWalk, Steps, IsFirst};
 
-use crate::symbol::{is_mark, is_significant, symbol_of};
-use sql_token::{Span, Terminal, Tok};
+use crate::symbol::{is_punct, is_significant, is_word, mark_symbol, other_symbol, word_symbol};
+use sql_token::{Span, Symbol, Terminal, Tok};
 use std::alloc::Global;
 use std::marker::Model;
 use text_pos::NoMemory;
@@ -60,30 +61,107 @@ impl<'a> Statements<'a> {
     }
 }
 
+fn bytes_of(text: &[u8], tok: Tok) -> &[u8]
+    requires { (tok.start ≤ tok.end) × (tok.end ≤ length text.now) }
+    ensures { result.now ≡ text_of text.now tok }
+{
+    &text[tok.start as usize..tok.end as usize]
+}
+
+/// What the grammar sees of the word with this number.
+fn word_terminal(text: &[u8], tok: Tok, number: u32) -> Terminal
+    requires within { (tok.start ≤ tok.end) × (tok.end ≤ length text.now) }
+    requires word { tok.kind ≡ Word }
+    ensures { result ≡ record { symbol = symbol_of tok.kind (text_of text.now tok); number = number } }
+{
+    Terminal {
+        symbol: word_symbol(bytes_of(text, tok)),
+        number,
+    }
+}
+
+/// What the grammar sees of the mark with this number.
+fn mark_terminal(text: &[u8], tok: Tok, number: u32) -> Terminal
+    requires within { (tok.start ≤ tok.end) × (tok.end ≤ length text.now) }
+    requires mark { tok.kind ≡ Punct }
+    ensures { result ≡ record { symbol = symbol_of tok.kind (text_of text.now tok); number = number } }
+{
+    Terminal {
+        symbol: mark_symbol(bytes_of(text, tok)),
+        number,
+    }
+}
+
+/// What the grammar sees of the token with this number, which is neither a word nor a mark.
+fn other_terminal(text: &[u8], tok: Tok, number: u32) -> Terminal
+    requires within { (tok.start ≤ tok.end) × (tok.end ≤ length text.now) }
+    requires word { tok.kind ≢ Word }
+    requires mark { tok.kind ≢ Punct }
+    ensures { result ≡ record { symbol = symbol_of tok.kind (text_of text.now tok); number = number } }
+{
+    Terminal {
+        symbol: other_symbol(tok.kind, bytes_of(text, tok)),
+        number,
+    }
+}
+
 /// What the grammar sees of the token with this number.
 pub(crate) fn terminal_of(text: &[u8], tok: Tok, number: u32) -> Terminal
     requires { (tok.start ≤ tok.end) × (tok.end ≤ length text.now) }
     ensures { result ≡ record { symbol = symbol_of tok.kind (text_of text.now tok); number = number } }
 {
-    let bytes = &text[tok.start as usize..tok.end as usize];
-    Terminal {
-        symbol: symbol_of(tok.kind, bytes),
-        number,
+    if is_word(tok.kind) {
+        word_terminal(text, tok, number)
+    } else if is_punct(tok.kind) {
+        mark_terminal(text, tok, number)
+    } else {
+        other_terminal(text, tok, number)
     }
 }
 
-/// Whether a statement ends with this terminal, before which so many brackets opened and closed.
-fn ends_statement(opened: usize, closed: usize, terminal: Terminal) -> bool
-    ensures { result ≡ (opened == closed && is_semicolon terminal) }
+/// How many brackets opened and closed with this mark, or none where it ends the statement.
+#[tactic(auto, unfolding(sql_token::specs::Terminal::is_semicolon, sql_token::specs::Terminal::is_opener, sql_token::specs::Terminal::is_closer))]
+fn count_mark(opened: usize, closed: usize, mark: Terminal) -> Option<(usize, usize)>
+    requires few { (opened < 2 ^ 32) × (closed < 2 ^ 32) }
+    ensures on { IfSome result (λ n. (opened == closed && is_semicolon mark) ≡ false) }
+    ensures counts { IfSome result (λ n. (n.0 ≡ opened + one_if (is_opener mark)) × (n.1 ≡ closed + one_if (is_closer mark))) }
+    ensures small { IfSome result (λ n. (n.0 ≤ opened + 1) × (n.1 ≤ closed + 1)) }
+    ensures ends { IfNone result ((opened == closed && is_semicolon mark) ≡ true) }
 {
-    opened == closed && terminal.is_semicolon()
+    match mark.symbol {
+        Symbol::Semicolon if opened == closed => None,
+        Symbol::OpenRound | Symbol::OpenSquare => Some((opened + 1, closed)),
+        Symbol::CloseRound | Symbol::CloseSquare => Some((opened, closed + 1)),
+        _ => Some((opened, closed)),
+    }
 }
 
-fn one_if(test: bool) -> usize
-    ensures value { result ≡ one_if test }
-    ensures small { result ≤ 1 }
+/// Puts the terminals of the words from the token with this number on behind the others, over the white space between
+/// them, and gives the number of the next token that is neither.
+#[inline(always)]
+fn push_words(
+    text: &[u8],
+    toks: &[Tok],
+    first: usize,
+    statement: &mut Vec<Terminal>,
+) -> Result<usize, NoMemory>
+    requires { IsWalk (length text.now) toks.now first }
+    ensures { IfOk result (λ n. GoesOver text.now toks.now statement.old.items first statement.new.items n) }
 {
-    usize::from(test)
+    let mut number = first;
+    while number < toks.len() {
+        let tok = toks[number];
+        if is_word(tok.kind) {
+            statement.push(word_terminal(text, tok, number as u32))?;
+            number += 1;
+            continue;
+        }
+        if is_significant(tok.kind) {
+            return Ok(number);
+        }
+        number += 1;
+    }
+    Ok(number)
 }
 
 /// Puts the terminals of the statement that begins at the token with this number into the empty
@@ -101,23 +179,24 @@ fn take_first(
     let mut number = first;
     let mut opened = 0usize;
     let mut closed = 0usize;
-    while number < toks.len() {
+    'marks: loop {
+        number = push_words(text, toks, number, statement)?;
+        if number >= toks.len() {
+            return Ok(number);
+        }
         let tok = toks[number];
-        if !is_significant(tok.kind) {
+        if !is_punct(tok.kind) {
+            statement.push(other_terminal(text, tok, number as u32))?;
             number += 1;
             continue;
         }
-        let terminal = terminal_of(text, tok, number as u32);
+        let terminal = mark_terminal(text, tok, number as u32);
         number += 1;
-        statement.push(terminal)?;
-        if !is_mark(tok.kind) {
-            continue;
-        }
-        if ends_statement(opened, closed, terminal) {
+        let Some(counts) = count_mark(opened, closed, terminal) else {
+            statement.push(terminal)?;
             return Ok(number);
-        }
-        opened += one_if(terminal.is_opener());
-        closed += one_if(terminal.is_closer());
+        };
+        statement.push(terminal)?;
+        (opened, closed) = counts;
     }
-    Ok(number)
 }

@@ -1,6 +1,6 @@
 //! What a token is to the grammar.
 
-ghost use Rattle.std.specs.Prelude.{◌≡◌, ◌≢◌, false, slice_index};
+ghost use Rattle.std.specs.Prelude.{◌≡◌, ◌≢◌, true, false, slice_index};
 ghost use Rattle.sql_keyword.specs.Slots.{keyword_of};
 ghost use Rattle.sql_token.specs.Terminal as spec;
 
@@ -17,15 +17,26 @@ pub fn is_significant(kind: TokKind) -> bool
     )
 }
 
-/// Whether a token of this kind may be a bracket or `;`: a statement goes on over all others.
-pub fn is_mark(kind: TokKind) -> bool
-    ensures { result ≡ false → kind ≢ TokKind.Punct }
+/// Whether this is the kind of a word.
+pub fn is_word(kind: TokKind) -> bool
+    ensures word { result ≡ true → kind ≡ TokKind.Word }
+    ensures other { result ≡ false → kind ≢ TokKind.Word }
+{
+    matches!(kind, TokKind::Word)
+}
+
+/// Whether this is the kind of a mark.
+pub fn is_punct(kind: TokKind) -> bool
+    ensures mark { result ≡ true → kind ≡ TokKind.Punct }
+    ensures other { result ≡ false → kind ≢ TokKind.Punct }
 {
     matches!(kind, TokKind::Punct)
 }
 
-fn word_symbol(bytes: &[u8]) -> Symbol
-    ensures { result ≡ spec.word_symbol (keyword_of bytes.now) }
+/// What a word is to the grammar.
+#[tactic(auto, unfolding(sql_token::specs::Terminal::symbol_of))]
+pub fn word_symbol(bytes: &[u8]) -> Symbol
+    ensures { result ≡ spec.symbol_of TokKind.Word bytes.now }
 {
     match keyword_of(bytes) {
         Some(keyword) => Symbol::Keyword(keyword),
@@ -74,13 +85,22 @@ fn first_byte(bytes: &[u8]) -> u8
     if bytes.is_empty() { 0 } else { bytes[0] }
 }
 
-/// What a significant token with these bytes is to the grammar.
+/// What a mark is to the grammar.
 #[tactic(auto, unfolding(sql_token::specs::Terminal::symbol_of))]
-pub fn symbol_of(kind: TokKind, bytes: &[u8]) -> Symbol
+pub fn mark_symbol(bytes: &[u8]) -> Symbol
+    ensures { result ≡ spec.symbol_of TokKind.Punct bytes.now }
+{
+    punct_symbol(first_byte(bytes))
+}
+
+/// What a significant token that is neither a word nor a mark is to the grammar.
+#[tactic(auto, unfolding(sql_token::specs::Terminal::symbol_of))]
+pub fn other_symbol(kind: TokKind, bytes: &[u8]) -> Symbol
+    requires word { kind ≢ TokKind.Word }
+    requires mark { kind ≢ TokKind.Punct }
     ensures { result ≡ spec.symbol_of kind bytes.now }
 {
     match kind {
-        TokKind::Word => word_symbol(bytes),
         TokKind::Quoted => Symbol::Quoted,
         TokKind::Str => Symbol::Str,
         TokKind::UName => Symbol::UName,
@@ -88,9 +108,11 @@ pub fn symbol_of(kind: TokKind, bytes: &[u8]) -> Symbol
         TokKind::Param => Symbol::Param,
         TokKind::Number => number_symbol(bytes),
         TokKind::Op => operator_symbol(bytes),
-        TokKind::Punct => punct_symbol(first_byte(bytes)),
-        TokKind::Blank | TokKind::LineComment | TokKind::BlockComment | TokKind::Other => {
-            Symbol::Other
-        }
+        TokKind::Word
+        | TokKind::Punct
+        | TokKind::Blank
+        | TokKind::LineComment
+        | TokKind::BlockComment
+        | TokKind::Other => Symbol::Other,
     }
 }

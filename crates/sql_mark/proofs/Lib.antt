@@ -1,3 +1,4 @@
 mod Names
+pub mod Opens
 pub mod Cuts
 pub mod Runs

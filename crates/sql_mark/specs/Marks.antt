@@ -3,6 +3,9 @@ use Rattle.sql_mark.specs.declared.parts.Mark.{Mark}
 use Rattle.sql_mark.specs.declared.parts.Mark.TheVariants as m
 use Rattle.sql_mark.specs.declared.write_marks.WriteMark.{WriteMark}
 use Rattle.sql_mark.specs.declared.write_marks.WriteMark.TheVariants as w
+use Rattle.std.specs.Prelude.{Bool, true, false}
+use Rattle.sql_token.specs.declared.terminal.Symbol.{Symbol}
+use Rattle.sql_token.specs.declared.terminal.Symbol.TheVariants as s
 use Rattle.sql_tree.specs.Split.{Test, comma, not_valid, into, verb, privileges, word, operator, cast, on_commit_drop, equals, do_update_set, then_update_set, then_insert, clause_end, merge_clause_end, target_list_end}
 use Rattle.sql_tree.specs.ColumnMarks.{type_end, value_end, constraint_start, constraint_head}
 use Rattle.sql_tree.specs.Pieces.{Head}
@@ -39,3 +42,14 @@ test_of m.PolicyPart = policy_part
 abbrev pub head_of : Mark → Head
 head_of m.Constraint = constraint_head
 head_of _ = λ t ts. 0
+
+-- Whether any mark begins with this symbol: none does with a name that is no key word, a literal or a bracket.
+abbrev pub opens_marks : Symbol → Bool
+opens_marks (s.Keyword w) = true
+opens_marks s.Comma = true
+opens_marks s.Colon = true
+opens_marks s.Star = true
+opens_marks s.Equals = true
+opens_marks s.EqualsOperator = true
+opens_marks s.Operator = true
+opens_marks _ = false

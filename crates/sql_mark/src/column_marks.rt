@@ -33,13 +33,19 @@ pub(crate) fn is_value_end(symbol: Symbol) -> bool
 }
 
 /// Whether a word ends the type of a column.
+#[tactic(auto, unfolding(sql_token::specs::Terminal::is_keyword))]
 pub(crate) fn is_type_end(t: Terminal) -> bool
     ensures { result ≡ spec.is_type_end t }
 {
-    is_value_end(t.symbol)
-        || t.is_keyword(Keyword::Collate)
-        || t.is_keyword(Keyword::Using)
-        || t.is_keyword(Keyword::Options)
+    match t.symbol {
+        Symbol::Keyword(word) => {
+            is_value_end_word(word)
+                || t.is_keyword(Keyword::Collate)
+                || t.is_keyword(Keyword::Using)
+                || t.is_keyword(Keyword::Options)
+        }
+        _ => false,
+    }
 }
 
 // ---- what a constraint is, by the words that open it

@@ -1,7 +1,7 @@
 //! Bracket groups and paths that stand first in a list of terminals.
 
-ghost use Rattle.std.specs.Prelude.{◌≡◌};
-ghost use Rattle.std.specs.Option.{option_map};
+ghost use Rattle.std.specs.Prelude.{◌≡◌, if◌then◌else◌};
+ghost use Rattle.std.specs.Option.{option_map, option_copied};
 ghost use Rattle.sql_tree.specs.Forms.{names_end};
 ghost use Rattle.sql_tree.specs.Groups as spec;
 ghost use Rattle.sql_mark.specs.Views.{beside, path_beside};
@@ -30,6 +30,24 @@ pub fn inside_list(terminals: &[Terminal]) -> &[Terminal]
         return &[];
     }
     &terminals[1..end - 1]
+}
+
+/// What stands inside the one bracket list that this is; `None` where it is none, or where anything follows it.
+#[tactic(auto, unfolding(sql_tree::specs::Groups::is_list, sql_tree::specs::Groups::inside_list))]
+pub fn inside_alone<'a>(terminals: &'a [Terminal]) -> Option<&'a [Terminal]>
+    ensures { option_copied result ≡ if spec.is_list terminals.entry.now then Some (spec.inside_list terminals.entry.now) else None }
+{
+    if !begins_list(terminals) {
+        return None;
+    }
+    let end = closing(terminals);
+    if end < terminals.len() {
+        return None;
+    }
+    if end < 2 {
+        return Some(&[]);
+    }
+    Some(&terminals[1..end - 1])
 }
 
 fn begins_square(terminals: &[Terminal]) -> bool

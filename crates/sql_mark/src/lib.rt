@@ -13,7 +13,7 @@ mod write_marks;
 
 pub use column_marks::kind_led;
 pub use depth::{begins_list, begins_with, behind_list, closing, has_keyword, span_of};
-pub use groups::{inside_list, is_list, is_square, names_from, path_first};
+pub use groups::{inside_alone, inside_list, is_list, is_square, names_from, path_first};
 pub use parts::{Mark, Parts, from_mark, has_mark, terminals_before, until};
 pub use pieces::{Pieces, before_behind};
 pub use words::is_of_class;

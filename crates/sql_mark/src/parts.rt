@@ -3,7 +3,7 @@
 ghost use Rattle.std.specs.Prelude.{◌≡◌, ◌≤◌, length};
 ghost use Rattle.std.specs.Option.{option_copied};
 ghost use Rattle.sql_tree.specs.Split as spec;
-ghost use Rattle.sql_mark.specs.Marks.{test_of};
+ghost use Rattle.sql_mark.specs.Marks.{test_of, opens_marks};
 
 use crate::action_marks::{begins_identity_option, begins_policy_part, begins_sequence_option};
 use crate::column_marks::{begins_constraint, is_type_end, is_value_end};
@@ -47,6 +47,12 @@ pub enum Mark {
     IdentityOption,
     /// A further part of ALTER POLICY.
     PolicyPart,
+}
+
+fn is_comma(symbol: Symbol) -> bool
+    ensures { result ≡ spec.is_comma_symbol symbol }
+{
+    matches!(symbol, Symbol::Comma)
 }
 
 fn is_as_or_dot(earlier: Option<Terminal>) -> bool
@@ -122,17 +128,13 @@ fn begins_on_commit_drop(first: Terminal, after: &[Terminal]) -> bool
 }
 
 /// Whether the mark begins at `first`, which stands between `earlier` and `after`.
+#[inline(never)]
 #[tactic(auto, unfolding(sql_tree::specs::Split::comma, sql_tree::specs::Split::not_valid, sql_tree::specs::Split::into, sql_tree::specs::Split::verb, sql_tree::specs::Split::privileges, sql_tree::specs::Split::word, sql_tree::specs::Split::operator, sql_tree::specs::Split::cast, sql_tree::specs::Split::on_commit_drop, sql_tree::specs::ColumnMarks::type_end, sql_tree::specs::ColumnMarks::value_end))]
-pub(crate) fn begins(
-    mark: Mark,
-    earlier: Option<Terminal>,
-    first: Terminal,
-    after: &[Terminal],
-) -> bool
+fn begins(mark: Mark, earlier: Option<Terminal>, first: Terminal, after: &[Terminal]) -> bool
     ensures { result ≡ test_of mark earlier first after.now }
 {
     match mark {
-        Mark::Comma => matches!(first.symbol, Symbol::Comma),
+        Mark::Comma => is_comma(first.symbol),
         Mark::NotValid => first.is_keyword(Keyword::Not) && begins_with(Keyword::Valid, after),
         Mark::Into => first.is_keyword(Keyword::Into) && !is_as_or_dot(earlier),
         Mark::Verb => is_verb(first.symbol),
@@ -151,7 +153,36 @@ pub(crate) fn begins(
     }
 }
 
+/// Whether any mark begins with this symbol.
+fn opens_marks(symbol: Symbol) -> bool
+    ensures { result ≡ opens_marks symbol }
+{
+    match symbol {
+        Symbol::Keyword(_) | Symbol::Comma | Symbol::Colon => true,
+        Symbol::Star | Symbol::Equals | Symbol::EqualsOperator | Symbol::Operator => true,
+        _ => false,
+    }
+}
+
+/// The same as `begins`, told on the spot for commas, at which most lists are cut, and for symbols that begin no mark.
+#[inline(always)]
+#[tactic(auto, unfolding(sql_tree::specs::Split::comma), using(crate::proofs::Opens::no_mark))]
+pub(crate) fn begins_soon(
+    mark: Mark,
+    earlier: Option<Terminal>,
+    first: Terminal,
+    after: &[Terminal],
+) -> bool
+    ensures { result ≡ test_of mark earlier first after.now }
+{
+    match mark {
+        Mark::Comma => is_comma(first.symbol),
+        _ => opens_marks(first.symbol) && begins(mark, earlier, first, after),
+    }
+}
+
 /// How many terminals stand before the first mark of depth 0, where `earlier` stands before the list.
+#[inline(always)]
 fn before_from(mark: Mark, earlier: Option<Terminal>, terminals: &[Terminal]) -> usize
     ensures value { result ≡ spec.before_from (test_of mark) earlier 0 0 terminals.now }
     ensures within { result ≤ length terminals.now }
@@ -162,7 +193,7 @@ fn before_from(mark: Mark, earlier: Option<Terminal>, terminals: &[Terminal]) ->
     let mut opened = 0usize;
     let mut closed = 0usize;
     while let [first, rest @ ..] = left {
-        if opened == closed && begins(mark, previous, *first, rest) {
+        if opened == closed && begins_soon(mark, previous, *first, rest) {
             return count;
         }
         if first.is_opener() {
@@ -176,6 +207,18 @@ fn before_from(mark: Mark, earlier: Option<Terminal>, terminals: &[Terminal]) ->
         left = rest;
     }
     count
+}
+
+/// The same, in a loop of its own for commas, which looks at nothing but the symbols.
+#[inline(always)]
+fn before_next(mark: Mark, earlier: Option<Terminal>, terminals: &[Terminal]) -> usize
+    ensures value { result ≡ spec.before_from (test_of mark) earlier 0 0 terminals.now }
+    ensures within { result ≤ length terminals.now }
+{
+    match mark {
+        Mark::Comma => before_from(Mark::Comma, earlier, terminals),
+        _ => before_from(mark, earlier, terminals),
+    }
 }
 
 /// How many terminals stand before the first mark of depth 0; all, where there is none.
@@ -252,7 +295,7 @@ impl<'a> Parts<'a> {
         if !self.more {
             return None;
         }
-        let count = before_from(self.mark, self.earlier, self.left);
+        let count = before_next(self.mark, self.earlier, self.left);
         let part = &self.left[..count];
         if count < self.left.len() {
             self.earlier = Some(self.left[count]);

@@ -7,7 +7,7 @@ ghost use Rattle.sql_tree.specs.Split.{uncons};
 ghost use Rattle.sql_mark.specs.Marks.{test_of, head_of};
 
 use crate::column_marks::constraint_head;
-use crate::parts::{Mark, begins};
+use crate::parts::{Mark, begins_soon};
 use sql_token::Terminal;
 use std::marker::Model;
 
@@ -29,7 +29,7 @@ pub fn before_behind(
     let mut opened = 0usize;
     let mut closed = 0usize;
     while let [first, rest @ ..] = left {
-        if skip == 0 && opened == closed && begins(mark, previous, *first, rest) {
+        if skip == 0 && opened == closed && begins_soon(mark, previous, *first, rest) {
             return count;
         }
         skip = skip.saturating_sub(1);

@@ -12,6 +12,7 @@ ghost use Rattle.sql_tree.specs.Forms.{at, one, nothing_kept, word_kept, name_ke
 ghost use Rattle.sql_tree.specs.Split as spec;
 ghost use Rattle.sql_tree.specs.Split.{privileges};
 ghost use Rattle.sql_tree.specs.Words.{is_of_class};
+ghost use Rattle.sql_part.specs.Missing.{begins_with_mod};
 ghost use Rattle.sql_part.specs.Views.{behind};
 
 use sql_mark::{behind_list, from_mark, is_of_class, path_first};
@@ -230,6 +231,16 @@ fn is_other_mod_word(t: Terminal) -> bool
     t.is_keyword(Keyword::Global) || t.is_keyword(Keyword::Local) || t.is_keyword(Keyword::Unlogged)
 }
 
+/// Whether a word that `Part::Mods` takes stands first.
+pub(crate) fn begins_with_mod(left: &[Terminal]) -> bool
+    ensures { result ≡ begins_with_mod left.now }
+{
+    match left {
+        [] => false,
+        [first, ..] => is_temp_word(*first) || is_other_mod_word(*first),
+    }
+}
+
 fn after_mods<'a>(kept: &mut Captures, left: &'a [Terminal]) -> &'a [Terminal]
     ensures { at kept.new result.now ≡ take_mods kept.old left.entry.now }
 {
@@ -342,6 +353,7 @@ fn leave_open<'a>(kept: &mut Captures, left: &'a [Terminal]) -> &'a [Terminal]
 
 /// What is left behind a part, where it stands. What it keeps is written; where it does not stand, what was kept says
 /// nothing more.
+#[inline(always)]
 #[tactic(auto, unfolding(sql_tree::specs::Forms::take_part))]
 pub(crate) fn take_part<'a>(
     part: Part,

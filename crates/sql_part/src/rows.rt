@@ -1,12 +1,12 @@
 //! The row that reads a statement.
 
 ghost use Rattle.std.specs.Prelude.{◌≡◌, map};
-ghost use Rattle.std.specs.Bool.{OnFalse};
+ghost use Rattle.std.specs.Bool.{OnFalse, OnTrue};
 ghost use Rattle.std.specs.Option.{option_map};
 ghost use Rattle.sql_tree.specs.Forms.{at, fresh, take_part, in_turn, finished, first_led, first_whole, anything, led_by};
 ghost use Rattle.sql_part.specs.Views.{behind, front, action_front};
 
-use crate::reader::{is_all_taken, take_part};
+use crate::reader::{begins_with_mod, is_all_taken, take_part};
 use crate::tables::{one_word_kind, rows_of};
 use sql_mark::begins_with;
 use sql_token::{Keyword, Terminal};
@@ -33,6 +33,7 @@ pub fn nothing_kept() -> Captures
     }
 }
 
+#[inline(always)]
 fn take_parts<'a>(
     parts: &[Part],
     kept: &mut Captures,
@@ -41,8 +42,10 @@ fn take_parts<'a>(
     ensures { option_map (behind kept.new) result ≡ in_turn parts.now kept.old left.entry.now }
 {
     let mut here = left;
-    for part in parts {
+    let mut rest = parts;
+    while let [part, more @ ..] = rest {
         here = take_part(*part, kept, here)?;
+        rest = more;
     }
     Some(here)
 }
@@ -75,14 +78,36 @@ fn may_begin(part: Part, left: &[Terminal]) -> bool
     }
 }
 
-/// Whether the lead words of a row may stand here, by the first of them alone, so that few rows are tried in vain.
+/// Whether this part may be missing, and is, where that is cheap to tell.
+fn is_missing(part: Part, left: &[Terminal]) -> bool
+    ensures { OnTrue result (take_part part fresh left.now ≡ Some (at fresh left.now)) }
+{
+    match part {
+        Part::Mods => !begins_with_mod(left),
+        Part::Flag(word, _) => !begins_with(word, left),
+        _ => false,
+    }
+}
+
 #[tactic(auto, using(crate::proofs::Leads::lead_may))]
+fn may_begin_first(parts: &[Part], left: &[Terminal]) -> bool
+    ensures { OnFalse result (in_turn parts.now fresh left.now ≡ None) }
+{
+    match parts {
+        [] => true,
+        [first, ..] => may_begin(*first, left),
+    }
+}
+
+/// Whether the lead words of a row may stand here, by the first one that is not missing alone, so that few rows are
+/// tried in vain.
+#[tactic(auto, using(crate::proofs::Leads::lead_behind))]
 fn may_lead(lead: &[Part], left: &[Terminal]) -> bool
     ensures { OnFalse result (in_turn lead.now fresh left.now ≡ None) }
 {
     match lead {
-        [] => true,
-        [first, ..] => may_begin(*first, left),
+        [first, rest @ ..] if is_missing(*first, left) => may_begin_first(rest, left),
+        _ => may_begin_first(lead, left),
     }
 }
 
@@ -96,11 +121,9 @@ fn first_row<'a>(
 {
     let mut rest = rows;
     while let [row, more @ ..] = rest {
-        if may_lead(row.1, left) {
-            *kept = nothing_kept();
-            if let Some(behind) = take_parts(row.1, kept, left) {
-                return finish_row(row.0, row.2, kept, behind);
-            }
+        *kept = nothing_kept();
+        if let Some(behind) = take_parts(row.1, kept, left) {
+            return finish_row(row.0, row.2, kept, behind);
         }
         rest = more;
     }
@@ -163,9 +186,11 @@ pub fn read_whole<'a, K: Copy>(
 {
     let mut rest = rows;
     while let [row, more @ ..] = rest {
-        *kept = nothing_kept();
-        if let Some(found) = whole_row(row.0, row.1, kept, left) {
-            return Some(found);
+        if may_lead(row.1, left) {
+            *kept = nothing_kept();
+            if let Some(found) = whole_row(row.0, row.1, kept, left) {
+                return Some(found);
+            }
         }
         rest = more;
     }

@@ -19,6 +19,7 @@ use sql_tree::other_forms::{
 };
 
 /// The family of the object that this word names, or that may stand before it.
+#[inline(always)]
 #[tactic(auto, unfolding(sql_tree::specs::Forms::family_of))]
 fn family_of(word: Keyword) -> Family
     ensures { result ≡ spec.family_of word }
@@ -44,6 +45,7 @@ fn family_of(word: Keyword) -> Family
     }
 }
 
+#[inline(always)]
 fn family_by(symbol: Symbol) -> Family
     ensures { result ≡ spec.family_by symbol }
 {
@@ -53,6 +55,7 @@ fn family_by(symbol: Symbol) -> Family
     }
 }
 
+#[inline(always)]
 fn family_first(terminals: &[Terminal]) -> Family
     ensures { result ≡ spec.family_first terminals.now }
 {

@@ -1,2 +1,3 @@
 pub mod Cause
 pub mod Pushes
+pub mod Table

@@ -5,22 +5,22 @@ ghost use Rattle.sql_tree.specs.Forms.{at};
 ghost use Rattle.sql_tree.specs.declared.nodes.Body.TheVariants as body;
 ghost use Rattle.sql_tree.specs.Statement as spec;
 ghost use Rattle.sql_tree.specs.Tails as tails;
+ghost use Rattle.sql_read.specs.Table.{table_of};
 
 use sql_action::read_actions_of;
 use sql_column::{drops_on_commit, read_domain_constraints, read_elements};
 use sql_mark::has_keyword;
-use sql_tail::{
-    is_full_vacuum, last_cascade, lock_mode, parameter, read_paths, reindex, vacuum_tables,
-};
+use sql_tail::{is_full_vacuum, last_cascade, lock_mode, parameter, read_paths, vacuum_tables};
 use sql_token::{Keyword, Terminal};
 use sql_tree::forms::{Captures, Shape};
-use sql_tree::{Body, StmtKind};
+use sql_tree::{Body, Elem, StmtKind};
 use sql_write::{read_table_write, read_targets, read_view_definition};
-use sqlite_items::Boxed;
+use sqlite_items::{Boxed, Items};
 use std::alloc::Global;
 use text_pos::NoMemory;
 
 /// What is kept of the statements of a kind.
+#[inline(always)]
 #[tactic(auto, unfolding(sql_tree::specs::Statement::shape_of))]
 pub(crate) fn shape_of(kind: StmtKind) -> Shape
     ensures { result ≡ spec.shape_of kind }
@@ -59,7 +59,7 @@ pub(crate) fn shape_of(kind: StmtKind) -> Shape
 }
 
 /// CREATE TABLE, or CREATE TABLE AS where the word AS stands behind its path.
-fn table_kind(left: &[Terminal]) -> StmtKind
+pub(crate) fn table_kind(left: &[Terminal]) -> StmtKind
     ensures { result ≡ spec.table_kind left.now }
 {
     if has_keyword(Keyword::As, left) {
@@ -83,7 +83,7 @@ pub(crate) fn kind_of(kind: StmtKind, kept: &Captures, left: &[Terminal]) -> Stm
 // ---- bodies that take no memory
 
 /// Of COMMIT and ROLLBACK.
-fn end_body(kept: &Captures) -> Body
+pub(crate) fn end_body(kept: &Captures) -> Body
     ensures { result ≡ spec.end_body kept.now }
 {
     Body::End {
@@ -93,7 +93,7 @@ fn end_body(kept: &Captures) -> Body
 }
 
 /// Of CREATE INDEX.
-fn index_body(kept: &Captures) -> Option<Body>
+pub(crate) fn index_body(kept: &Captures) -> Option<Body>
     ensures { result ≡ spec.index_body kept.now }
 {
     let word = kept.word?;
@@ -109,7 +109,7 @@ fn index_body(kept: &Captures) -> Option<Body>
 }
 
 /// Of CREATE TYPE and CREATE SEQUENCE.
-fn made_body(kept: &Captures) -> Option<Body>
+pub(crate) fn made_body(kept: &Captures) -> Option<Body>
     ensures { result ≡ spec.made_body kept.now }
 {
     let path = kept.path?;
@@ -120,7 +120,7 @@ fn made_body(kept: &Captures) -> Option<Body>
 }
 
 /// Of CREATE FUNCTION, PROCEDURE, AGGREGATE, TRIGGER and RULE.
-fn code_body(kept: &Captures) -> Body
+pub(crate) fn code_body(kept: &Captures) -> Body
     ensures { result ≡ body.Code kept.now.replace }
 {
     Body::Code {
@@ -129,7 +129,7 @@ fn code_body(kept: &Captures) -> Body
 }
 
 /// Of TRUNCATE.
-fn truncate_body(left: &[Terminal]) -> Body
+pub(crate) fn truncate_body(left: &[Terminal]) -> Body
     ensures { result ≡ body.Truncate (tails.last_cascade left.now) }
 {
     Body::Truncate {
@@ -138,7 +138,7 @@ fn truncate_body(left: &[Terminal]) -> Body
 }
 
 /// Of SET.
-fn setting_body(left: &[Terminal]) -> Body
+pub(crate) fn setting_body(left: &[Terminal]) -> Body
     ensures { result ≡ body.Setting (tails.parameter left.now) }
 {
     Body::Setting {
@@ -147,7 +147,7 @@ fn setting_body(left: &[Terminal]) -> Body
 }
 
 /// Of LOCK.
-fn locking_body(left: &[Terminal]) -> Body
+pub(crate) fn locking_body(left: &[Terminal]) -> Body
     ensures { result ≡ body.Locking (tails.lock_mode left.now) }
 {
     Body::Locking {
@@ -156,7 +156,7 @@ fn locking_body(left: &[Terminal]) -> Body
 }
 
 /// Of REFRESH MATERIALIZED VIEW.
-fn refresh_body(kept: &Captures) -> Body
+pub(crate) fn refresh_body(kept: &Captures) -> Body
     ensures { result ≡ body.Refresh (is_some kept.now.concurrently) }
 {
     Body::Refresh {
@@ -165,7 +165,7 @@ fn refresh_body(kept: &Captures) -> Body
 }
 
 /// Of VACUUM.
-fn vacuum_body(left: &[Terminal]) -> Body
+pub(crate) fn vacuum_body(left: &[Terminal]) -> Body
     ensures { result ≡ spec.vacuum_body left.now }
 {
     Body::Vacuum {
@@ -175,7 +175,7 @@ fn vacuum_body(left: &[Terminal]) -> Body
 }
 
 /// Of CLUSTER.
-fn cluster_body(kept: &Captures) -> Body
+pub(crate) fn cluster_body(kept: &Captures) -> Body
     ensures { result ≡ spec.cluster_body kept.now }
 {
     Body::Cluster {
@@ -186,28 +186,40 @@ fn cluster_body(kept: &Captures) -> Body
 
 // ---- bodies that hold lists
 
-/// Of CREATE TABLE and CREATE FOREIGN TABLE: its table, and the elements of its list.
-fn table_body(alloc: Global, kept: &Captures, left: &[Terminal]) -> Result<Option<Body>, NoMemory>
-    ensures { IfOk result (λ body. body ≡ spec.table_body (at kept.now left.now)) }
+/// A table, by what its front kept, whether ON COMMIT DROP stands in its tail, and the elements of its list.
+pub(crate) fn table_of(kept: &Captures, on_commit_drop: bool, elems: Items<Elem>) -> Option<Body>
+    ensures { result ≡ table_of kept.now on_commit_drop elems }
 {
-    let Some(word) = kept.word else {
-        return Ok(None);
-    };
-    let Some(path) = kept.path else {
-        return Ok(None);
-    };
-    Ok(Some(Body::Table {
+    let word = kept.word?;
+    let path = kept.path?;
+    Some(Body::Table {
         temp: kept.temp,
         guarded: kept.guarded,
-        on_commit_drop: drops_on_commit(left),
+        on_commit_drop,
         word,
         path,
-        elems: read_elements(alloc, left)?,
-    }))
+        elems,
+    })
+}
+
+/// Of CREATE TABLE and CREATE FOREIGN TABLE: its table, and the elements of its list.
+pub(crate) fn table_body(
+    alloc: Global,
+    kept: &Captures,
+    left: &[Terminal],
+) -> Result<Option<Body>, NoMemory>
+    ensures { IfOk result (λ body. body ≡ spec.table_body (at kept.now left.now)) }
+{
+    let elems = read_elements(alloc, left)?;
+    Ok(table_of(kept, drops_on_commit(left), elems))
 }
 
 /// Of SELECT INTO: its table, and what its query gives, by what follows the word SELECT.
-fn into_body(alloc: Global, kept: &Captures, query: &[Terminal]) -> Result<Option<Body>, NoMemory>
+pub(crate) fn into_body(
+    alloc: Global,
+    kept: &Captures,
+    query: &[Terminal],
+) -> Result<Option<Body>, NoMemory>
     ensures { IfOk result (λ body. body ≡ spec.into_body kept.now query.now) }
 {
     let Some(path) = kept.path else {
@@ -220,7 +232,11 @@ fn into_body(alloc: Global, kept: &Captures, query: &[Terminal]) -> Result<Optio
 }
 
 /// Of DROP INDEX, DROP TABLE and DROP TYPE: all paths.
-fn drop_body(alloc: Global, kept: &Captures, left: &[Terminal]) -> Result<Option<Body>, NoMemory>
+pub(crate) fn drop_body(
+    alloc: Global,
+    kept: &Captures,
+    left: &[Terminal],
+) -> Result<Option<Body>, NoMemory>
     ensures { IfOk result (λ body. body ≡ spec.drop_body (at kept.now left.now)) }
 {
     let Some(word) = kept.word else {
@@ -238,7 +254,7 @@ fn drop_body(alloc: Global, kept: &Captures, left: &[Terminal]) -> Result<Option
 }
 
 /// Of ALTER: its path, where its form has one, and its actions. `None` where they are none of its kind.
-fn alter_body(
+pub(crate) fn alter_body(
     alloc: Global,
     kind: StmtKind,
     kept: &Captures,
@@ -256,7 +272,7 @@ fn alter_body(
 }
 
 /// Of CREATE DOMAIN: its constraints. `None` where its tail is no type and constraints.
-fn domain_body(alloc: Global, left: &[Terminal]) -> Result<Option<Body>, NoMemory>
+pub(crate) fn domain_body(alloc: Global, left: &[Terminal]) -> Result<Option<Body>, NoMemory>
     ensures { IfOk result (λ body. body ≡ spec.domain_body left.now) }
 {
     match read_domain_constraints(alloc, left)? {
@@ -266,7 +282,7 @@ fn domain_body(alloc: Global, left: &[Terminal]) -> Result<Option<Body>, NoMemor
 }
 
 /// Of CREATE VIEW and CREATE MATERIALIZED VIEW.
-fn view_body(alloc: Global, kept: &Captures, left: &[Terminal]) -> Result<Body, NoMemory>
+pub(crate) fn view_body(alloc: Global, kept: &Captures, left: &[Terminal]) -> Result<Body, NoMemory>
     ensures { IfOk result (λ body. body ≡ spec.view_body (at kept.now left.now)) }
 {
     let definition = read_view_definition(alloc, kept.replace, left)?;
@@ -274,7 +290,7 @@ fn view_body(alloc: Global, kept: &Captures, left: &[Terminal]) -> Result<Body, 
 }
 
 /// Of INSERT, UPDATE and MERGE.
-fn write_body(
+pub(crate) fn write_body(
     alloc: Global,
     kind: StmtKind,
     kept: &Captures,
@@ -287,41 +303,4 @@ fn write_body(
     };
     let write = read_table_write(alloc, kind, path, left)?;
     Ok(Some(Body::Write(Boxed::new(alloc, write)?)))
-}
-
-// ---- all
-
-/// What the form of a kind keeps; `query` is what follows the first word. `None` where the tail is none of its kind.
-#[tactic(auto, unfolding(sql_tree::specs::Statement::body_by))]
-pub(crate) fn body_by(
-    alloc: Global,
-    shape: Shape,
-    kind: StmtKind,
-    query: &[Terminal],
-    kept: &Captures,
-    left: &[Terminal],
-) -> Result<Option<Body>, NoMemory>
-    ensures { IfOk result (λ body. body ≡ spec.body_by shape kind (at kept.now left.now) query.now) }
-{
-    match shape {
-        Shape::Kept => Ok(Some(Body::Kept)),
-        Shape::End => Ok(Some(end_body(kept))),
-        Shape::Table => table_body(alloc, kept, left),
-        Shape::Into => into_body(alloc, kept, query),
-        Shape::Index => Ok(index_body(kept)),
-        Shape::Drop => drop_body(alloc, kept, left),
-        Shape::Reindex => Ok(reindex(left)),
-        Shape::Alter => alter_body(alloc, kind, kept, left),
-        Shape::Domain => domain_body(alloc, left),
-        Shape::Made => Ok(made_body(kept)),
-        Shape::View => Ok(Some(view_body(alloc, kept, left)?)),
-        Shape::Code => Ok(Some(code_body(kept))),
-        Shape::Truncate => Ok(Some(truncate_body(left))),
-        Shape::Setting => Ok(Some(setting_body(left))),
-        Shape::Locking => Ok(Some(locking_body(left))),
-        Shape::Refresh => Ok(Some(refresh_body(kept))),
-        Shape::Vacuum => Ok(Some(vacuum_body(left))),
-        Shape::Cluster => Ok(Some(cluster_body(kept))),
-        Shape::Write => write_body(alloc, kind, kept, left),
-    }
 }

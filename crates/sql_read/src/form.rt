@@ -7,12 +7,18 @@ ghost use Rattle.sql_tree.specs.Statement as spec;
 ghost use Rattle.sql_part.specs.Views.{front};
 ghost use Rattle.sql_read.specs.Pushes.{Pushes, stmt_of, form_with};
 
-use crate::body::{body_by, kind_of, shape_of};
+use crate::body::{
+    alter_body, cluster_body, code_body, domain_body, drop_body, end_body, index_body, into_body,
+    kind_of, locking_body, made_body, refresh_body, setting_body, shape_of, table_body, table_kind,
+    table_of, truncate_body, vacuum_body, view_body, write_body,
+};
+use sql_column::elements_inside;
 use sql_lex::{is_sound, span_of};
-use sql_mark::{Mark, from_mark};
+use sql_mark::{Mark, from_mark, inside_alone};
 use sql_part::{nothing_kept, read_anything, read_front};
+use sql_tail::reindex;
 use sql_token::{Keyword, Span, Symbol, Terminal};
-use sql_tree::forms::Captures;
+use sql_tree::forms::{Captures, Shape};
 use sql_tree::{Body, Stmt, StmtKind};
 use sqlite_items::Items;
 use std::alloc::Global;
@@ -90,8 +96,100 @@ fn push(
     }
 }
 
+/// Puts a CREATE TABLE behind the others. Where one list is all that follows its path, neither the word AS nor ON COMMIT
+/// DROP stands at depth 0, and they are not looked for.
+#[inline(never)]
+#[tactic(auto, using(crate::proofs::Listed::listed_table))]
+fn push_table(
+    alloc: Global,
+    stmts: &mut Items<Stmt>,
+    span: Span,
+    kept: &Captures,
+    left: &[Terminal],
+) -> Result<bool, NoMemory>
+    ensures { IfOk result (λ pushed. Pushes (stmt_of span (form_with (spec.table_kind left.now) (spec.table_body (at kept.now left.now)))) stmts.old pushed stmts.new) }
+{
+    match inside_alone(left) {
+        Some(inside) => {
+            let elems = elements_inside(alloc, inside)?;
+            push(
+                stmts,
+                span,
+                StmtKind::CreateTable,
+                table_of(kept, false, elems),
+            )
+        }
+        None => {
+            let body = table_body(alloc, kept, left)?;
+            push(stmts, span, table_kind(left), body)
+        }
+    }
+}
+
 /// Puts a statement behind the others, of whose front so much was kept and left; `query` is what follows its first word.
-#[tactic(auto, unfolding(sql_tree::specs::Statement::told))]
+#[inline(never)]
+#[tactic(auto, unfolding(sql_tree::specs::Statement::told, sql_tree::specs::Statement::body_by))]
+fn push_any(
+    alloc: Global,
+    stmts: &mut Items<Stmt>,
+    span: Span,
+    query: &[Terminal],
+    kind: StmtKind,
+    kept: &Captures,
+    left: &[Terminal],
+) -> Result<bool, NoMemory>
+    ensures { IfOk result (λ pushed. Pushes (stmt_of span (spec.told query.now (kind, at kept.now left.now))) stmts.old pushed stmts.new) }
+{
+    let told = kind_of(kind, kept, left);
+    match shape_of(kind) {
+        Shape::Kept => push(stmts, span, told, Some(Body::Kept)),
+        Shape::End => push(stmts, span, told, Some(end_body(kept))),
+        Shape::Table => push(stmts, span, told, table_body(alloc, kept, left)?),
+        Shape::Into => push(stmts, span, told, into_body(alloc, kept, query)?),
+        Shape::Index => push(stmts, span, told, index_body(kept)),
+        Shape::Drop => push(stmts, span, told, drop_body(alloc, kept, left)?),
+        Shape::Reindex => push(stmts, span, told, reindex(left)),
+        Shape::Alter => push(stmts, span, told, alter_body(alloc, kind, kept, left)?),
+        Shape::Domain => push(stmts, span, told, domain_body(alloc, left)?),
+        Shape::Made => push(stmts, span, told, made_body(kept)),
+        Shape::View => push(stmts, span, told, Some(view_body(alloc, kept, left)?)),
+        Shape::Code => push(stmts, span, told, Some(code_body(kept))),
+        Shape::Truncate => push(stmts, span, told, Some(truncate_body(left))),
+        Shape::Setting => push(stmts, span, told, Some(setting_body(left))),
+        Shape::Locking => push(stmts, span, told, Some(locking_body(left))),
+        Shape::Refresh => push(stmts, span, told, Some(refresh_body(kept))),
+        Shape::Vacuum => push(stmts, span, told, Some(vacuum_body(left))),
+        Shape::Cluster => push(stmts, span, told, Some(cluster_body(kept))),
+        Shape::Write => push(stmts, span, told, write_body(alloc, kind, kept, left)?),
+    }
+}
+
+/// The same, with the bodies that most statements have made on the spot.
+#[inline(always)]
+#[tactic(auto, unfolding(sql_tree::specs::Statement::told, sql_tree::specs::Statement::body_by))]
+fn push_soon(
+    alloc: Global,
+    stmts: &mut Items<Stmt>,
+    span: Span,
+    query: &[Terminal],
+    kind: StmtKind,
+    kept: &Captures,
+    left: &[Terminal],
+) -> Result<bool, NoMemory>
+    ensures { IfOk result (λ pushed. Pushes (stmt_of span (spec.told query.now (kind, at kept.now left.now))) stmts.old pushed stmts.new) }
+{
+    let told = kind_of(kind, kept, left);
+    match shape_of(kind) {
+        Shape::Kept => push(stmts, span, told, Some(Body::Kept)),
+        Shape::End => push(stmts, span, told, Some(end_body(kept))),
+        Shape::Index => push(stmts, span, told, index_body(kept)),
+        _ => push_any(alloc, stmts, span, query, kind, kept, left),
+    }
+}
+
+/// The same, with CREATE TABLE apart.
+#[inline(always)]
+#[tactic(auto, unfolding(sql_tree::specs::Statement::told, sql_tree::specs::Statement::body_by, sql_tree::specs::Statement::kind_of, sql_tree::specs::Statement::shape_of))]
 fn push_told(
     alloc: Global,
     stmts: &mut Items<Stmt>,
@@ -103,8 +201,10 @@ fn push_told(
 ) -> Result<bool, NoMemory>
     ensures { IfOk result (λ pushed. Pushes (stmt_of span (spec.told query.now (kind, at kept.now left.now))) stmts.old pushed stmts.new) }
 {
-    let body = body_by(alloc, shape_of(kind), kind, query, kept, left)?;
-    push(stmts, span, kind_of(kind, kept, left), body)
+    match kind {
+        StmtKind::CreateTable => push_table(alloc, stmts, span, kept, left),
+        _ => push_soon(alloc, stmts, span, query, kind, kept, left),
+    }
 }
 
 /// The same, from the first word on.

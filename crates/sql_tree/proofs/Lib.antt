@@ -1,3 +1,4 @@
 pub mod TreeLaws
 pub mod Tokens
 pub mod PathSteps
+pub mod Chunks

@@ -1,5 +1,5 @@
 -- The pieces of ALTER actions (PostgreSQL manual, ALTER TABLE, ALTER SEQUENCE, ALTER POLICY and ALTER TYPE).
-use Rattle.std.specs.Prelude.{ℕ, zero, suc, ◌-◌, Bool, true, false, not, ◌&&◌, ◌||◌, if◌then◌else◌, List, [], ◌∷◌, map, take, Option, Some, None}
+use Rattle.std.specs.Prelude.{ℕ, Bool, true, false, not, ◌&&◌, ◌||◌, if◌then◌else◌, List, [], ◌∷◌, map, take, Option, Some, None}
 use Rattle.std.specs.Option.{option_and_then}
 use Rattle.sql_keyword.specs.declared.words.Keyword.TheVariants as k
 use Rattle.sql_token.specs.declared.terminal.Symbol.{Symbol}
@@ -18,7 +18,7 @@ use Rattle.sql_tree.specs.declared.nodes.ColType.{ColType}
 use Rattle.sql_tree.specs.declared.nodes.Piece.{Piece}
 use Rattle.sql_tree.specs.ColumnType.{type_len, column_type}
 use Rattle.sql_tree.specs.Forms.{either_of, first_whole}
-use Rattle.sql_tree.specs.Split.{begins_with, comma, split, before, closing, all_of}
+use Rattle.sql_tree.specs.Split.{begins_with, comma, split, chunks, before, closing, all_of}
 use Rattle.sql_tree.specs.Words.{is_of_class}
 
 -- ---- what begins a further piece, none at the beginning of a list
@@ -66,12 +66,6 @@ piece_len lists.IdentityOptions ts = before identity_option ts
 piece_len lists.SequenceOptions ts = before sequence_option ts
 piece_len lists.PolicyParts ts = before policy_part ts
 
--- The pieces behind the first n terminals.
-abbrev pub pieces_behind : PieceList → ℕ → List Terminal → List (List Terminal)
-pieces_behind list n [] = []
-pieces_behind list zero (t ∷ ts) = take (piece_len list (t ∷ ts)) (t ∷ ts) ∷ pieces_behind list (piece_len list (t ∷ ts) - 1) ts
-pieces_behind list (suc n) (t ∷ ts) = pieces_behind list n ts
-
 -- ---- pieces
 
 -- The type of SET TYPE ends as a column's does.
@@ -109,7 +103,7 @@ piece_rows lists.PolicyParts = map (λ r. (r.0, r.1.now)) POLICY_PART
 
 -- The pieces of a list: None where it does not begin with one, or one is none of its kind.
 unfoldable pub pieces_of : PieceList → List Terminal → Option (List Piece)
-pieces_of list ts = all_of (piece_by (piece_rows list)) (pieces_behind list 0 ts)
+pieces_of list ts = all_of (piece_by (piece_rows list)) (chunks (piece_len list) ts)
 
 -- the pieces of ALTER TYPE, between commas of depth 0
 unfoldable pub attributes : List Terminal → Option (List Piece)

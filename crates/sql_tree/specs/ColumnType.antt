@@ -1,5 +1,5 @@
 -- Column types (PostgreSQL manual, chapter 8).
-use Rattle.std.specs.Prelude.{ℕ, ◌+◌, ◌-◌, ◌==◌, nat_lt, Bool, true, false, not, ◌&&◌, if◌then◌else◌, List, [], ◌∷◌, length, take, drop, Option, Some, None}
+use Rattle.std.specs.Prelude.{ℕ, ◌-◌, ◌==◌, nat_lt, Bool, true, false, not, ◌&&◌, if◌then◌else◌, List, [], ◌∷◌, length, take, drop, Option, Some, None}
 use Rattle.std.specs.Option.{option_and_then}
 use Rattle.sql_keyword.specs.declared.words.Keyword.{Keyword}
 use Rattle.sql_keyword.specs.declared.words.Keyword.TheVariants as k
@@ -7,13 +7,13 @@ use Rattle.sql_token.specs.declared.token.Span.{Span}
 use Rattle.sql_token.specs.declared.terminal.Symbol.{Symbol}
 use Rattle.sql_token.specs.declared.terminal.Symbol.TheVariants as s
 use Rattle.sql_token.specs.declared.terminal.Terminal.{Terminal}
-use Rattle.sql_token.specs.Terminal.{is_keyword, is_opener, is_closer}
-use Rattle.sql_token.specs.Depth.{one_if, span_of}
+use Rattle.sql_token.specs.Terminal.{is_keyword}
+use Rattle.sql_token.specs.Depth.{span_of}
 use Rattle.sql_tree.specs.declared.nodes.ColType.{ColType}
 use Rattle.sql_tree.specs.declared.nodes.TyKind.{TyKind}
 use Rattle.sql_tree.specs.declared.nodes.TyKind.TheVariants.{Varchar, Character, Bit, Double, Time, Timestamp, Interval, Path}
 use Rattle.sql_tree.specs.Forms.{either_of}
-use Rattle.sql_tree.specs.Split.{before, closing, begins_with, begins_list}
+use Rattle.sql_tree.specs.Split.{before, has, closing, begins_with, begins_list}
 use Rattle.sql_tree.specs.Groups.{is_empty, is_list, is_open_square_symbol, path_first}
 use Rattle.sql_tree.specs.ColumnMarks.{type_end}
 
@@ -110,19 +110,17 @@ plain_type (t ∷ ts) = either_of (symbol_type t.symbol (t ∷ ts) ts) (path_typ
 
 -- ---- arrays
 
--- Of n terminals, the first `kept` are no part of the bracket groups [ .. ] that end them. A further one, outside
--- brackets or inside, is no part of such a group where it stands outside and opens none, or where none has begun.
-abbrev pub is_kept : Bool → ℕ → ℕ → Terminal → Bool
-is_kept outside kept n t = if outside then not (is_open_square_symbol t.symbol) else kept == n
+-- anything but the beginning of a bracket group [ .. ]
+unfoldable pub no_group : Option Terminal → Terminal → List Terminal → Bool
+no_group earlier t after = not (is_open_square_symbol t.symbol)
 
-abbrev pub kept_from : ℕ → ℕ → ℕ → ℕ → List Terminal → ℕ
-kept_from kept n o c [] = kept
-kept_from kept n o c (t ∷ ts) =
-    kept_from (if is_kept (o == c) kept n t then n + 1 else kept) (n + 1) (o + one_if (is_opener t)) (c + one_if (is_closer t)) ts
+-- from where on nothing but bracket groups [ .. ] stands
+unfoldable pub only_groups : Option Terminal → Terminal → List Terminal → Bool
+only_groups earlier t after = not (has no_group (t ∷ after))
 
 -- how many terminals stand before the bracket groups [ .. ] that end a list
 unfoldable pub before_groups : List Terminal → ℕ
-before_groups ts = kept_from 0 0 0 0 ts
+before_groups ts = before only_groups ts
 
 abbrev pub arrayed : List Terminal → ColType → ColType
 arrayed ts inner = record inner { whole = span_of ts; array = true }

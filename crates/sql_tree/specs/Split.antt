@@ -1,6 +1,6 @@
 -- Lists of terminals, split at marks of depth 0.
 -- Depth is counted from the start of the list, by the two counts of openers and closers.
-use Rattle.std.specs.Prelude.{ℕ, suc, ◌+◌, ◌==◌, nat_lt, Bool, true, false, not, ◌&&◌, ◌||◌, if◌then◌else◌, List, [], ◌∷◌, length, take, drop, Option, Some, None}
+use Rattle.std.specs.Prelude.{◌≡◌, ◌≤◌, ℕ, zero, suc, ◌+◌, ◌-◌, ◌==◌, nat_lt, Bool, true, false, not, ◌&&◌, ◌||◌, if◌then◌else◌, List, [], ◌∷◌, length, take, drop, Option, Some, None}
 use Rattle.sql_keyword.specs.declared.words.Keyword.{Keyword}
 use Rattle.sql_keyword.specs.declared.words.Keyword.TheVariants as k
 use Rattle.sql_token.specs.declared.terminal.Symbol.{Symbol}
@@ -194,6 +194,24 @@ split_from mark earlier o c (t ∷ ts) =
 
 unfoldable pub split : Test → List Terminal → List (List Terminal)
 split mark ts = split_from mark None 0 0 ts
+
+-- ---- chunks
+
+-- the chunks of what follows the first n terminals
+abbrev pub chunks_behind : (List Terminal → ℕ) → ℕ → List Terminal → List (List Terminal)
+chunks_behind len n [] = []
+chunks_behind len zero (t ∷ ts) = take (len (t ∷ ts)) (t ∷ ts) ∷ chunks_behind len (len (t ∷ ts) - 1) ts
+chunks_behind len (suc n) (t ∷ ts) = chunks_behind len n ts
+
+-- A list cut into chunks, of which `len` says how many terminals the first has: the others are those of what follows it.
+unfoldable pub chunks : (List Terminal → ℕ) → List Terminal → List (List Terminal)
+chunks len ts = chunks_behind len 0 ts
+
+-- where the first has a terminal
+abbrev pub ChunksFollow : Type 0
+ChunksFollow =
+    (len : List Terminal → ℕ) (t : Terminal) (ts : List Terminal) → 1 ≤ len (t ∷ ts) →
+    chunks len (t ∷ ts) ≡ take (len (t ∷ ts)) (t ∷ ts) ∷ chunks len (drop (len (t ∷ ts)) (t ∷ ts))
 
 -- ---- bracket lists
 

@@ -1,5 +1,5 @@
 -- Which statement a list of terminals is, and the tree of a text.
-use Rattle.std.specs.Prelude.{◌≡◌, ◌<◌, ℕ, ◌-◌, ◌^◌, take, List, [], ◌∷◌, length, slice_index_or, false, not, if◌then◌else◌, Option, Some, None, is_some, Result, Ok, Err}
+use Rattle.std.specs.Prelude.{◌≡◌, ◌<◌, ℕ, ◌-◌, ◌^◌, take, List, [], ◌∷◌, length, slice_index_or, not, if◌then◌else◌, Option, Some, None, is_some, Result, Ok, Err}
 use Rattle.std.specs.Option.{option_and_then}
 use Rattle.sql_keyword.specs.declared.words.Keyword.TheVariants as k
 use Rattle.sql_token.specs.declared.token.Span.{Span}

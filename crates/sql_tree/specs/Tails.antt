@@ -1,6 +1,6 @@
 -- What follows the lead words of a statement, where no row can say it (PostgreSQL manual: DROP TABLE, REINDEX, VACUUM,
 -- TRUNCATE, SET, LOCK).
-use Rattle.std.specs.Prelude.{ℕ, ◌-◌, nat_lt, Bool, true, false, ◌&&◌, ◌||◌, if◌then◌else◌, List, [], ◌∷◌, length, map, take, drop, slice_index_or, Option, Some, None}
+use Rattle.std.specs.Prelude.{ℕ, ◌-◌, nat_lt, Bool, true, false, ◌&&◌, ◌||◌, if◌then◌else◌, List, [], ◌∷◌, length, map, drop, slice_index_or, Option, Some, None}
 use Rattle.std.specs.Option.{option_and_then}
 use Rattle.std.specs.List.{list_any}
 use Rattle.sql_keyword.specs.declared.words.Keyword.{Keyword}
@@ -17,7 +17,7 @@ use Rattle.sql_tree.specs.declared.nodes.LockMode.{LockMode}
 use Rattle.sql_tree.specs.declared.nodes.ReindexTarget.{ReindexTarget}
 use Rattle.sql_tree.specs.declared.nodes.ReindexTarget.TheVariants as target
 use Rattle.sql_tree.specs.declared.other_forms.TheConstants.{LOCK_MODES}
-use Rattle.sql_tree.specs.Forms.{behind_word, behind_words, names_end, either_of}
+use Rattle.sql_tree.specs.Forms.{behind_word, behind_words, either_of}
 use Rattle.sql_tree.specs.Groups.{inside_list, path_first}
 use Rattle.sql_tree.specs.Split.{comma, split, begins_with, begins_list, closing, is_comma_symbol}
 

@@ -1,5 +1,5 @@
 -- What a query gives and what a statement writes (PostgreSQL manual, SELECT, INSERT, UPDATE, MERGE, CREATE VIEW).
-use Rattle.std.specs.Prelude.{ℕ, ◌+◌, ◌-◌, ◌==◌, Bool, true, false, not, ◌&&◌, ◌||◌, if◌then◌else◌, List, [], ◌∷◌, length, drop, map, option_to_list, Option, Some, None}
+use Rattle.std.specs.Prelude.{ℕ, ◌-◌, ◌==◌, Bool, true, false, not, ◌&&◌, ◌||◌, if◌then◌else◌, List, [], ◌∷◌, length, drop, map, option_to_list, Option, Some, None}
 use Rattle.std.specs.List.{filter_map}
 use Rattle.std.specs.Option.{option_and_then}
 use Rattle.sql_keyword.specs.declared.words.Keyword.{Keyword}
@@ -8,8 +8,8 @@ use Rattle.sql_token.specs.declared.token.Span.{Span}
 use Rattle.sql_token.specs.declared.terminal.Symbol.{Symbol}
 use Rattle.sql_token.specs.declared.terminal.Symbol.TheVariants as s
 use Rattle.sql_token.specs.declared.terminal.Terminal.{Terminal}
-use Rattle.sql_token.specs.Terminal.{is_keyword, is_name, is_dot, is_opener, is_closer}
-use Rattle.sql_token.specs.Depth.{one_if, span_of}
+use Rattle.sql_token.specs.Terminal.{is_keyword, is_name, is_dot}
+use Rattle.sql_token.specs.Depth.{span_of}
 use Rattle.sql_tree.specs.declared.kinds.StmtKind.{StmtKind}
 use Rattle.sql_tree.specs.declared.kinds.StmtKind.TheVariants as stmt
 use Rattle.sql_tree.specs.declared.nodes.SetPart.{SetPart}
@@ -18,20 +18,25 @@ use Rattle.sql_tree.specs.declared.nodes.TableWrite.{TableWrite}
 use Rattle.sql_tree.specs.declared.nodes.ViewDefinition.{ViewDefinition}
 use Rattle.sql_tree.specs.Forms.{names_end, behind_word, behind_words}
 use Rattle.sql_tree.specs.Groups.{is_open_square_symbol, is_list, inside_list}
-use Rattle.sql_tree.specs.Split.{Test, comma, word, equals, do_update_set, then_update_set, then_insert, clause_end, merge_clause_end, target_list_end, begins_with, begins_list, behind_list, has, until, from_mark, split, all_of}
+use Rattle.sql_tree.specs.Split.{Test, comma, word, equals, do_update_set, then_update_set, then_insert, clause_end, merge_clause_end, target_list_end, begins_list, behind_list, has, until, from_mark, split, all_of}
 
 -- ---- names with accessors: `.name` and `[..]`
 
--- whether t may stand at depth 0 behind the terminal before it
-abbrev pub may_follow : Terminal → Terminal → Bool
-may_follow earlier t = if is_dot earlier then is_name t else is_dot t || is_open_square_symbol t.symbol
+abbrev pub is_behind_dot : Option Terminal → Bool
+is_behind_dot None = false
+is_behind_dot (Some earlier) = is_dot earlier
 
--- These are accessors to the end, behind this terminal, o openers and c closers.
-abbrev pub are_accessors : Terminal → ℕ → ℕ → List Terminal → Bool
-are_accessors earlier o c [] = not (is_dot earlier)
-are_accessors earlier o c (t ∷ ts) =
-    if o == c && not (may_follow earlier t) then false
-    else are_accessors t (o + one_if (is_opener t)) (c + one_if (is_closer t)) ts
+abbrev pub begins_name : List Terminal → Bool
+begins_name [] = false
+begins_name (t ∷ ts) = is_name t
+
+-- `[`, a dot with a name behind it, or a name behind a dot
+abbrev pub is_accessor : Option Terminal → Terminal → List Terminal → Bool
+is_accessor earlier t after = is_open_square_symbol t.symbol || (is_dot t && begins_name after) || (is_name t && is_behind_dot earlier)
+
+-- what is no part of the accessors of a name
+unfoldable pub no_accessor : Option Terminal → Terminal → List Terminal → Bool
+no_accessor earlier t after = not (is_accessor earlier t after)
 
 abbrev pub target_named : ℕ → Bool → Target
 target_named number partial = record { name = number; partial = partial }
@@ -40,7 +45,7 @@ target_named number partial = record { name = number; partial = partial }
 unfoldable pub target : List Terminal → Option Target
 target [] = None
 target (t ∷ ts) =
-    if is_name t && are_accessors t 0 0 ts then Some (target_named t.number (not (length ts == 0))) else None
+    if is_name t && not (has no_accessor ts) then Some (target_named t.number (not (length ts == 0))) else None
 
 -- the targets between commas: what is none is left out
 unfoldable pub targets_between : List Terminal → List Target

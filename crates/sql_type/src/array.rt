@@ -1,7 +1,8 @@
 //! Types, arrays among them.
 
-ghost use Rattle.std.specs.Prelude.{◌≡◌, ◌≤◌, ◌+◌, length};
+ghost use Rattle.std.specs.Prelude.{◌≡◌, ◌≤◌, ◌==◌, not, if◌then◌else◌, length};
 ghost use Rattle.sql_tree.specs.ColumnType as spec;
+ghost use Rattle.sql_tree.specs.Groups.{is_open_square_symbol};
 
 use crate::plain::plain_type;
 use sql_mark::{Mark, begins_with, closing, span_of, terminals_before};
@@ -20,7 +21,7 @@ pub fn type_len(terminals: &[Terminal]) -> usize
 /// Whether a terminal is no part of the bracket groups `[ .. ]` that end a list, where it stands behind `count`
 /// terminals, of which the first `kept` are none either.
 fn is_kept(outside: bool, kept: usize, count: usize, t: Terminal) -> bool
-    ensures { result ≡ spec.is_kept outside kept count t }
+    ensures { result ≡ if outside then not (is_open_square_symbol t.symbol) else kept == count }
 {
     if outside {
         !matches!(t.symbol, Symbol::OpenSquare)
@@ -30,7 +31,7 @@ fn is_kept(outside: bool, kept: usize, count: usize, t: Terminal) -> bool
 }
 
 /// How many terminals stand before the bracket groups `[ .. ]` that end the list.
-#[tactic(auto, unfolding(sql_tree::specs::ColumnType::before_groups))]
+#[tactic(auto, using(crate::proofs::Groups::kept_at_end))]
 fn before_groups(terminals: &[Terminal]) -> usize
     ensures value { result ≡ spec.before_groups terminals.now }
     ensures within { result ≤ length terminals.now }
@@ -67,12 +68,13 @@ fn array_of(terminals: &[Terminal], inner: &[Terminal]) -> Option<ColType>
     Some(ty)
 }
 
-/// A type and its bracket groups.
+/// A type and its bracket groups, before which `count` terminals stand.
 #[tactic(auto, unfolding(sql_tree::specs::ColumnType::array_by_groups))]
-fn array_by_groups(terminals: &[Terminal]) -> Option<ColType>
+fn array_by_groups(terminals: &[Terminal], count: usize) -> Option<ColType>
+    requires counted { count ≡ spec.before_groups terminals.now }
+    requires within { count ≤ length terminals.now }
     ensures { result ≡ spec.array_by_groups terminals.now }
 {
-    let count = before_groups(terminals);
     if count < terminals.len() {
         array_of(terminals, &terminals[..count])
     } else {
@@ -90,12 +92,13 @@ fn ends_with(word: Keyword, terminals: &[Terminal]) -> bool
     begins_with(word, &terminals[terminals.len() - 1..])
 }
 
-/// A type, the word ARRAY, and no more than one group.
+/// A type, the word ARRAY, and no more than one group, before which `count` terminals stand.
 #[tactic(auto, unfolding(sql_tree::specs::ColumnType::array_by_word))]
-fn array_by_word(terminals: &[Terminal]) -> Option<ColType>
+fn array_by_word(terminals: &[Terminal], count: usize) -> Option<ColType>
+    requires counted { count ≡ spec.before_groups terminals.now }
+    requires within { count ≤ length terminals.now }
     ensures { result ≡ spec.array_by_word terminals.now }
 {
-    let count = before_groups(terminals);
     let groups = &terminals[count..];
     if ends_with(Keyword::Array, &terminals[..count]) && closing(groups) == groups.len() {
         array_of(terminals, &terminals[..count.saturating_sub(1)])
@@ -110,11 +113,12 @@ fn array_by_word(terminals: &[Terminal]) -> Option<ColType>
 pub fn column_type(terminals: &[Terminal]) -> Option<ColType>
     ensures { result ≡ spec.column_type terminals.now }
 {
-    if let Some(ty) = array_by_word(terminals) {
+    let count = before_groups(terminals);
+    if let Some(ty) = array_by_word(terminals, count) {
         return Some(ty);
     }
-    match array_by_groups(terminals) {
-        Some(ty) => Some(ty),
-        None => plain_type(terminals),
+    if let Some(ty) = array_by_groups(terminals, count) {
+        return Some(ty);
     }
+    plain_type(terminals)
 }

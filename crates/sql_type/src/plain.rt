@@ -203,9 +203,11 @@ pub(crate) fn plain_type(terminals: &[Terminal]) -> Option<ColType>
 {
     match terminals {
         [] => None,
-        [first, rest @ ..] => match symbol_type(first.symbol, terminals, rest) {
-            Some(ty) => Some(ty),
-            None => path_type(terminals),
-        },
+        [first, rest @ ..] => {
+            if let Some(ty) = symbol_type(first.symbol, terminals, rest) {
+                return Some(ty);
+            }
+            path_type(terminals)
+        }
     }
 }

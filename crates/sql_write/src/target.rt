@@ -1,6 +1,7 @@
 //! Names with accessors, `.name` and `[..]`: what a SET clause or a list of columns writes to.
 
-ghost use Rattle.std.specs.Prelude.{◌≡◌, IfOk};
+ghost use Rattle.std.specs.Prelude.{◌≡◌, not, IfOk};
+ghost use Rattle.sql_tree.specs.Split.{has};
 ghost use Rattle.sql_tree.specs.Write as spec;
 
 use sql_constraint::make_room;
@@ -11,27 +12,44 @@ use sqlite_items::Items;
 use std::alloc::Global;
 use text_pos::NoMemory;
 
-/// Whether `t` may stand at depth 0 behind the terminal before it.
-fn may_follow(earlier: Terminal, t: Terminal) -> bool
-    ensures { result ≡ spec.may_follow earlier t }
+fn is_behind_dot(earlier: Option<Terminal>) -> bool
+    ensures { result ≡ spec.is_behind_dot earlier }
 {
-    if earlier.is_dot() {
-        t.is_name()
-    } else {
-        t.is_dot() || matches!(t.symbol, Symbol::OpenSquare)
+    match earlier {
+        None => false,
+        Some(earlier) => earlier.is_dot(),
     }
 }
 
-/// Whether these are accessors to the end, behind this terminal.
-fn are_accessors(first: Terminal, terminals: &[Terminal]) -> bool
-    ensures { result ≡ spec.are_accessors first 0 0 terminals.now }
+fn begins_name(terminals: &[Terminal]) -> bool
+    ensures { result ≡ spec.begins_name terminals.now }
+{
+    match terminals {
+        [] => false,
+        [first, ..] => first.is_name(),
+    }
+}
+
+/// Whether `t` is `[`, a dot with a name behind it, or a name behind a dot.
+fn is_accessor(earlier: Option<Terminal>, t: Terminal, after: &[Terminal]) -> bool
+    ensures { result ≡ spec.is_accessor earlier t after.now }
+{
+    matches!(t.symbol, Symbol::OpenSquare)
+        || (t.is_dot() && begins_name(after))
+        || (t.is_name() && is_behind_dot(earlier))
+}
+
+/// Whether these are the accessors of a name, to the end.
+#[tactic(auto, unfolding(sql_tree::specs::Write::no_accessor, sql_tree::specs::Split::before))]
+fn are_accessors(terminals: &[Terminal]) -> bool
+    ensures { result ≡ not (has spec.no_accessor terminals.now) }
 {
     let mut left = terminals;
-    let mut earlier = first;
+    let mut earlier = None;
     let mut opened = 0usize;
     let mut closed = 0usize;
     while let [t, rest @ ..] = left {
-        if opened == closed && !may_follow(earlier, *t) {
+        if opened == closed && !is_accessor(earlier, *t, rest) {
             return false;
         }
         if t.is_opener() {
@@ -40,10 +58,10 @@ fn are_accessors(first: Terminal, terminals: &[Terminal]) -> bool
         if t.is_closer() {
             closed += 1;
         }
-        earlier = *t;
+        earlier = Some(*t);
         left = rest;
     }
-    !earlier.is_dot()
+    true
 }
 
 /// A name and its accessors, all of these terminals.
@@ -54,7 +72,7 @@ pub(crate) fn target(terminals: &[Terminal]) -> Option<Target>
     match terminals {
         [] => None,
         [first, rest @ ..] => {
-            if first.is_name() && are_accessors(*first, rest) {
+            if first.is_name() && are_accessors(rest) {
                 Some(Target {
                     name: first.number,
                     partial: !rest.is_empty(),

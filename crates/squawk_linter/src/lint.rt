@@ -27,7 +27,7 @@ use text_pos::NoMemory;
 fn clear(file: &Parse<'_>, settings: &mut LinterSettings)
     ensures { settings.new ≡ cleared file.now settings.old }
 {
-    if has_disable_assume_in_transaction(file) {
+    if settings.assume_in_transaction && has_disable_assume_in_transaction(file) {
         settings.assume_in_transaction = false;
     }
 }

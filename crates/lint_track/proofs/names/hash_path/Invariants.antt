@@ -7,10 +7,10 @@ use Rattle.lint_track.specs.NamesLeft.{names_left}
 use Rattle.lint_track.proofs.names.hash_path.Given as goal
 
 -- the names so far were written
-abbrev pub invariant-loop-name : goal.invariant-loop-name
-invariant-loop-name l =
+abbrev pub invariant-loop-number : goal.invariant-loop-number
+invariant-loop-number l =
     fold folding.write l.hasher (flat_map text_writes (names_left l.names))
     ≡ fold folding.write folding.initial (flat_map text_writes (path_cuts l.p.text l.p.toks l.fn.span))
 
-abbrev pub decreases-loop-name : goal.decreases-loop-name
-decreases-loop-name l = length (names_left l.names)
+abbrev pub decreases-loop-number : goal.decreases-loop-number
+decreases-loop-number l = length (names_left l.names)

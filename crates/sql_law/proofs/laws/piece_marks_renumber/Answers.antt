@@ -2,6 +2,7 @@ use Rattle.sql_law.proofs.Marks as law
 use Rattle.sql_law.proofs.Types as types
 use Rattle.sql_law.proofs.Constraints as constraints
 use Rattle.sql_law.proofs.ActionPieces as pieces
+use Rattle.sql_law.proofs.Writes as writes
 use Rattle.sql_law.proofs.laws.piece_marks_renumber.Goals as goal
 
 pub returns-clause-type_end : goal.returns-clause-type_end
@@ -12,6 +13,15 @@ returns-clause-value_end c = types.value_end_is_blind
 
 pub returns-clause-constraint_start : goal.returns-clause-constraint_start
 returns-clause-constraint_start c = constraints.start_is_blind
+
+pub returns-clause-no_group : goal.returns-clause-no_group
+returns-clause-no_group c = types.no_group_is_blind
+
+pub returns-clause-only_groups : goal.returns-clause-only_groups
+returns-clause-only_groups c = types.only_groups_is_blind
+
+pub returns-clause-no_accessor : goal.returns-clause-no_accessor
+returns-clause-no_accessor c = writes.no_accessor_is_blind
 
 pub returns-clause-sequence_option : goal.returns-clause-sequence_option
 returns-clause-sequence_option c = pieces.sequence_is_blind

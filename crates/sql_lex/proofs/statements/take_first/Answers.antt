@@ -1,40 +1,52 @@
-use Rattle.std.proofs.Common.{◌+◌, arith, rules, ◌∷◌, sym, ap, ◌∙◌}
+use Rattle.std.proofs.Common.{refl, ◌+◌, ◌<◌, length, arith, ◌∷◌, sym, ap, ◌∙◌}
+use Rattle.sql_token.specs.declared.token.TokKind.TheVariants.{Blank}
 use Rattle.sql_lex.proofs.Walk.{lies_at, after_some, after_all, goes_on, goes_over, no_mark, ends, runs_out, terminals_after}
 use Rattle.sql_lex.proofs.statements.take_first.Goals as goal
 
-pub terminal_of-terminal-requires : goal.terminal_of-terminal-requires
-terminal_of-terminal-requires c = lies_at _ c.args.toks.now c.loop-number.number _ c.requires.walk.lie c.loop-number-test.true
-
-pub returns-then-ends_statement : goal.returns-then-ends_statement
-returns-then-ends_statement c =
-    let begins = after_some c.args.text.now c.args.toks.now c.loop-number.number _ c.loop-number-test.true (search rules) ∙ ap (λ t. t ∷ terminals_after c.args.text.now c.args.toks.now (c.loop-number.number + 1)) (sym c.terminal_of-terminal.ensures) in
+pub returns-then-number-toks : goal.returns-then-number-toks
+returns-then-number-toks c =
+    let over = c.in_ok-number.ensures in
     record {
-      within = omega arith;
-      step = rw c.in_ok-push.ensures.items (ends c.loop-number.statement.items c.loop-number.opened c.loop-number.closed c.terminal_of-terminal.result _ _ _ begins (sym c.ends_statement.ensures ∙ c.if-ends_statement.true) c.loop-number.invariant.same);
+      within = over.within;
+      step = runs_out c.push_words.new.statement.items _ c.marks.opened c.marks.closed _ (after_all c.args.text.now c.args.toks.now c.in_ok-number.number (omega arith)) (over.same c.marks.opened c.marks.closed ∙ c.marks.invariant.same);
     }
 
-pub loop-number-preserved-then-not-is_mark : goal.loop-number-preserved-then-not-is_mark
-loop-number-preserved-then-not-is_mark c =
-    let begins = after_some c.args.text.now c.args.toks.now c.loop-number.number _ c.loop-number-test.true (search rules) ∙ ap (λ t. t ∷ terminals_after c.args.text.now c.args.toks.now (c.loop-number.number + 1)) (sym c.terminal_of-terminal.ensures) in
+pub other_terminal-requires-clause-within : goal.other_terminal-requires-clause-within
+other_terminal-requires-clause-within c = lies_at _ c.args.toks.now c.in_ok-number.number _ c.requires.walk.lie (omega arith)
+
+pub marks-preserved-then-not-is_punct : goal.marks-preserved-then-not-is_punct
+marks-preserved-then-not-is_punct c =
+    let over = c.in_ok-number.ensures in
+    let less : c.in_ok-number.number < length c.args.toks.now = omega arith in
+    let begins = after_some c.args.text.now c.args.toks.now c.in_ok-number.number _ less (over.stops (record { kind = Blank; start = 0; end = 0 }) less).0 ∙ ap (λ t. t ∷ terminals_after c.args.text.now c.args.toks.now (c.in_ok-number.number + 1)) (sym c.other_terminal.ensures) in
     record {
       within = omega arith;
-      opened = omega arith;
-      closed = omega arith;
-      same = rw c.in_ok-push.ensures.items (goes_over c.loop-number.statement.items c.loop-number.opened c.loop-number.closed c.terminal_of-terminal.result _ _ _ begins (no_mark _ _ _ _ c.terminal_of-terminal.ensures (c.is_mark.ensures c.if-not-is_mark.true)) c.loop-number.invariant.same);
+      opened = omega (arith, over.begun);
+      closed = omega (arith, over.begun);
+      same = rw c.in_ok-push.ensures.items (goes_over c.push_words.new.statement.items c.marks.opened c.marks.closed c.other_terminal.result _ _ _ begins (no_mark _ _ _ _ c.other_terminal.ensures (c.if-not-is_punct.ensures.other refl)) (over.same c.marks.opened c.marks.closed ∙ c.marks.invariant.same));
     }
 
-pub loop-number-preserved : goal.loop-number-preserved
-loop-number-preserved c =
-    let begins = after_some c.args.text.now c.args.toks.now c.loop-number.number _ c.loop-number-test.true (search rules) ∙ ap (λ t. t ∷ terminals_after c.args.text.now c.args.toks.now (c.loop-number.number + 1)) (sym c.terminal_of-terminal.ensures) in
+pub mark_terminal-terminal-requires-clause-within : goal.mark_terminal-terminal-requires-clause-within
+mark_terminal-terminal-requires-clause-within c = lies_at _ c.args.toks.now c.in_ok-number.number _ c.requires.walk.lie (omega arith)
+
+pub returns-in_default : goal.returns-in_default
+returns-in_default c =
+    let over = c.in_ok-number.ensures in
+    let less : c.in_ok-number.number < length c.args.toks.now = omega arith in
+    let begins = after_some c.args.text.now c.args.toks.now c.in_ok-number.number _ less (over.stops (record { kind = Blank; start = 0; end = 0 }) less).0 ∙ ap (λ t. t ∷ terminals_after c.args.text.now c.args.toks.now (c.in_ok-number.number + 1)) (sym c.mark_terminal-terminal.ensures) in
     record {
       within = omega arith;
-      opened = omega (arith, c.one_if-opened.ensures.small);
-      closed = omega (arith, c.one_if-closed.ensures.small);
-      same = rw (c.in_ok-push.ensures.items, c.one_if-opened.ensures.value, c.one_if-closed.ensures.value, c.is_opener.ensures, c.is_closer.ensures) (goes_on c.loop-number.statement.items c.loop-number.opened c.loop-number.closed c.terminal_of-terminal.result _ _ _ begins (sym c.ends_statement.ensures ∙ c.if-ends_statement.false) c.loop-number.invariant.same);
+      step = rw c.in_ok-push-2.ensures.items (ends c.push_words.new.statement.items c.marks.opened c.marks.closed c.mark_terminal-terminal.result _ _ _ begins c.in_default.ensures.ends (over.same c.marks.opened c.marks.closed ∙ c.marks.invariant.same));
     }
 
-pub returns : goal.returns
-returns c = record {
-  within = c.loop-number.invariant.within;
-  step = runs_out c.loop-number.statement.items _ c.loop-number.opened c.loop-number.closed _ (after_all c.args.text.now c.args.toks.now c.loop-number.number c.loop-number-test.false) c.loop-number.invariant.same;
-}
+pub marks-preserved : goal.marks-preserved
+marks-preserved c =
+    let over = c.in_ok-number.ensures in
+    let less : c.in_ok-number.number < length c.args.toks.now = omega arith in
+    let begins = after_some c.args.text.now c.args.toks.now c.in_ok-number.number _ less (over.stops (record { kind = Blank; start = 0; end = 0 }) less).0 ∙ ap (λ t. t ∷ terminals_after c.args.text.now c.args.toks.now (c.in_ok-number.number + 1)) (sym c.mark_terminal-terminal.ensures) in
+    record {
+      within = omega arith;
+      opened = omega (arith, over.begun, c.in-Some.ensures.small);
+      closed = omega (arith, over.begun, c.in-Some.ensures.small);
+      same = rw (c.in_ok-push-3.ensures.items, c.in-Some.ensures.counts.0, c.in-Some.ensures.counts.1) (goes_on c.push_words.new.statement.items c.marks.opened c.marks.closed c.mark_terminal-terminal.result _ _ _ begins c.in-Some.ensures.on (over.same c.marks.opened c.marks.closed ∙ c.marks.invariant.same));
+    }

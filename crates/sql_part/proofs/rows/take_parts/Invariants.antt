@@ -1,6 +1,9 @@
-use Rattle.std.proofs.Common.{◌≡◌, drop}
+use Rattle.std.proofs.Common.{◌≡◌, length}
 use Rattle.sql_tree.specs.Forms.{in_turn}
 use Rattle.sql_part.proofs.rows.take_parts.Given as goal
 
-abbrev pub invariant-loop-part : goal.invariant-loop-part
-invariant-loop-part l = in_turn (drop l.part-index l.parts) l.kept l.here ≡ in_turn l.parts l.fn.kept l.fn.left
+abbrev pub invariant-loop-rest : goal.invariant-loop-rest
+invariant-loop-rest l = in_turn l.rest l.kept l.here ≡ in_turn l.fn.parts l.fn.kept l.fn.left
+
+abbrev pub decreases-loop-rest : goal.decreases-loop-rest
+decreases-loop-rest l = length l.rest

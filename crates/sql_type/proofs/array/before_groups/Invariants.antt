@@ -1,5 +1,5 @@
 use Rattle.std.proofs.Common.{◌≡◌, ◌≤◌, length, ◌+◌}
-use Rattle.sql_tree.specs.ColumnType.{kept_from}
+use Rattle.sql_type.proofs.Groups.{kept_from}
 use Rattle.sql_type.proofs.array.before_groups.Given as goal
 
 abbrev pub invariant-loop-left : goal.invariant-loop-left

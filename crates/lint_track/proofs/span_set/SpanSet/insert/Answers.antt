@@ -1,25 +1,6 @@
-use Rattle.std.proofs.Common.{Result, Ok, Err, OnOk, ◌∙◌, sym, ap, refl}
-use Rattle.lint_track.specs.SpanSet.{Spans, key_of, hash_of}
-use Rattle.lint_track.proofs.SpanLaws.{hashed_span, held_span, list_span, put_span}
+use Rattle.lint_track.proofs.SpanLaws.{on_ok, list_span}
 use Rattle.lint_track.proofs.span_set.SpanSet.insert.Goals as goal
-
-on_ok : {X E : Type 0} (r : Result X E) (P Q : Type 0) → (P → Q) → OnOk r P → OnOk r Q
-on_ok (Ok x) P Q f p = f p
-on_ok (Err e) P Q f p = tt
 
 pub returns-then-len-lt-FEW-clause-ok : goal.returns-then-len-lt-FEW-clause-ok
 returns-then-len-lt-FEW-clause-ok c =
     on_ok c.list.result _ _ (λ lists. list_span c.args.p.now c.args.self.now c.list.new.self c.args.span lists) c.list.ensures.ok
-
-pub returns-then-is_hashed-clause-ok : goal.returns-then-is_hashed-clause-ok
-returns-then-is_hashed-clause-ok c names =
-    let p = c.args.p.now in
-    let set = c.args.self.now in
-    held_span p set (key_of set.key p c.args.span) names (hashed_span p set _ (sym c.is_hashed.ensures ∙ c.if-is_hashed.true))
-
-pub returns-else-is_hashed-clause-ok : goal.returns-else-is_hashed-clause-ok
-returns-else-is_hashed-clause-ok c =
-    let p = c.args.p.now in
-    let set = c.args.self.now in
-    let hashed = c.hash-hash.ensures ∙ ap (λ (k : Spans). hash_of (key_of k.key p c.args.span)) c.self.view_is in
-    on_ok c.add.result _ _ (λ puts names. put_span p set c.add.new.self c.hash-hash.result c.args.span (key_of set.key p c.args.span) puts hashed refl names) c.add.ensures.ok

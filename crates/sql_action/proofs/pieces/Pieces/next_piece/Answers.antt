@@ -1,0 +1,5 @@
+use Rattle.sql_action.proofs.Skips.{none_left}
+use Rattle.sql_action.proofs.pieces.Pieces.next_piece.Goals as goal
+
+pub returns-then-is_empty : goal.returns-then-is_empty
+returns-then-is_empty c = none_left c.self.inside.list c.self.inside.left.now _ _ c.self.view_is c.is_empty.ensures c.if-is_empty.true
