@@ -42,11 +42,15 @@ impl Reports {
     }
 
     /// Adds the reports of another list, in their order. The error is want of memory; then a first
-    /// part of them has been added.
+    /// part of them has been added. To an empty list it takes no memory.
     pub fn append(&mut self, other: Reports) -> Result<(), NoMemory>
         ensures ok { OnOk result (self.new ≡ self.old ++ other) }
         ensures err { OnErr result (GrownBy self.old self.new other) }
     {
+        if self.items.is_empty() {
+            *self = other;
+            return Ok(());
+        }
         for v in other.into_items() {
             self.push(v)?;
         }

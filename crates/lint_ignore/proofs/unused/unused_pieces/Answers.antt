@@ -1,3 +1,5 @@
+use Rattle.std.proofs.Common.{arith}
+use Rattle.std.proofs.lemmas.Grind.{common_steps}
 use Rattle.std.proofs.Common.{◌≡◌, ◌∙◌}
 use Rattle.lint_base.specs.Grown.{GrownBy, at_err}
 use Rattle.lint_ignore.specs.Unused.{unused_among, unused_names}
@@ -34,3 +36,6 @@ loop-piece-preserved c =
       | else-is_unused w ↦ none_reported c.text-text.result.now c.args.ignores.now c.args.all.now c.remove.new.self c.args.pieces.now c.loop-piece.piece-index c.piece-item.result c.is_unused.result c.args.out.now c.loop-piece.out c.if-is_unused.out c.loop-piece-test.true c.piece-item.is
           (c.is_unused.ensures c.text-text.result.now c.args.all.now c.in_ok-index.ensures) w.if-is_unused.false c.loop-piece.invariant w.out-is
     ]
+
+pub returns-clause-ok : goal.returns-clause-ok
+returns-clause-ok c = grind (arith, common_steps)

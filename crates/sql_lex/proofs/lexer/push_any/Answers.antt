@@ -11,3 +11,6 @@ returns-in_ok-push-in-Some-clause-ok c = (
   omega (arith, c.in-Some.ensures.within),
   rw c.in_ok-push-in-Some.ensures.items (leads_push c.args.text.now 0 c.args.at c.args.toks.now.items _ c.requires.lead refl c.in-Some.ensures.found),
 )
+
+pub returns-in-None-clause-err : goal.returns-in-None-clause-err
+returns-in-None-clause-err c = grind arith

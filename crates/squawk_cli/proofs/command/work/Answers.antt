@@ -1,3 +1,4 @@
+use Rattle.std.proofs.Common.{arith}
 use Rattle.std.proofs.Common.{◌≡◌, Some}
 use Rattle.squawk_words.specs.Config.{config_of}
 use Rattle.squawk_cli.specs.Outcome.{InputFor, WrittenFor}
@@ -71,3 +72,9 @@ returns-clause-written g c =
     (λ t. WrittenFor Found c.args.words.now t (g.K.Sink.held c.args.out.now) (g.K.Sink.held c.write_all.new.sink)) e.taken e.ended c.as_slice.ensures.value
     (whole_page c.args.words.now c.in-Ok-Some.config _ _ _ _ _ c.as_slice-2.result.now named page c.as_slice-2.ensures.value
     (all_taken c.write_all.result c.is_err.result c.is_err.ensures.negation c.if-is_err.false c.write_all.ensures.whole))
+
+pub returns-in-Err-NoMemory-clause-source : goal.returns-in-Err-NoMemory-clause-source
+returns-in-Err-NoMemory-clause-source g c = grind arith
+
+pub returns-in-Err-clause-words : goal.returns-in-Err-clause-words
+returns-in-Err-clause-words g c = grind arith

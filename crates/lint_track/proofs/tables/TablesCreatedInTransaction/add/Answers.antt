@@ -1,3 +1,4 @@
+use Rattle.std.proofs.Common.{arith}
 use Rattle.std.proofs.Common.{◌∙◌, sym, ap, ◌||◌}
 use Rattle.std.specs.Cmp.Derive.Mapped.{pointwise-map}
 use Rattle.std.specs.Str.{bytes_eq}
@@ -12,3 +13,12 @@ pub returns-clause-ok : goal.returns-clause-ok
 returns-clause-ok c q =
     put_path names_of _ (λ a b. sym (pointwise-map name_cut bytes_eq a.names.items b.names.items)) c.self.inside.tables.keys c.insert.new.self.keys c.args.path c.in_ok-insert.field-0 c.in_ok-insert.ensures.added c.in_ok-insert.ensures.keys q
     ∙ ap (λ (k : Known). same_path q (names_of c.args.path) || holds k q) c.self.view_is
+
+pub returns-in_err-insert-clause-err : goal.returns-in_err-insert-clause-err
+returns-in_err-insert-clause-err c = grind arith
+
+pub returns-in_err-insert-clause-ok : goal.returns-in_err-insert-clause-ok
+returns-in_err-insert-clause-ok c = grind arith
+
+pub returns-in_err-insert-clause-open : goal.returns-in_err-insert-clause-open
+returns-in_err-insert-clause-open c = grind arith

@@ -1,0 +1,5 @@
+use Rattle.std.proofs.Common.{arith}
+use Rattle.lint_ignore.proofs.index.IgnoreIndex.add.Goals as goal
+
+pub returns-in-Line : goal.returns-in-Line
+returns-in-Line c = grind arith

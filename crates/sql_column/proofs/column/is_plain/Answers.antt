@@ -1,0 +1,5 @@
+use Rattle.std.proofs.Common.{arith}
+use Rattle.sql_column.proofs.column.is_plain.Goals as goal
+
+pub returns-in-Word : goal.returns-in-Word
+returns-in-Word c = grind arith

@@ -1,0 +1,7 @@
+use Rattle.std.proofs.Common.{arith}
+use Rattle.sql_tree.specs.Constraint.{constraint_in}
+use Rattle.sql_constraint.proofs.constraint.constraint_in.Goals as goal
+
+pub returns : goal.returns
+unfolding constraint_in
+returns c = grind arith

@@ -1,0 +1,7 @@
+use Rattle.std.proofs.Common.{arith}
+use Rattle.sql_tree.specs.Constraint.{by_index}
+use Rattle.sql_constraint.proofs.constraint.is_by_index.Goals as goal
+
+pub returns-then-is_key : goal.returns-then-is_key
+unfolding by_index
+returns-then-is_key c = grind arith

@@ -1,0 +1,5 @@
+use Rattle.std.proofs.Common.{arith}
+use Rattle.sql_part.proofs.reader.is_all_taken.Goals as goal
+
+pub returns-else-kept : goal.returns-else-kept
+returns-else-kept c = grind arith

@@ -1,0 +1,8 @@
+use Rattle.std.proofs.Common.{arith}
+use Rattle.std.proofs.lemmas.Grind.{common_steps}
+use Rattle.sql_tree.specs.Write.{behind_alias}
+use Rattle.sql_write.proofs.list.behind_alias.Goals as goal
+
+pub returns-in-len2-up : goal.returns-in-len2-up
+unfolding behind_alias
+returns-in-len2-up c = grind (arith, common_steps)
