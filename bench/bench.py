@@ -1,12 +1,14 @@
 #!/usr/bin/env python3
 """Measures the built program: processor time and peak memory on texts of several shapes and sizes.
 
-    bench/bench.py [--sizes 1K,1M,64M] [--shapes plain,comments] [PROGRAM]
+    bench/bench.py [--sizes 1K,1M,64M] [--shapes plain,comments] [--small-pages] [PROGRAM]
 
 PROGRAM is crates/squawk_main/out/squawk_main unless it is given (./squawk builds it). For each shape and size it prints
 the size in bytes, the user and system time in milliseconds, MB (10^6 bytes) a second of processor time, and the peak
-memory in bytes per byte of text (of a short text mostly this script's own, some 10 MB). A text that is refused counts as well: what is refused is read to its end. Each run
-is made three times, and the fastest is printed. Time is to grow in proportion to the text on every shape.
+memory in bytes per byte of text (of a short text mostly this script's own, some 10 MB). A text that is refused counts as
+well: what is refused is read to its end. Each run is made three times, and the fastest is printed. Time is to grow in
+proportion to the text on every shape. The program gets its memory in large pages, as ./squawk runs it, or as the system
+gives it by itself (--small-pages).
 """
 import argparse
 import os
@@ -80,9 +82,9 @@ def write(shape, size, file):
     return len(front) + count * length + len(end)
 
 
-def run(program, path):
+def run(program, path, environment):
     with open(path, "rb") as text, open(os.devnull, "wb") as nothing:
-        child = subprocess.Popen([program], stdin=text, stdout=nothing, stderr=nothing)
+        child = subprocess.Popen([program], stdin=text, stdout=nothing, stderr=nothing, env=environment)
         _, status, usage = os.wait4(child.pid, 0)
     child.returncode = os.waitstatus_to_exitcode(status)
     return child.returncode, usage.ru_utime, usage.ru_stime, usage.ru_maxrss * 1024
@@ -92,16 +94,21 @@ def main():
     words = argparse.ArgumentParser(description=__doc__, formatter_class=argparse.RawDescriptionHelpFormatter)
     words.add_argument("--sizes", default="1K,1M,8M,64M")
     words.add_argument("--shapes", default=",".join(SHAPES))
+    words.add_argument("--small-pages", action="store_true")
     words.add_argument("program", nargs="?", default=str(TOP / "crates/squawk_main/out/squawk_main"))
     given = words.parse_args()
     if not os.access(given.program, os.X_OK):
         sys.exit(f"{given.program} isn't built: run ./squawk once")
+    environment = dict(os.environ)
+    if not given.small_pages:
+        tunables = [environment.get("GLIBC_TUNABLES"), "glibc.malloc.hugetlb=1"]
+        environment["GLIBC_TUNABLES"] = ":".join(filter(None, tunables))
     print(f"{'shape':14} {'bytes':>9} status {'user ms':>8} {'sys ms':>7} {'MB/s':>6} {'memory':>6}")
     for shape in given.shapes.split(","):
         for size in given.sizes.split(","):
             with tempfile.NamedTemporaryFile() as file:
                 length = write(shape, size_of(size), file)
-                runs = [run(given.program, file.name) for _ in range(3)]
+                runs = [run(given.program, file.name, environment) for _ in range(3)]
             status, user, system, peak = min(runs, key=lambda r: r[1] + r[2])
             time = max(user + system, 1e-6)
             print(f"{shape:14} {length:9} {status:6} {user * 1e3:8.1f} {system * 1e3:7.1f} "

@@ -59,6 +59,20 @@ WHEN WHERE WINDOW WITH WITHOUT WORK WRAPPER
 ZONE
 """.split()
 
+# The words that begin a statement, and those that name a kind of object; all others stand in a third group. The prover's time
+# for a type grows with the cube of its variants, so no group is large.
+VERBS = """
+ABORT ALTER ANALYSE ANALYZE BEGIN CALL CHECKPOINT CLOSE CLUSTER COMMENT COMMIT COPY CREATE DEALLOCATE DECLARE DELETE DISCARD DO
+DROP END EXECUTE EXPLAIN FETCH GRANT IMPORT INSERT LISTEN LOAD LOCK MERGE MOVE NOTIFY PREPARE REASSIGN REFRESH REINDEX RELEASE
+REPACK RESET REVOKE ROLLBACK SAVEPOINT SELECT SET SHOW START TRUNCATE UNLISTEN UPDATE VACUUM VALUES WITH
+""".split()
+OBJECTS = """
+ACCESS AGGREGATE ATTRIBUTE CAST CLASS COLLATION COLUMN CONFIGURATION CONSTRAINT CONSTRAINTS CONVERSION DATA DATABASE DICTIONARY
+DOMAIN EVENT EXTENSION FAMILY FOREIGN FUNCTION GRAPH GROUP INDEX LANGUAGE LARGE MAPPING MATERIALIZED METHOD OBJECT OPERATOR
+PARSER PARTITION POLICY PRIVILEGES PROCEDURE PROPERTY PUBLICATION ROLE ROUTINE RULE SCHEMA SEARCH SEQUENCE SERVER STATISTICS
+SUBSCRIPTION SYSTEM TABLE TABLESPACE TEMPLATE TEXT TRANSFORM TRIGGER TYPE USER VIEW WRAPPER
+""".split()
+
 SLOTS = 512
 SHORTEST, LONGEST = 2, 15
 WEIGHTS = (1, 2, 4, 8, 16, 3, 5, 9)  # a product with one of these costs an instruction at most
@@ -111,10 +125,16 @@ def variant(word):
     return word.capitalize()
 
 
+def group(word):
+    """The group of the word."""
+    return "Verb" if word in VERBS else "Object" if word in OBJECTS else "Other"
+
+
 def cited(word):
     """The variant as antt names it."""
     name = variant(word)
-    return f"k.«{name}»" if name in RESERVED else f"k.{name}"
+    name = f"«{name}»" if name in RESERVED else name
+    return f"(k.{group(word)} {group(word).lower()}s.{name})"
 
 
 def array(name, of, values):
@@ -123,16 +143,52 @@ def array(name, of, values):
 
 
 def words_rt():
-    variants = "".join(f"    {variant(word)},\n" for word in WORDS)
+    of = lambda name: "".join(f"    {variant(word)},\n" for word in WORDS if group(word) == name)
+    consts = "".join(
+        f"    /// {word}.\n    pub const {word}: Keyword = Keyword::{group(word)}({group(word)}::{variant(word)});\n" for word in WORDS
+    )
     return f"""//! The keywords.
 {MADE_RT}
 ghost use Rattle.std.specs.Prelude.{{◌≡◌}};
 ghost use Rattle.sql_keyword.specs.Same.{{same_keyword}};
 
-/// A keyword of SQL. Its text is the variant's name in capital letters.
+use std::fmt;
+
+/// A keyword that begins a statement. Its text is the variant's name in capital letters.
 #[derive(Clone, Copy, Debug, PartialEq, Eq)]
+pub enum Verb {{
+{of("Verb")}}}
+
+/// A keyword that names a kind of object. Its text is the variant's name in capital letters.
+#[derive(Clone, Copy, Debug, PartialEq, Eq)]
+pub enum Object {{
+{of("Object")}}}
+
+/// Any other keyword. Its text is the variant's name in capital letters.
+#[derive(Clone, Copy, Debug, PartialEq, Eq)]
+pub enum Other {{
+{of("Other")}}}
+
+/// A keyword of SQL. Each has a constant, whose name is its text.
+#[derive(Clone, Copy, PartialEq, Eq)]
 pub enum Keyword {{
-{variants}}}
+    Verb(Verb),
+    Object(Object),
+    Other(Other),
+}}
+
+impl fmt::Debug for Keyword {{
+    fn fmt<W: fmt::Write>(&self, f: &mut fmt::Formatter<W>) -> fmt::Result {{
+        match self {{
+            Keyword::Verb(word) => fmt::Debug::fmt(word, f),
+            Keyword::Object(word) => fmt::Debug::fmt(word, f),
+            Keyword::Other(word) => fmt::Debug::fmt(word, f),
+        }}
+    }}
+}}
+
+impl Keyword {{
+{consts}}}
 
 /// Whether the two are one keyword: `==`, under a name that clauses and proofs keep whole.
 #[tactic(auto, unfolding(crate::specs::Same::same_keyword))]
@@ -173,7 +229,7 @@ pub const TEXTS: &[u8] =
 /// How many letters it has, or 0 where no keyword may stand.
 {array("LENGTHS", "u8", column(len, 0))}
 /// The keyword.
-{array("KEYWORDS", "Option<Keyword>", column(lambda word: f"Some(Keyword::{variant(word)})", "None"))}"""
+{array("KEYWORDS", "Option<Keyword>", column(lambda word: f"Some(Keyword::{word})", "None"))}"""
 
 
 def texts_antt():
@@ -182,6 +238,9 @@ def texts_antt():
 {MADE_ANTT}use Rattle.std.specs.Prelude.{{ℕ, List, codes}}
 use Rattle.sql_keyword.specs.declared.words.Keyword.{{Keyword}}
 use Rattle.sql_keyword.specs.declared.words.Keyword.TheVariants as k
+use Rattle.sql_keyword.specs.declared.words.Verb.TheVariants as verbs
+use Rattle.sql_keyword.specs.declared.words.Object.TheVariants as objects
+use Rattle.sql_keyword.specs.declared.words.Other.TheVariants as others
 
 unfoldable pub text : Keyword → List ℕ
 {lines}"""
@@ -193,6 +252,9 @@ def found_antt():
 {MADE_ANTT}use Rattle.std.proofs.Common.{{◌≡◌, refl, Some}}
 use Rattle.sql_keyword.specs.declared.words.Keyword.{{Keyword}}
 use Rattle.sql_keyword.specs.declared.words.Keyword.TheVariants as k
+use Rattle.sql_keyword.specs.declared.words.Verb.TheVariants as verbs
+use Rattle.sql_keyword.specs.declared.words.Object.TheVariants as objects
+use Rattle.sql_keyword.specs.declared.words.Other.TheVariants as others
 use Rattle.sql_keyword.specs.Texts.{{text}}
 use Rattle.sql_keyword.specs.Slots.{{slot, start_of, length_of, keyword_in, text_at, keyword_of}}
 

@@ -218,77 +218,80 @@ fn range(start: u32, end: u32) -> TextRange
     TextRange::new(TextSize::new(start), TextSize::new(end))
 }
 
+// Places in "a\nb\n", and the lines that they are in.
+const LINES: [(u32, u32); 4] = [(0, 0), (1, 0), (2, 1), (4, 2)];
+
 #[test]
 fn lines_are_counted(rt: HostRuntime) -> Result<(), Fail> {
     let index = LineIndex::new(rt.alloc(), "a\nb\n")?;
-    assert_eq!(rt; index.line(TextSize::new(0)), 0);
-    assert_eq!(rt; index.line(TextSize::new(1)), 0);
-    assert_eq!(rt; index.line(TextSize::new(2)), 1);
-    assert_eq!(rt; index.line(TextSize::new(4)), 2);
-    let empty = LineIndex::new(rt.alloc(), "")?;
-    assert_eq!(rt; empty.line(TextSize::new(0)), 0);
+    for (place, line) in &LINES {
+        assert!(rt; index.line(TextSize::new(*place)) == *line);
+    }
+    assert!(rt; LineIndex::new(rt.alloc(), "")?.line(TextSize::new(0)) == 0);
     Ok(())
 }
 
+// Texts, how their lines end, and the bytes of that.
+const ENDINGS: [(&str, LineEnding, &str); 7] = [
+    ("", LineEnding::Lf, "\n"),
+    ("a\rb", LineEnding::Lf, "\n"),
+    ("\n", LineEnding::Lf, "\n"),
+    ("a\r\nb\n", LineEnding::CrLf, "\r\n"),
+    ("a\nb\r\n", LineEnding::Lf, "\n"),
+    ("\r\n", LineEnding::CrLf, "\r\n"),
+    ("\n\r", LineEnding::Lf, "\n"),
+];
+
 #[test]
 fn line_endings_are_told(rt: HostRuntime) -> Result<(), Fail> {
-    assert_eq!(rt; line_ending(""), LineEnding::Lf);
-    assert_eq!(rt; line_ending("a\rb"), LineEnding::Lf);
-    assert_eq!(rt; line_ending("\n"), LineEnding::Lf);
-    assert_eq!(rt; line_ending("a\r\nb\n"), LineEnding::CrLf);
-    assert_eq!(rt; line_ending("a\nb\r\n"), LineEnding::Lf);
-    assert!(rt; line_ending("\r\n").as_str() == "\r\n");
-    assert!(rt; line_ending("\n\r").as_str() == "\n");
+    for (text, ending, bytes) in &ENDINGS {
+        let told = line_ending(text);
+        assert!(rt; told == *ending && told.as_str() == *bytes);
+    }
     Ok(())
 }
 
 #[test]
 fn ranges_are_measured(rt: HostRuntime) -> Result<(), Fail> {
     let outer = range(2, 7);
-    assert_eq!(rt; outer.len(), TextSize::new(5));
-    assert!(rt; !outer.is_empty());
-    assert!(rt; range(3, 3).is_empty());
-    assert!(rt; outer.contains_range(range(2, 7)));
-    assert!(rt; outer.contains_range(range(7, 7)));
-    assert!(rt; !outer.contains_range(range(1, 3)));
-    assert!(rt; !outer.contains_range(range(6, 8)));
+    assert!(rt; outer.len() == TextSize::new(5) && !outer.is_empty() && range(3, 3).is_empty());
+    assert!(rt; outer.contains_range(range(2, 7)) && outer.contains_range(range(7, 7)));
+    assert!(rt; !outer.contains_range(range(1, 3)) && !outer.contains_range(range(6, 8)));
     Ok(())
 }
 
 #[test]
 fn every_rule_has_its_name(rt: HostRuntime) -> Result<(), Fail> {
-    let mut number = 0;
-    for (rule, name, is_opt_in) in &TABLE {
-        assert!(rt; rule.name() == *name);
-        assert_eq!(rt; rule.is_opt_in(), *is_opt_in);
+    for ((rule, name, is_opt_in), listed) in TABLE.iter().zip(&Rule::ALL) {
+        assert!(rt; rule == listed && rule.name() == *name && rule.is_opt_in() == *is_opt_in);
         assert!(rt; format!(in rt.alloc(); "{rule}")?.as_str() == *name);
-        assert!(rt; number < 78);
-        assert_eq!(rt; Rule::ALL[number], *rule);
-        number += 1;
         let found = Rule::try_from(*name);
-        if *rule == Rule::UnusedIgnore {
-            assert_eq!(rt; found, Err(UnknownName));
-        } else {
-            assert_eq!(rt; found, Ok(*rule));
-        }
+        assert!(rt;
+            found
+                == if *rule == Rule::UnusedIgnore {
+                    Err(UnknownName)
+                } else {
+                    Ok(*rule)
+                }
+        );
     }
-    assert_eq!(rt; number, 78);
     Ok(())
 }
 
+// Texts, and the rules that they name.
+const NAMED: [(&str, Result<Rule, UnknownName>); 5] = [
+    ("prefer-timestamptz", Ok(Rule::PreferTimestampTz)),
+    ("prefer-timestamp-tz", Ok(Rule::PreferTimestampTz)),
+    ("Ban-drop-table", Err(UnknownName)),
+    ("ban-drop-table ", Err(UnknownName)),
+    ("", Err(UnknownName)),
+];
+
 #[test]
 fn other_texts_name_no_rule(rt: HostRuntime) -> Result<(), Fail> {
-    assert_eq!(rt;
-        Rule::try_from("prefer-timestamptz"),
-        Ok(Rule::PreferTimestampTz)
-    );
-    assert_eq!(rt;
-        Rule::try_from("prefer-timestamp-tz"),
-        Ok(Rule::PreferTimestampTz)
-    );
-    assert_eq!(rt; Rule::try_from("Ban-drop-table"), Err(UnknownName));
-    assert_eq!(rt; Rule::try_from("ban-drop-table "), Err(UnknownName));
-    assert_eq!(rt; Rule::try_from(""), Err(UnknownName));
+    for (text, named) in &NAMED {
+        assert!(rt; Rule::try_from(*text) == *named);
+    }
     Ok(())
 }
 
@@ -297,9 +300,9 @@ fn the_alias_stands_for_two(rt: HostRuntime) -> Result<(), Fail> {
     for rule in &Rule::ALL {
         let expansion = rule.expands_to();
         if *rule == Rule::RequireTimeoutSettings {
-            assert_eq!(rt; expansion.len(), 2);
-            assert_eq!(rt; expansion[0], Rule::RequireLockTimeout);
-            assert_eq!(rt; expansion[1], Rule::RequireStatementTimeout);
+            assert!(rt;
+                expansion == [Rule::RequireLockTimeout, Rule::RequireStatementTimeout].as_slice()
+            );
         } else {
             assert!(rt; expansion.is_empty());
         }
@@ -336,6 +339,13 @@ fn errors_print_their_texts(rt: HostRuntime) -> Result<(), Fail> {
     Ok(())
 }
 
+// Three rules, in the order in which they are declared.
+const IN_ORDER: [Rule; 3] = [
+    Rule::RequireConcurrentIndexCreation,
+    Rule::BanDropTable,
+    Rule::BanAlterExtension,
+];
+
 #[test]
 fn sets_hold_rules_in_order(rt: HostRuntime) -> Result<(), Fail> {
     let mut set = RuleSet::empty();
@@ -345,14 +355,13 @@ fn sets_hold_rules_in_order(rt: HostRuntime) -> Result<(), Fail> {
     set.insert(Rule::BanDropTable);
     set.insert(Rule::BanDropTable);
     let mut rules = set.iter();
-    assert_eq!(rt; rules.next(), Some(Rule::RequireConcurrentIndexCreation));
-    assert_eq!(rt; rules.next(), Some(Rule::BanDropTable));
-    assert_eq!(rt; rules.next(), Some(Rule::BanAlterExtension));
-    assert_eq!(rt; rules.next(), None);
+    for rule in &IN_ORDER {
+        assert!(rt; rules.next() == Some(*rule));
+    }
+    assert!(rt; rules.next().is_none());
     set.remove(Rule::BanDropTable);
     set.remove(Rule::BanDropColumn);
-    assert!(rt; !set.contains(Rule::BanDropTable));
-    assert!(rt; set.contains(Rule::BanAlterExtension));
+    assert!(rt; !set.contains(Rule::BanDropTable) && set.contains(Rule::BanAlterExtension));
     Ok(())
 }
 
@@ -381,8 +390,7 @@ fn hash_of(text: &Text) -> u64 {
 fn texts_go_by_their_bytes(rt: HostRuntime) -> Result<(), Fail> {
     let fixed = Text::fixed("abc");
     let made = Text::made(String::from_str(rt.alloc(), "abc")?);
-    assert!(rt; fixed == made);
-    assert!(rt; hash_of(&fixed) == hash_of(&made));
+    assert!(rt; fixed == made && hash_of(&fixed) == hash_of(&made));
     assert!(rt; Text::fixed("ab") < made);
     assert!(rt; Text::made(String::from_str(rt.alloc(), "abd")?) > fixed);
     Ok(())
@@ -418,24 +426,17 @@ fn fixes_go_by_title_and_edits(rt: HostRuntime) -> Result<(), Fail> {
         title: Text::fixed("b"),
         edits: Vec::new(rt.alloc()),
     };
-    assert!(rt; second < first);
-    assert!(rt; first < third);
-    assert!(rt; first != second);
-    assert!(rt; first == first);
+    assert!(rt; second < first && first < third && first != second && first == first);
     Ok(())
 }
 
 #[test]
 fn names_are_listed(rt: HostRuntime) -> Result<(), Fail> {
     let mut names = Names::standard(rt.alloc())?;
-    assert_eq!(rt; names.len(), 7);
-    assert!(rt; names.get(6) == "pi");
-    assert!(rt; names.contains("now"));
-    assert!(rt; !names.contains("random"));
+    assert!(rt; names.len() == 7 && names.get(6) == "pi");
+    assert!(rt; names.contains("now") && !names.contains("random"));
     names.push("random")?;
-    assert!(rt; names.contains("random"));
-    assert_eq!(rt; names.len(), 8);
-    assert!(rt; names.get(7) == "random");
+    assert!(rt; names.contains("random") && names.len() == 8 && names.get(7) == "random");
     let settings = LinterSettings {
         pg_version: [15, 0, 0],
         assume_in_transaction: false,
@@ -458,11 +459,9 @@ fn reports_are_listed(rt: HostRuntime) -> Result<(), Fail> {
         range(1, 4),
     ))?;
     reports.append(more)?;
-    assert_eq!(rt; reports.items().len(), 2);
+    assert!(rt; reports.items().len() == 2);
     let items = reports.into_items();
-    assert_eq!(rt; items.len(), 2);
-    assert!(rt; items[0].code == Rule::BanDropTable);
-    assert!(rt; items[1].text_range == range(3, 4));
-    assert!(rt; items[1].fix.is_none());
+    assert!(rt; items.len() == 2 && items[0].code == Rule::BanDropTable);
+    assert!(rt; items[1].text_range == range(3, 4) && items[1].fix.is_none());
     Ok(())
 }

@@ -50,7 +50,7 @@ fn add_constraint(
 ) -> Result<bool, NoMemory>
     ensures { IfOk result (λ found. (found, actions.new.items) ≡ put_behind (spec.add_constraint terminals.now) actions.old.items) }
 {
-    let Some(rest) = behind_word(Keyword::Add, terminals) else {
+    let Some(rest) = behind_word(Keyword::ADD, terminals) else {
         return Ok(false);
     };
     match read_table_constraint(alloc, rest)? {
@@ -251,7 +251,7 @@ fn options(
         by_rows(
             alloc,
             &OPTIONS,
-            behind_maybe(Keyword::With, terminals),
+            behind_maybe(Keyword::WITH, terminals),
             actions,
         )
     } else {

@@ -33,9 +33,9 @@ fn is_word(symbol: Symbol) -> bool
 fn is_pair(first: Terminal, second: Terminal) -> bool
     ensures { result ≡ spec.is_pair first second }
 {
-    (first.is_keyword(Keyword::Not)
-        && (second.is_keyword(Keyword::Enforced) || second.is_keyword(Keyword::Deferrable)))
-        || (first.is_keyword(Keyword::Initially) && is_word(second.symbol))
+    (first.is_keyword(Keyword::NOT)
+        && (second.is_keyword(Keyword::ENFORCED) || second.is_keyword(Keyword::DEFERRABLE)))
+        || (first.is_keyword(Keyword::INITIALLY) && is_word(second.symbol))
 }
 
 /// How many terminals the first option of a constraint has.
@@ -83,7 +83,7 @@ fn is_always(kind: PieceKind, rest: &[Terminal]) -> bool
     ensures { result ≡ spec.is_always kind rest.now }
 {
     match kind {
-        PieceKind::SetGenerated => begins_with(Keyword::Always, rest),
+        PieceKind::SetGenerated => begins_with(Keyword::ALWAYS, rest),
         _ => false,
     }
 }

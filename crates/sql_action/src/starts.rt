@@ -45,14 +45,14 @@ pub(crate) fn behind_maybe(word: Keyword, terminals: &[Terminal]) -> &[Terminal]
 fn behind_column<'a>(terminals: &'a [Terminal]) -> Option<&'a [Terminal]>
     ensures { option_copied result ≡ spec.behind_column terminals.entry.now }
 {
-    let rest = behind_word(Keyword::Alter, terminals)?;
-    behind_name(behind_maybe(Keyword::Column, rest))
+    let rest = behind_word(Keyword::ALTER, terminals)?;
+    behind_name(behind_maybe(Keyword::COLUMN, rest))
 }
 
 fn behind_in_database<'a>(terminals: &'a [Terminal]) -> Option<&'a [Terminal]>
     ensures { option_copied result ≡ spec.behind_in_database terminals.entry.now }
 {
-    let rest = behind_two(Keyword::In, Keyword::Database, terminals)?;
+    let rest = behind_two(Keyword::IN, Keyword::DATABASE, terminals)?;
     behind_name(rest)
 }
 
@@ -85,9 +85,9 @@ pub(crate) fn own_part<'a>(kind: StmtKind, terminals: &'a [Terminal]) -> Option<
 fn begins_domain_constraint(terminals: &[Terminal]) -> bool
     ensures { result ≡ spec.begins_domain_constraint terminals.now }
 {
-    begins_with(Keyword::Check, terminals)
-        || begins_with(Keyword::Constraint, terminals)
-        || behind_two(Keyword::Not, Keyword::Null, terminals).is_some()
+    begins_with(Keyword::CHECK, terminals)
+        || begins_with(Keyword::CONSTRAINT, terminals)
+        || behind_two(Keyword::NOT, Keyword::NULL, terminals).is_some()
 }
 
 /// Whether this kind of statement adds the table constraint that stands behind ADD.
@@ -96,7 +96,7 @@ pub(crate) fn takes_constraint(kind: StmtKind, terminals: &[Terminal]) -> bool
     ensures { result ≡ spec.takes_constraint kind terminals.now }
 {
     match kind {
-        StmtKind::AlterDomain => match behind_word(Keyword::Add, terminals) {
+        StmtKind::AlterDomain => match behind_word(Keyword::ADD, terminals) {
             None => false,
             Some(rest) => begins_domain_constraint(rest),
         },

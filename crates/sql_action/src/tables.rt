@@ -17,9 +17,9 @@ fn first_rows(word: Keyword) -> ActionRows
     ensures { map (λ r. (r.0, r.1.now)) result.now ≡ spec.first_rows word }
 {
     match word {
-        Keyword::Owner => &OWNER,
-        Keyword::Set => &SCHEMA,
-        Keyword::Rename => &RENAME,
+        Keyword::OWNER => &OWNER,
+        Keyword::SET => &SCHEMA,
+        Keyword::RENAME => &RENAME,
         _ => &[],
     }
 }
@@ -50,20 +50,20 @@ fn general_rows(word: Keyword) -> ActionRows
     ensures { map (λ r. (r.0, r.1.now)) result.now ≡ spec.general_rows word }
 {
     match word {
-        Keyword::Add => &ADD,
-        Keyword::Drop => &DROP,
-        Keyword::Alter => &ALTER,
-        Keyword::Rename => &RENAME_COLUMN,
-        Keyword::Validate => &VALIDATE,
-        Keyword::Detach => &DETACH,
-        Keyword::Enable => &ENABLE,
-        Keyword::Disable => &DISABLE,
-        Keyword::Force => &FORCE,
-        Keyword::No => &NO,
-        Keyword::Replica => &REPLICA,
-        Keyword::Set => &SET,
-        Keyword::Reset => &RESET,
-        Keyword::Cluster => &CLUSTER,
+        Keyword::ADD => &ADD,
+        Keyword::DROP => &DROP,
+        Keyword::ALTER => &ALTER,
+        Keyword::RENAME => &RENAME_COLUMN,
+        Keyword::VALIDATE => &VALIDATE,
+        Keyword::DETACH => &DETACH,
+        Keyword::ENABLE => &ENABLE,
+        Keyword::DISABLE => &DISABLE,
+        Keyword::FORCE => &FORCE,
+        Keyword::NO => &NO,
+        Keyword::REPLICA => &REPLICA,
+        Keyword::SET => &SET,
+        Keyword::RESET => &RESET,
+        Keyword::CLUSTER => &CLUSTER,
         _ => &[],
     }
 }

@@ -18,8 +18,8 @@ fn is_constraint_word(word: Keyword) -> bool
     ensures { result ≡ spec.is_constraint_word word }
 {
     match word {
-        Keyword::Constraint | Keyword::Check | Keyword::Unique => true,
-        Keyword::Primary | Keyword::Foreign | Keyword::Not => true,
+        Keyword::CONSTRAINT | Keyword::CHECK | Keyword::UNIQUE => true,
+        Keyword::PRIMARY | Keyword::FOREIGN | Keyword::NOT => true,
         _ => false,
     }
 }
@@ -38,7 +38,7 @@ fn is_constraint_symbol(symbol: Symbol) -> bool
 fn leads_constraint(first: Terminal, after: &[Terminal]) -> bool
     ensures { result ≡ spec.leads_constraint first after.now }
 {
-    is_constraint_symbol(first.symbol) || first.is_keyword(Keyword::Exclude) && is_exclusion(after)
+    is_constraint_symbol(first.symbol) || first.is_keyword(Keyword::EXCLUDE) && is_exclusion(after)
 }
 
 fn put_constraint(
@@ -87,7 +87,7 @@ fn put_element(
             if leads_constraint(*first, rest) {
                 return put_constraint(alloc, terminals, elements);
             }
-            if first.is_keyword(Keyword::Like) {
+            if first.is_keyword(Keyword::LIKE) {
                 elements.push(Elem::Like)?;
                 return Ok(());
             }

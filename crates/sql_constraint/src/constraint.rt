@@ -46,7 +46,7 @@ pub(crate) fn constraint_name<'a>(
     ensures { option_map beside result ≡ spec.constraint_name terminals.entry.now }
 {
     match terminals {
-        [first, rest @ ..] if first.is_keyword(Keyword::Constraint) => named(rest),
+        [first, rest @ ..] if first.is_keyword(Keyword::CONSTRAINT) => named(rest),
         _ => Some((None, terminals)),
     }
 }
@@ -59,7 +59,7 @@ pub fn is_exclusion(rest: &[Terminal]) -> bool
 {
     match rest {
         [] => false,
-        [first, ..] => first.is_keyword(Keyword::Using)
+        [first, ..] => first.is_keyword(Keyword::USING)
             || matches!(first.symbol, Symbol::OpenRound),
     }
 }
@@ -68,7 +68,7 @@ pub fn is_exclusion(rest: &[Terminal]) -> bool
 fn behind_exclude<'a>(terminals: &'a [Terminal]) -> Option<&'a [Terminal]>
     ensures { option_copied result ≡ spec.behind_exclude terminals.entry.now }
 {
-    let rest = behind_word(Keyword::Exclude, terminals)?;
+    let rest = behind_word(Keyword::EXCLUDE, terminals)?;
     if is_exclusion(rest) { Some(rest) } else { None }
 }
 
@@ -76,13 +76,13 @@ fn behind_exclude<'a>(terminals: &'a [Terminal]) -> Option<&'a [Terminal]>
 fn two_word_kind<'a>(terminals: &'a [Terminal]) -> Option<(ConKind, &'a [Terminal])>
     ensures { option_map beside result ≡ spec.two_word_kind terminals.entry.now }
 {
-    if let Some(rest) = behind_two(Keyword::Primary, Keyword::Key, terminals) {
+    if let Some(rest) = behind_two(Keyword::PRIMARY, Keyword::KEY, terminals) {
         return Some((ConKind::PrimaryKey, rest));
     }
-    if let Some(rest) = behind_two(Keyword::Foreign, Keyword::Key, terminals) {
+    if let Some(rest) = behind_two(Keyword::FOREIGN, Keyword::KEY, terminals) {
         return Some((ConKind::ForeignKey, rest));
     }
-    let rest = behind_two(Keyword::Not, Keyword::Null, terminals)?;
+    let rest = behind_two(Keyword::NOT, Keyword::NULL, terminals)?;
     Some((ConKind::NotNull, rest))
 }
 
@@ -91,10 +91,10 @@ fn two_word_kind<'a>(terminals: &'a [Terminal]) -> Option<(ConKind, &'a [Termina
 fn constraint_kind<'a>(terminals: &'a [Terminal]) -> Option<(ConKind, &'a [Terminal])>
     ensures { option_map beside result ≡ spec.constraint_kind terminals.entry.now }
 {
-    if let Some(rest) = behind_word(Keyword::Check, terminals) {
+    if let Some(rest) = behind_word(Keyword::CHECK, terminals) {
         return Some((ConKind::Check, rest));
     }
-    if let Some(rest) = behind_word(Keyword::Unique, terminals) {
+    if let Some(rest) = behind_word(Keyword::UNIQUE, terminals) {
         return Some((ConKind::Unique, rest));
     }
     if let Some(rest) = behind_exclude(terminals) {
@@ -116,7 +116,7 @@ fn is_key(kind: ConKind) -> bool
 fn is_by_index(kind: ConKind, rest: &[Terminal]) -> bool
     ensures { result ≡ spec.by_index kind rest.now }
 {
-    is_key(kind) && behind_two(Keyword::Using, Keyword::Index, rest).is_some()
+    is_key(kind) && behind_two(Keyword::USING, Keyword::INDEX, rest).is_some()
 }
 
 /// The constraint that all of `terminals` is, by its name, its kind, and what follows the words of the kind.

@@ -23,7 +23,7 @@ fn ends_not_null(terminals: &[Terminal]) -> bool
     let is = terminals[len - 3];
     let not = terminals[len - 2];
     let null = terminals[len - 1];
-    is.is_keyword(Keyword::Is) && not.is_keyword(Keyword::Not) && null.is_keyword(Keyword::Null)
+    is.is_keyword(Keyword::IS) && not.is_keyword(Keyword::NOT) && null.is_keyword(Keyword::NULL)
 }
 
 /// Whether this is IS NOT NULL of a part.
@@ -62,7 +62,7 @@ fn cast_at(terminals: &[Terminal], count: usize) -> Shape
     ensures { result ≡ spec.cast_at terminals.now count }
 {
     let mark = terminals[count];
-    if mark.is_keyword(Keyword::Collate) {
+    if mark.is_keyword(Keyword::COLLATE) {
         if count == 0 || count + 1 == terminals.len() {
             Shape::Other
         } else {
@@ -95,9 +95,9 @@ fn is_literal(t: Terminal) -> bool
     ensures { result ≡ spec.is_literal t }
 {
     is_literal_symbol(t.symbol)
-        || t.is_keyword(Keyword::True)
-        || t.is_keyword(Keyword::False)
-        || t.is_keyword(Keyword::Null)
+        || t.is_keyword(Keyword::TRUE)
+        || t.is_keyword(Keyword::FALSE)
+        || t.is_keyword(Keyword::NULL)
 }
 
 /// The shape of CAST and what follows it, where that is a bracket list with an AS in it.
@@ -109,7 +109,7 @@ fn cast_call(rest: &[Terminal]) -> Option<Shape>
         return None;
     }
     let inside = inside_list(rest);
-    let len = terminals_before(Mark::Word(Keyword::As), inside);
+    let len = terminals_before(Mark::Word(Keyword::AS), inside);
     if len < inside.len() {
         Some(Shape::Cast { from: 2, len })
     } else {
@@ -163,10 +163,10 @@ fn leaf(terminals: &[Terminal]) -> Shape
             if rest.is_empty() && is_literal(*first) {
                 return Shape::Literal;
             }
-            if first.is_keyword(Keyword::Array) && is_square(rest) {
+            if first.is_keyword(Keyword::ARRAY) && is_square(rest) {
                 return Shape::Array;
             }
-            if first.is_keyword(Keyword::Cast) {
+            if first.is_keyword(Keyword::CAST) {
                 return match cast_call(rest) {
                     Some(shape) => shape,
                     None => named(terminals),

@@ -18,7 +18,7 @@ use slots::{
     BEFORE_LAST_WEIGHT, KEYWORDS, LAST_WEIGHT, LENGTH_WEIGHT, LENGTHS, SECOND_WEIGHT, SHIFTS,
     SLOT_COUNT, STARTS, TEXTS,
 };
-pub use words::{Keyword, same_keyword};
+pub use words::{Keyword, Object, Other, Verb, same_keyword};
 
 /// The shortest keyword has so many letters.
 const SHORTEST: usize = 2;

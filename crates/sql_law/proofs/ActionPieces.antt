@@ -2,7 +2,7 @@
 use Rattle.std.proofs.Common.{◌≡◌, ℕ, zero, suc, ◌+◌, ◌-◌, ◌≤◌, ◌==◌, Bool, true, false, cond, List, [], ◌∷◌, map, take, refl, ap, arith, Option, Some, None}
 use Rattle.std.specs.Option.{option_map}
 use Rattle.std.proofs.lemmas.List.{length-map, take-map}
-use Rattle.sql_keyword.specs.declared.words.Keyword.TheVariants as k
+use Rattle.sql_keyword.specs.declared.words.TheConstants.Keyword as keyword
 use Rattle.sql_token.specs.declared.terminal.Terminal.{Terminal}
 use Rattle.sql_token.specs.Terminal.{is_opener, is_closer}
 use Rattle.sql_token.specs.Depth.{one_if}
@@ -90,7 +90,7 @@ type_in_moved f kind rest = refl
 
 always_sees : (f : ℕ → ℕ) (kind : PieceKind) (rest : List Terminal) → is_always kind (map (renumber f) rest) ≡ is_always kind rest
 unfolding is_always
-always_sees f p.SetGenerated rest = begins_sees f k.Always rest
+always_sees f p.SetGenerated rest = begins_sees f keyword.ALWAYS rest
 always_sees f kind rest = refl
 
 piece_in_moved : (f : ℕ → ℕ) (ts : List Terminal) → HasEnds f ts → (kind : PieceKind) (rest : List Terminal) →

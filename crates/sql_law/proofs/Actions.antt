@@ -2,7 +2,7 @@
 use Rattle.std.proofs.Common.{◌≡◌, ℕ, List, [], ◌∷◌, map, refl, ap, Option, Some, None}
 use Rattle.std.specs.Option.{option_map, option_and_then}
 use Rattle.std.proofs.lemmas.List.{length-map}
-use Rattle.sql_keyword.specs.declared.words.Keyword.TheVariants as k
+use Rattle.sql_keyword.specs.declared.words.TheConstants.Keyword as keyword
 use Rattle.sql_token.specs.declared.terminal.Terminal.{Terminal}
 use Rattle.sql_tree.specs.declared.actions.PieceList.TheVariants as lists
 use Rattle.sql_tree.specs.declared.actions.TheConstants.{OPTIONS}
@@ -44,7 +44,7 @@ add_constraint_moved : (f : ℕ → ℕ) (ts : List Terminal) → HasEnds f ts �
     add_constraint (map (renumber f) ts) ≡ option_map (action_moved f) (add_constraint ts)
 unfolding add_constraint
 add_constraint_moved f ts e =
-    rw (behind_word_moved f k.Add ts) (bind_moved _ _ _ _ (adding_behind_moved f ts e) (behind_word k.Add ts))
+    rw (behind_word_moved f keyword.ADD ts) (bind_moved _ _ _ _ (adding_behind_moved f ts e) (behind_word keyword.ADD ts))
 
 domain_sees : (f : ℕ → ℕ) (ts : List Terminal) → begins_domain_constraint (map (renumber f) ts) ≡ begins_domain_constraint ts
 unfolding begins_domain_constraint
@@ -137,7 +137,7 @@ behind_column_moved f ts = simp (behind_word_moved, list_or_moved, behind_name_m
 behind_database_moved : (f : ℕ → ℕ) (ts : List Terminal) → behind_database (map (renumber f) ts) ≡ map (renumber f) (behind_database ts)
 unfolding behind_database
 behind_database_moved f ts =
-    rw (behind_two_moved f k.In k.Database ts, bind_moved (map (renumber f)) (map (renumber f)) behind_name behind_name (behind_name_moved f) (behind_two k.In k.Database ts))
+    rw (behind_two_moved f keyword.IN keyword.DATABASE ts, bind_moved (map (renumber f)) (map (renumber f)) behind_name behind_name (behind_name_moved f) (behind_two keyword.IN keyword.DATABASE ts))
     (list_or_moved f (behind_in_database ts) ts)
 
 own_part_moved : (f : ℕ → ℕ) (kind : StmtKind) (ts : List Terminal) →

@@ -4,6 +4,8 @@ use Rattle.std.specs.Option.{option_map, option_and_then}
 use Rattle.std.proofs.lemmas.List.{length-map}
 use Rattle.sql_keyword.specs.declared.words.Keyword.{Keyword}
 use Rattle.sql_keyword.specs.declared.words.Keyword.TheVariants as k
+use Rattle.sql_keyword.specs.declared.words.Other.TheVariants as others
+use Rattle.sql_keyword.specs.declared.words.TheConstants.Keyword as keyword
 use Rattle.sql_token.specs.declared.terminal.Symbol.{Symbol}
 use Rattle.sql_token.specs.declared.terminal.Symbol.TheVariants as s
 use Rattle.sql_token.specs.declared.terminal.Terminal.{Terminal}
@@ -68,7 +70,7 @@ kind_or_moved f kind None other = refl
 two_word_kind_moved : (f : ℕ → ℕ) (ts : List Terminal) →
     two_word_kind (map (renumber f) ts) ≡ option_map (kind_moved f) (two_word_kind ts)
 unfolding two_word_kind
-two_word_kind_moved f ts = simp (behind_two_moved, kind_or_moved f con.NotNull (behind_two k.Not k.Null ts) None, kind_or_moved)
+two_word_kind_moved f ts = simp (behind_two_moved, kind_or_moved f con.NotNull (behind_two keyword.NOT keyword.NULL ts) None, kind_or_moved)
 
 constraint_kind_moved : (f : ℕ → ℕ) (ts : List Terminal) →
     constraint_kind (map (renumber f) ts) ≡ option_map (kind_moved f) (constraint_kind ts)
@@ -82,8 +84,8 @@ by_index_moved f kind rest = simp (moves, behind_two_moved)
 -- ---- where constraints of columns begin
 
 word_sees : (f : ℕ → ℕ) (w : Keyword) (after : List Terminal) → kind_of_word w (map (renumber f) after) ≡ kind_of_word w after
-word_sees f k.Not after = simp begins_sees
-word_sees f k.Primary after = simp begins_sees
+word_sees f (k.Other others.Not) after = simp begins_sees
+word_sees f (k.Other others.Primary) after = simp begins_sees
 word_sees f _ after = refl
 
 symbol_sees : (f : ℕ → ℕ) (x : Symbol) (after : List Terminal) → kind_of_symbol x (map (renumber f) after) ≡ kind_of_symbol x after

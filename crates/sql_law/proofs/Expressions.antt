@@ -2,7 +2,7 @@
 use Rattle.std.proofs.Common.{◌≡◌, ◌∙◌, ℕ, zero, suc, Bool, true, false, cond, List, [], ◌∷◌, length, map, refl, ap, sym, Option, Some, None}
 use Rattle.std.specs.Option.{option_map}
 use Rattle.std.proofs.lemmas.List.{length-map}
-use Rattle.sql_keyword.specs.declared.words.Keyword.TheVariants as k
+use Rattle.sql_keyword.specs.declared.words.TheConstants.Keyword as keyword
 use Rattle.sql_token.specs.declared.token.Span.{Span}
 use Rattle.sql_token.specs.declared.terminal.Terminal.{Terminal}
 use Rattle.sql_tree.specs.declared.nodes.Expr.{Expr, fold-Expr, fold-roll-Expr}
@@ -110,7 +110,7 @@ cast_at_moved f ts n = simp (shape_cond, moves, at_sees)
 
 cast_call_moved : (f : ℕ → ℕ) (ts : List Terminal) → cast_call (map (renumber f) ts) ≡ option_map (shape_moved f) (cast_call ts)
 unfolding cast_call
-cast_call_moved f ts = simp (is_list_sees, inside_list_moved, before_renumbers (word k.As) (word_is_blind k.As), moves)
+cast_call_moved f ts = simp (is_list_sees, inside_list_moved, before_renumbers (word keyword.AS) (word_is_blind keyword.AS), moves)
 
 after_path_moved : (f : ℕ → ℕ) (is_one : Bool) (path : Span) (rest : List Terminal) →
     after_path is_one (span_moved f path) (map (renumber f) rest) ≡ shape_moved f (after_path is_one path rest)

@@ -2,7 +2,7 @@
 use Rattle.std.proofs.Common.{◌≡◌, ℕ, ◌==◌, Bool, true, false, not, ◌&&◌, ◌||◌, cond, List, [], ◌∷◌, length, map, refl, ap, Option, Some, None}
 use Rattle.std.specs.Option.{option_map, option_and_then}
 use Rattle.std.proofs.lemmas.List.{length-map}
-use Rattle.sql_keyword.specs.declared.words.Keyword.TheVariants as k
+use Rattle.sql_keyword.specs.declared.words.TheConstants.Keyword as keyword
 use Rattle.sql_token.specs.declared.terminal.Terminal.{Terminal}
 use Rattle.sql_token.specs.Terminal.{is_keyword, is_name}
 use Rattle.sql_tree.specs.declared.kinds.StmtKind.{StmtKind}
@@ -80,7 +80,7 @@ chain_moved f c ts =
 index_name_moved : (f : ℕ → ℕ) (c : Captures) (ts : List Terminal) →
     index_name (captures_moved f c) (map (renumber f) ts) ≡ option_map (state_moved f) (index_name c ts)
 index_name_moved f c ts =
-    one_moved f (λ t. is_name t && not (is_keyword k.On t)) name_kept (λ t. simp moves) (λ t c. refl) c ts
+    one_moved f (λ t. is_name t && not (is_keyword keyword.ON t)) name_kept (λ t. simp moves) (λ t c. refl) c ts
 
 index_name_from : (f : ℕ → ℕ) (g h : State) (c : Captures) (ts : List Terminal) → h ≡ state_moved f g →
     or_here (index_name h.kept h.left) (captures_moved f c) (map (renumber f) ts)
@@ -126,7 +126,7 @@ into_moved : (f : ℕ → ℕ) (c : Captures) (ts : List Terminal) →
     take_into (captures_moved f c) (map (renumber f) ts) ≡ option_map (state_moved f) (take_into c ts)
 into_moved f c ts =
     rw (from_mark_moved into into_is_blind f ts)
-    (one_moved f (is_keyword k.Into) nothing_kept (keyword_sees f k.Into) (λ t c. refl) c (from_mark into ts))
+    (one_moved f (is_keyword keyword.INTO) nothing_kept (keyword_sees f keyword.INTO) (λ t c. refl) c (from_mark into ts))
 
 pub class_sees : (f : ℕ → ℕ) (class : WordClass) (t : Terminal) → is_of_class class (renumber f t) ≡ is_of_class class t
 unfolding is_of_class
@@ -158,7 +158,7 @@ part_renumbers f (p.Either v w) c ts =
 part_renumbers f (p.Maybe x mark) c ts = ap Some (maybe_phrase_moved f x mark c ts)
 part_renumbers f p.Chain c ts = ap Some (chain_moved f c ts)
 part_renumbers f p.Concurrently c ts =
-    ap Some (maybe_moved f (is_keyword k.Concurrently) concurrently_kept (keyword_sees f k.Concurrently) (λ t c. refl) c ts)
+    ap Some (maybe_moved f (is_keyword keyword.CONCURRENTLY) concurrently_kept (keyword_sees f keyword.CONCURRENTLY) (λ t c. refl) c ts)
 part_renumbers f p.IndexName c ts = ap Some (take_index_name_moved f c ts)
 part_renumbers f p.Mods c ts = ap Some (mods_moved f c ts)
 part_renumbers f p.Name c ts = one_moved f is_name name_kept (name_sees f) (λ t c. refl) c ts

@@ -4,6 +4,9 @@ use Rattle.std.specs.Option.{option_map, option_and_then, is_some}
 use Rattle.std.proofs.lemmas.List.{length-map, take-map}
 use Rattle.sql_keyword.specs.declared.words.Keyword.{Keyword}
 use Rattle.sql_keyword.specs.declared.words.Keyword.TheVariants as k
+use Rattle.sql_keyword.specs.declared.words.Verb.TheVariants as verbs
+use Rattle.sql_keyword.specs.declared.words.Other.TheVariants as others
+use Rattle.sql_keyword.specs.declared.words.TheConstants.Keyword as keyword
 use Rattle.sql_token.specs.declared.token.Span.{Span}
 use Rattle.sql_token.specs.declared.terminal.Symbol.{Symbol}
 use Rattle.sql_token.specs.declared.terminal.Symbol.TheVariants as symbol
@@ -48,7 +51,7 @@ has_keyword_sees f w ts = has_keyword_from_sees f w 0 0 ts
 
 kind_sees : (f : ℕ → ℕ) (kind : StmtKind) (s : State) → kind_of kind (state_moved f s) ≡ kind_of kind s
 unfolding kind_of
-kind_sees f stmt.CreateTable s = rw (has_keyword_sees f k.As s.left) refl
+kind_sees f stmt.CreateTable s = rw (has_keyword_sees f keyword.AS s.left) refl
 kind_sees f kind s = refl
 
 -- ---- bodies
@@ -131,9 +134,10 @@ family_sees f (t ∷ ts) = refl
 
 rows_same : (f : ℕ → ℕ) (w : Keyword) (ts : List Terminal) → rows_of w (map (renumber f) ts) ≡ rows_of w ts
 unfolding rows_of
-rows_same f k.Create ts = ap create_rows (family_sees f ts)
-rows_same f k.Alter ts = ap alter_rows (family_sees f ts)
-rows_same f k.Drop ts = ap drop_rows (family_sees f ts)
+rows_same f (k.Verb verbs.Create) ts = ap create_rows (family_sees f ts)
+rows_same f (k.Verb verbs.Alter) ts = ap alter_rows (family_sees f ts)
+rows_same f (k.Verb verbs.Drop) ts = ap drop_rows (family_sees f ts)
+rows_same f (k.Other others.Security) ts = refl
 rows_same f w ts = refl
 
 kind_or_row_moved : (f : ℕ → ℕ) (r : Option StmtKind) (rows : List Row) (ts : List Terminal) →

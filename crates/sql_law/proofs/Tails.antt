@@ -3,7 +3,7 @@ use Rattle.std.proofs.Common.{◌≡◌, ℕ, Bool, List, [], ◌∷◌, map, re
 use Rattle.std.specs.Option.{option_map, option_and_then}
 use Rattle.std.specs.List.{list_any}
 use Rattle.sql_keyword.specs.declared.words.Keyword.{Keyword}
-use Rattle.sql_keyword.specs.declared.words.Keyword.TheVariants as k
+use Rattle.sql_keyword.specs.declared.words.TheConstants.Keyword as keyword
 use Rattle.sql_token.specs.declared.token.Span.{Span}
 use Rattle.sql_token.specs.declared.terminal.Terminal.{Terminal}
 use Rattle.sql_token.specs.Terminal.{is_keyword}
@@ -68,7 +68,7 @@ behind_flag_moved f w (t ∷ ts) = simp moves
 
 concurrent_sees : (f : ℕ → ℕ) (option : List Terminal) → is_concurrent (map (renumber f) option) ≡ is_concurrent option
 unfolding is_concurrent
-concurrent_sees f option = begins_sees f k.Concurrently option
+concurrent_sees f option = begins_sees f keyword.CONCURRENTLY option
 
 valued_sees : (f : ℕ → ℕ) (option : List Terminal) → is_valued (map (renumber f) option) ≡ is_valued option
 unfolding is_valued
@@ -85,8 +85,8 @@ reindex_object_moved : (f : ℕ → ℕ) (inside ts : List Terminal) →
 unfolding reindex_object
 reindex_object_moved f inside [] = refl
 reindex_object_moved f inside (t ∷ ts) =
-    rw (behind_flag_moved f k.Concurrently ts, whole_path_moved f (behind_flag k.Concurrently ts))
-    (told (target_symbol t.symbol) (whole_path (behind_flag k.Concurrently ts)))
+    rw (behind_flag_moved f keyword.CONCURRENTLY ts, whole_path_moved f (behind_flag keyword.CONCURRENTLY ts))
+    (told (target_symbol t.symbol) (whole_path (behind_flag keyword.CONCURRENTLY ts)))
   where
     told : (x : Option ReindexTarget) (y : Option (Option Span)) →
         option_and_then (λ found. option_and_then (λ path.
@@ -174,9 +174,9 @@ unfolding is_mode
 mode_sees f ws ts =
     rw (
       behind_words_moved f ws ts,
-      basics.bind_moved (map (renumber f)) (map (renumber f)) (behind_word k.Mode) (behind_word k.Mode) (behind_word_moved f k.Mode) (behind_words ws ts),
+      basics.bind_moved (map (renumber f)) (map (renumber f)) (behind_word keyword.MODE) (behind_word keyword.MODE) (behind_word_moved f keyword.MODE) (behind_words ws ts),
     )
-    (does_end_sees f (option_and_then (behind_word k.Mode) (behind_words ws ts)))
+    (does_end_sees f (option_and_then (behind_word keyword.MODE) (behind_words ws ts)))
 
 mode_by_sees : (f : ℕ → ℕ) (rows : List (LockMode × List Keyword)) (ts : List Terminal) → mode_by rows (map (renumber f) ts) ≡ mode_by rows ts
 mode_by_sees f [] ts = refl

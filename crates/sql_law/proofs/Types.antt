@@ -4,6 +4,8 @@ use Rattle.std.specs.Option.{option_map, option_and_then}
 use Rattle.std.proofs.lemmas.List.{length-map, take-map, drop-map}
 use Rattle.sql_keyword.specs.declared.words.Keyword.{Keyword}
 use Rattle.sql_keyword.specs.declared.words.Keyword.TheVariants as k
+use Rattle.sql_keyword.specs.declared.words.Other.TheVariants as others
+use Rattle.sql_keyword.specs.declared.words.TheConstants.Keyword as keyword
 use Rattle.sql_token.specs.declared.token.Span.{Span}
 use Rattle.sql_token.specs.declared.terminal.Symbol.{Symbol}
 use Rattle.sql_token.specs.declared.terminal.Symbol.TheVariants as s
@@ -57,7 +59,7 @@ character_type_moved : (f : ℕ → ℕ) (ts rest : List Terminal) → HasEnds f
     character_type (map (renumber f) ts) (map (renumber f) rest) ≡ option_map (type_moved f) (character_type ts rest)
 unfolding character_type
 character_type_moved f ts rest e =
-    rw (begins_sees f k.Varying rest, behind_varying_moved f rest)
+    rw (begins_sees f keyword.VARYING rest, behind_varying_moved f rest)
     (with_arguments_moved f (character_kind rest) _ _ ts (behind_varying rest) e e.first)
 
 double_type_moved : (f : ℕ → ℕ) (ts rest : List Terminal) → HasEnds f ts →
@@ -67,7 +69,7 @@ double_type_moved f ts rest e = simp (begins_sees, e.first, e.last, moves)
 
 time_zone_sees : (f : ℕ → ℕ) (ts : List Terminal) → is_time_zone (map (renumber f) ts) ≡ is_time_zone ts
 time_zone_sees f [] = refl
-time_zone_sees f (t ∷ ts) = simp (begins_sees f k.Zone ts, length-map ts (renumber f), moves)
+time_zone_sees f (t ∷ ts) = simp (begins_sees f keyword.ZONE ts, length-map ts (renumber f), moves)
 
 zone_sees : (f : ℕ → ℕ) (ts : List Terminal) → zone (map (renumber f) ts) ≡ zone ts
 unfolding zone
@@ -103,15 +105,15 @@ time_type_moved f kind ts rest e =
 word_type_moved : (f : ℕ → ℕ) (w : Keyword) (ts rest : List Terminal) → HasEnds f ts →
     word_type w (map (renumber f) ts) (map (renumber f) rest) ≡ option_map (type_moved f) (word_type w ts rest)
 unfolding word_type
-word_type_moved f k.Varchar ts rest e = with_arguments_moved f ty.Varchar _ _ ts rest e e.first
-word_type_moved f k.Character ts rest e = character_type_moved f ts rest e
-word_type_moved f k.Char ts rest e = character_type_moved f ts rest e
-word_type_moved f k.Bit ts rest e =
+word_type_moved f (k.Other others.Varchar) ts rest e = with_arguments_moved f ty.Varchar _ _ ts rest e e.first
+word_type_moved f (k.Other others.Character) ts rest e = character_type_moved f ts rest e
+word_type_moved f (k.Other others.Char) ts rest e = character_type_moved f ts rest e
+word_type_moved f (k.Other others.Bit) ts rest e =
     rw (behind_varying_moved f rest) (with_arguments_moved f ty.Bit _ _ ts (behind_varying rest) e e.first)
-word_type_moved f k.Double ts rest e = double_type_moved f ts rest e
-word_type_moved f k.Time ts rest e = time_type_moved f ty.Time ts rest e
-word_type_moved f k.Timestamp ts rest e = time_type_moved f ty.Timestamp ts rest e
-word_type_moved f k.Interval ts rest e = simp (length-map, e.first, e.last)
+word_type_moved f (k.Other others.Double) ts rest e = double_type_moved f ts rest e
+word_type_moved f (k.Other others.Time) ts rest e = time_type_moved f ty.Time ts rest e
+word_type_moved f (k.Other others.Timestamp) ts rest e = time_type_moved f ty.Timestamp ts rest e
+word_type_moved f (k.Other others.Interval) ts rest e = simp (length-map, e.first, e.last)
 word_type_moved f _ ts rest e = refl
 
 symbol_type_moved : (f : ℕ → ℕ) (x : Symbol) (ts rest : List Terminal) → HasEnds f ts →

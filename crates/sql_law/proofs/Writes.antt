@@ -2,7 +2,7 @@
 use Rattle.std.proofs.Common.{◌≡◌, ℕ, ◌+◌, List, [], ◌∷◌, map, drop, refl, ap, Option, Some, None}
 use Rattle.std.specs.Option.{option_map, option_and_then, option_to_list}
 use Rattle.std.proofs.lemmas.List.{length-map, drop-map}
-use Rattle.sql_keyword.specs.declared.words.Keyword.TheVariants as k
+use Rattle.sql_keyword.specs.declared.words.TheConstants.Keyword as keyword
 use Rattle.sql_token.specs.declared.terminal.Terminal.{Terminal}
 use Rattle.sql_token.specs.Terminal.{is_name, is_dot, is_opener, is_closer}
 use Rattle.sql_token.specs.Depth.{one_if}
@@ -90,7 +90,7 @@ update_clause_moved : (f : ℕ → ℕ) (tail : List Terminal) →
     update_clause (map (renumber f) tail) ≡ map (map (set_part_moved f)) (update_clause tail)
 unfolding update_clause
 update_clause_moved f tail =
-    simp (before_renumbers (word k.Set) (word_is_blind k.Set) f, set_clause_moved clause_end clause_end_is_blind f, moves)
+    simp (before_renumbers (word keyword.SET) (word_is_blind keyword.SET) f, set_clause_moved clause_end clause_end_is_blind f, moves)
 
 sets_of_moved : (f : ℕ → ℕ) (kind : StmtKind) (tail : List Terminal) →
     sets_of kind (map (renumber f) tail) ≡ map (map (set_part_moved f)) (sets_of kind tail)
@@ -175,14 +175,14 @@ left_or_moved f ts None = refl
 left_or_moved f ts (Some rest) = refl
 
 on_list_moved : (f : ℕ → ℕ) (ts : List Terminal) →
-    option_and_then behind_list (behind_word k.On (map (renumber f) ts)) ≡ option_map (map (renumber f)) (option_and_then behind_list (behind_word k.On ts))
+    option_and_then behind_list (behind_word keyword.ON (map (renumber f) ts)) ≡ option_map (map (renumber f)) (option_and_then behind_list (behind_word keyword.ON ts))
 on_list_moved f ts = simp (behind_word_moved, behind_list_moved, moves)
 
 behind_distinct_moved : (f : ℕ → ℕ) (ts : List Terminal) → behind_distinct (map (renumber f) ts) ≡ map (renumber f) (behind_distinct ts)
 unfolding behind_distinct
 behind_distinct_moved f [] = refl
 behind_distinct_moved f (t ∷ ts) =
-    rw (on_list_moved f ts, left_or_moved f ts (option_and_then behind_list (behind_word k.On ts))) (simp moves)
+    rw (on_list_moved f ts, left_or_moved f ts (option_and_then behind_list (behind_word keyword.ON ts))) (simp moves)
 
 pub targets_renumber : TargetsRenumber
 unfolding targets
@@ -223,10 +223,10 @@ view_targets_moved : (f : ℕ → ℕ) (ts : List Terminal) → view_targets (ma
 unfolding view_targets
 view_targets_moved f ts =
     rw (
-      from_mark_moved (word k.As) (word_is_blind k.As) f ts,
-      behind_words_moved f (k.As ∷ k.Select ∷ []) (from_mark (word k.As) ts),
+      from_mark_moved (word keyword.AS) (word_is_blind keyword.AS) f ts,
+      behind_words_moved f (keyword.AS ∷ keyword.SELECT ∷ []) (from_mark (word keyword.AS) ts),
     )
-    (of_select_moved f (behind_words (k.As ∷ k.Select ∷ []) (from_mark (word k.As) ts)))
+    (of_select_moved f (behind_words (keyword.AS ∷ keyword.SELECT ∷ []) (from_mark (word keyword.AS) ts)))
 
 named_or_moved : {A B : Type 0} (g : A → B) (other : List A) (r : Option (List A)) →
     named_or (map g other) (option_map (map g) r) ≡ map g (named_or other r)

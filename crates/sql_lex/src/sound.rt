@@ -14,7 +14,7 @@ fn begins_atomic(terminal: Terminal, rest: &[Terminal]) -> bool
 {
     match rest {
         [] => false,
-        [next, ..] => { terminal.is_keyword(Keyword::Begin) && next.is_keyword(Keyword::Atomic) }
+        [next, ..] => { terminal.is_keyword(Keyword::BEGIN) && next.is_keyword(Keyword::ATOMIC) }
     }
 }
 
@@ -34,7 +34,7 @@ fn stands_anywhere(terminal: Terminal) -> bool
     ensures { result ≡ true → StandsAnywhere terminal }
 {
     match terminal.symbol {
-        Symbol::Keyword(found) => !same_keyword(found, Keyword::Begin),
+        Symbol::Keyword(found) => !same_keyword(found, Keyword::BEGIN),
         Symbol::UName
         | Symbol::OpenRound
         | Symbol::CloseRound

@@ -1,7 +1,7 @@
 -- A symbol that opens no mark.
 use Rattle.std.proofs.Common.{◌≡◌, false, List, refl, Option, Some, None}
 use Rattle.sql_keyword.specs.declared.words.Keyword.{Keyword}
-use Rattle.sql_keyword.specs.declared.words.Keyword.TheVariants as k
+use Rattle.sql_keyword.specs.declared.words.TheConstants.Keyword as keyword
 use Rattle.sql_token.specs.declared.terminal.Symbol.{Symbol}
 use Rattle.sql_token.specs.declared.terminal.Symbol.TheVariants as s
 use Rattle.sql_token.specs.declared.terminal.Terminal.{Terminal}
@@ -65,33 +65,33 @@ no_kind _ after h = refl
 no_write_mark : (m : WriteMark) (e : Option Terminal) (t : Terminal) (after : List Terminal) → opens_marks t.symbol ≡ false → write_test m e t after ≡ false
 unfolding equals do_update_set then_update_set then_insert clause_end merge_clause_end target_list_end is_keyword
 no_write_mark w.Equals e t after h = no_equals t.symbol h
-no_write_mark w.DoUpdateSet e t after h = rw (no_word k.Do t.symbol h) refl
-no_write_mark w.ThenUpdateSet e t after h = rw (no_word k.Then t.symbol h) refl
-no_write_mark w.ThenInsert e t after h = rw (no_word k.Then t.symbol h) refl
-no_write_mark w.ClauseEnd e t after h = rw (no_word k.From t.symbol h, no_word k.Where t.symbol h, no_word k.Returning t.symbol h) refl
+no_write_mark w.DoUpdateSet e t after h = rw (no_word keyword.DO t.symbol h) refl
+no_write_mark w.ThenUpdateSet e t after h = rw (no_word keyword.THEN t.symbol h) refl
+no_write_mark w.ThenInsert e t after h = rw (no_word keyword.THEN t.symbol h) refl
+no_write_mark w.ClauseEnd e t after h = rw (no_word keyword.FROM t.symbol h, no_word keyword.WHERE t.symbol h, no_word keyword.RETURNING t.symbol h) refl
 no_write_mark w.MergeClauseEnd e t after h =
-    rw (no_word k.From t.symbol h, no_word k.Where t.symbol h, no_word k.Returning t.symbol h, no_word k.When t.symbol h) refl
+    rw (no_word keyword.FROM t.symbol h, no_word keyword.WHERE t.symbol h, no_word keyword.RETURNING t.symbol h, no_word keyword.WHEN t.symbol h) refl
 no_write_mark w.TargetListEnd e t after h = no_targets_end t.symbol h
 
 pub no_mark : (m : Mark) (e : Option Terminal) (t : Terminal) (after : List Terminal) → opens_marks t.symbol ≡ false → test_of m e t after ≡ false
 unfolding comma not_valid into verb privileges word operator cast on_commit_drop type_end value_end constraint_start kind_led sequence_option identity_option policy_part is_keyword is_of_class
 no_mark m.Comma e t after h = no_comma t.symbol h
-no_mark m.NotValid e t after h = rw (no_word k.Not t.symbol h) refl
-no_mark m.Into e t after h = rw (no_word k.Into t.symbol h) refl
+no_mark m.NotValid e t after h = rw (no_word keyword.NOT t.symbol h) refl
+no_mark m.Into e t after h = rw (no_word keyword.INTO t.symbol h) refl
 no_mark m.Verb e t after h = no_verb t.symbol h
-no_mark m.Privileges e t after h = rw (no_word k.Grant t.symbol h, no_word k.Revoke t.symbol h) refl
+no_mark m.Privileges e t after h = rw (no_word keyword.GRANT t.symbol h, no_word keyword.REVOKE t.symbol h) refl
 no_mark (m.Word v) e t after h = no_word v t.symbol h
-no_mark m.Operator e t after h = rw (no_operator t.symbol h, no_word k.And t.symbol h, no_word k.Or t.symbol h) refl
-no_mark m.Cast e t after h = rw (no_word k.Collate t.symbol h, no_colon t.symbol h) refl
-no_mark m.OnCommitDrop e t after h = rw (no_word k.On t.symbol h) refl
+no_mark m.Operator e t after h = rw (no_operator t.symbol h, no_word keyword.AND t.symbol h, no_word keyword.OR t.symbol h) refl
+no_mark m.Cast e t after h = rw (no_word keyword.COLLATE t.symbol h, no_colon t.symbol h) refl
+no_mark m.OnCommitDrop e t after h = rw (no_word keyword.ON t.symbol h) refl
 no_mark m.TypeEnd e t after h =
-    rw (no_value_end t.symbol h, no_word k.Collate t.symbol h, no_word k.Using t.symbol h, no_word k.Options t.symbol h) refl
+    rw (no_value_end t.symbol h, no_word keyword.COLLATE t.symbol h, no_word keyword.USING t.symbol h, no_word keyword.OPTIONS t.symbol h) refl
 no_mark m.ValueEnd e t after h = no_value_end t.symbol h
-no_mark m.Constraint e t after h = rw (no_word k.Constraint t.symbol h, no_kind t.symbol after h) refl
+no_mark m.Constraint e t after h = rw (no_word keyword.CONSTRAINT t.symbol h, no_kind t.symbol after h) refl
 no_mark (m.Write mark) e t after h = no_write_mark mark e t after h
 no_mark m.SequenceOption None t after h = refl
 no_mark m.SequenceOption (Some u) t after h = rw (no_class class.SequenceOption t.symbol h) refl
 no_mark m.IdentityOption None t after h = refl
-no_mark m.IdentityOption (Some u) t after h = rw (no_word k.Set t.symbol h, no_word k.Restart t.symbol h) refl
+no_mark m.IdentityOption (Some u) t after h = rw (no_word keyword.SET t.symbol h, no_word keyword.RESTART t.symbol h) refl
 no_mark m.PolicyPart None t after h = refl
-no_mark m.PolicyPart (Some u) t after h = rw (no_word k.To t.symbol h, no_word k.Using t.symbol h, no_word k.With t.symbol h) refl
+no_mark m.PolicyPart (Some u) t after h = rw (no_word keyword.TO t.symbol h, no_word keyword.USING t.symbol h, no_word keyword.WITH t.symbol h) refl

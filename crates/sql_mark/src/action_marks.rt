@@ -21,7 +21,7 @@ pub(crate) fn begins_sequence_option(
         None => false,
         Some(t) => {
             is_of_class(WordClass::SequenceOption, first)
-                && !(t.is_keyword(Keyword::No) || t.is_dot())
+                && !(t.is_keyword(Keyword::NO) || t.is_dot())
         }
     }
 }
@@ -38,8 +38,8 @@ pub(crate) fn begins_identity_option(
     match earlier {
         None => false,
         Some(t) => {
-            first.is_keyword(Keyword::Set)
-                || (first.is_keyword(Keyword::Restart) && !t.is_keyword(Keyword::Set))
+            first.is_keyword(Keyword::SET)
+                || (first.is_keyword(Keyword::RESTART) && !t.is_keyword(Keyword::SET))
         }
     }
 }
@@ -56,9 +56,9 @@ pub(crate) fn begins_policy_part(
     match earlier {
         None => false,
         Some(_) => {
-            first.is_keyword(Keyword::To)
-                || first.is_keyword(Keyword::Using)
-                || (first.is_keyword(Keyword::With) && begins_with(Keyword::Check, after))
+            first.is_keyword(Keyword::TO)
+                || first.is_keyword(Keyword::USING)
+                || (first.is_keyword(Keyword::WITH) && begins_with(Keyword::CHECK, after))
         }
     }
 }

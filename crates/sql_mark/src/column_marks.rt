@@ -14,10 +14,10 @@ fn is_value_end_word(word: Keyword) -> bool
     ensures { result ≡ spec.is_value_end_word word }
 {
     match word {
-        Keyword::Constraint | Keyword::Not | Keyword::Null | Keyword::Check => true,
-        Keyword::Default | Keyword::Generated | Keyword::Unique | Keyword::Primary => true,
-        Keyword::References | Keyword::Deferrable | Keyword::Initially => true,
-        Keyword::Enforced | Keyword::Compression | Keyword::Storage => true,
+        Keyword::CONSTRAINT | Keyword::NOT | Keyword::NULL | Keyword::CHECK => true,
+        Keyword::DEFAULT | Keyword::GENERATED | Keyword::UNIQUE | Keyword::PRIMARY => true,
+        Keyword::REFERENCES | Keyword::DEFERRABLE | Keyword::INITIALLY => true,
+        Keyword::ENFORCED | Keyword::COMPRESSION | Keyword::STORAGE => true,
         _ => false,
     }
 }
@@ -40,9 +40,9 @@ pub(crate) fn is_type_end(t: Terminal) -> bool
     match t.symbol {
         Symbol::Keyword(word) => {
             is_value_end_word(word)
-                || t.is_keyword(Keyword::Collate)
-                || t.is_keyword(Keyword::Using)
-                || t.is_keyword(Keyword::Options)
+                || t.is_keyword(Keyword::COLLATE)
+                || t.is_keyword(Keyword::USING)
+                || t.is_keyword(Keyword::OPTIONS)
         }
         _ => false,
     }
@@ -64,14 +64,14 @@ fn kind_of_word(word: Keyword, after: &[Terminal]) -> Option<ConKind>
     ensures { result ≡ spec.kind_of_word word after.now }
 {
     match word {
-        Keyword::Not => kind_before(ConKind::NotNull, Keyword::Null, after),
-        Keyword::Primary => kind_before(ConKind::PrimaryKey, Keyword::Key, after),
-        Keyword::Null => Some(ConKind::Null),
-        Keyword::Check => Some(ConKind::Check),
-        Keyword::Default => Some(ConKind::Default),
-        Keyword::Generated => Some(ConKind::Generated),
-        Keyword::Unique => Some(ConKind::Unique),
-        Keyword::References => Some(ConKind::References),
+        Keyword::NOT => kind_before(ConKind::NotNull, Keyword::NULL, after),
+        Keyword::PRIMARY => kind_before(ConKind::PrimaryKey, Keyword::KEY, after),
+        Keyword::NULL => Some(ConKind::Null),
+        Keyword::CHECK => Some(ConKind::Check),
+        Keyword::DEFAULT => Some(ConKind::Default),
+        Keyword::GENERATED => Some(ConKind::Generated),
+        Keyword::UNIQUE => Some(ConKind::Unique),
+        Keyword::REFERENCES => Some(ConKind::References),
         _ => None,
     }
 }
@@ -113,9 +113,9 @@ fn follows(word: Keyword, earlier: Option<Terminal>) -> bool
 fn is_bound(earlier: Option<Terminal>, t: Terminal) -> bool
     ensures { result ≡ spec.is_bound earlier t }
 {
-    t.is_keyword(Keyword::Null) && follows(Keyword::Set, earlier)
-        || t.is_keyword(Keyword::Default)
-            && (follows(Keyword::Set, earlier) || follows(Keyword::By, earlier))
+    t.is_keyword(Keyword::NULL) && follows(Keyword::SET, earlier)
+        || t.is_keyword(Keyword::DEFAULT)
+            && (follows(Keyword::SET, earlier) || follows(Keyword::BY, earlier))
 }
 
 #[tactic(auto, unfolding(sql_tree::specs::ColumnMarks::kind_behind_name))]
@@ -133,7 +133,7 @@ fn kind_behind_name(after: &[Terminal]) -> Option<ConKind>
 pub(crate) fn begins_constraint(earlier: Option<Terminal>, t: Terminal, after: &[Terminal]) -> bool
     ensures { result ≡ spec.constraint_start earlier t after.now }
 {
-    if t.is_keyword(Keyword::Constraint) {
+    if t.is_keyword(Keyword::CONSTRAINT) {
         kind_behind_name(after).is_some()
     } else {
         kind_led(t, after).is_some() && !is_bound(earlier, t)
@@ -157,7 +157,7 @@ fn kind_head(kind: Option<ConKind>) -> usize
 pub(crate) fn constraint_head(t: Terminal, after: &[Terminal]) -> usize
     ensures { result ≡ spec.constraint_head t after.now }
 {
-    if t.is_keyword(Keyword::Constraint) {
+    if t.is_keyword(Keyword::CONSTRAINT) {
         kind_head(kind_behind_name(after)) + 2
     } else {
         kind_head(kind_led(t, after))

@@ -60,7 +60,7 @@ fn is_as_or_dot(earlier: Option<Terminal>) -> bool
 {
     match earlier {
         None => false,
-        Some(t) => t.is_keyword(Keyword::As) || t.is_dot(),
+        Some(t) => t.is_keyword(Keyword::AS) || t.is_dot(),
     }
 }
 
@@ -68,8 +68,8 @@ fn is_verb_word(word: Keyword) -> bool
     ensures { result ≡ spec.is_verb_word word }
 {
     match word {
-        Keyword::Select | Keyword::Insert | Keyword::Update | Keyword::Delete => true,
-        Keyword::Merge | Keyword::Values | Keyword::Table => true,
+        Keyword::SELECT | Keyword::INSERT | Keyword::UPDATE | Keyword::DELETE => true,
+        Keyword::MERGE | Keyword::VALUES | Keyword::TABLE => true,
         _ => false,
     }
 }
@@ -111,20 +111,20 @@ fn begins_operator(first: Terminal) -> bool
     ensures { result ≡ spec.is_operator first }
 {
     is_operator_symbol(first.symbol)
-        || first.is_keyword(Keyword::And)
-        || first.is_keyword(Keyword::Or)
+        || first.is_keyword(Keyword::AND)
+        || first.is_keyword(Keyword::OR)
 }
 
 fn begins_cast(first: Terminal, after: &[Terminal]) -> bool
     ensures { result ≡ spec.is_cast first after.now }
 {
-    first.is_keyword(Keyword::Collate) || is_colon(first.symbol) && begins_with_colon(after)
+    first.is_keyword(Keyword::COLLATE) || is_colon(first.symbol) && begins_with_colon(after)
 }
 
 fn begins_on_commit_drop(first: Terminal, after: &[Terminal]) -> bool
     ensures { result ≡ spec.is_on_commit_drop first after.now }
 {
-    first.is_keyword(Keyword::On) && begins_with_both(Keyword::Commit, Keyword::Drop, after)
+    first.is_keyword(Keyword::ON) && begins_with_both(Keyword::COMMIT, Keyword::DROP, after)
 }
 
 /// Whether the mark begins at `first`, which stands between `earlier` and `after`.
@@ -135,10 +135,10 @@ fn begins(mark: Mark, earlier: Option<Terminal>, first: Terminal, after: &[Termi
 {
     match mark {
         Mark::Comma => is_comma(first.symbol),
-        Mark::NotValid => first.is_keyword(Keyword::Not) && begins_with(Keyword::Valid, after),
-        Mark::Into => first.is_keyword(Keyword::Into) && !is_as_or_dot(earlier),
+        Mark::NotValid => first.is_keyword(Keyword::NOT) && begins_with(Keyword::VALID, after),
+        Mark::Into => first.is_keyword(Keyword::INTO) && !is_as_or_dot(earlier),
         Mark::Verb => is_verb(first.symbol),
-        Mark::Privileges => first.is_keyword(Keyword::Grant) || first.is_keyword(Keyword::Revoke),
+        Mark::Privileges => first.is_keyword(Keyword::GRANT) || first.is_keyword(Keyword::REVOKE),
         Mark::Word(word) => first.is_keyword(word),
         Mark::Operator => begins_operator(first),
         Mark::Cast => begins_cast(first, after),

@@ -10,9 +10,9 @@ fn is_sequence_word(word: Keyword) -> bool
     ensures { result ≡ spec.is_sequence_word word }
 {
     match word {
-        Keyword::Restart | Keyword::Increment | Keyword::Minvalue | Keyword::Maxvalue => true,
-        Keyword::Start | Keyword::Cache | Keyword::Cycle | Keyword::As => true,
-        Keyword::Owned | Keyword::Set | Keyword::Sequence | Keyword::No => true,
+        Keyword::RESTART | Keyword::INCREMENT | Keyword::MINVALUE | Keyword::MAXVALUE => true,
+        Keyword::START | Keyword::CACHE | Keyword::CYCLE | Keyword::AS => true,
+        Keyword::OWNED | Keyword::SET | Keyword::SEQUENCE | Keyword::NO => true,
         _ => false,
     }
 }
@@ -21,10 +21,10 @@ fn is_function_word(word: Keyword) -> bool
     ensures { result ≡ spec.is_function_word word }
 {
     match word {
-        Keyword::Called | Keyword::Returns | Keyword::Strict | Keyword::Immutable => true,
-        Keyword::Stable | Keyword::Volatile | Keyword::Not | Keyword::Leakproof => true,
-        Keyword::External | Keyword::Security | Keyword::Parallel | Keyword::Cost => true,
-        Keyword::Rows | Keyword::Support | Keyword::Set | Keyword::Reset => true,
+        Keyword::CALLED | Keyword::RETURNS | Keyword::STRICT | Keyword::IMMUTABLE => true,
+        Keyword::STABLE | Keyword::VOLATILE | Keyword::NOT | Keyword::LEAKPROOF => true,
+        Keyword::EXTERNAL | Keyword::SECURITY | Keyword::PARALLEL | Keyword::COST => true,
+        Keyword::ROWS | Keyword::SUPPORT | Keyword::SET | Keyword::RESET => true,
         _ => false,
     }
 }

@@ -29,22 +29,22 @@ pub enum WriteMark {
 fn is_clause_end(t: Terminal) -> bool
     ensures { result ≡ spec.is_clause_end t }
 {
-    t.is_keyword(Keyword::From) || t.is_keyword(Keyword::Where) || t.is_keyword(Keyword::Returning)
+    t.is_keyword(Keyword::FROM) || t.is_keyword(Keyword::WHERE) || t.is_keyword(Keyword::RETURNING)
 }
 
 fn is_matched(after: &[Terminal]) -> bool
     ensures { result ≡ spec.is_matched after.now }
 {
-    begins_with(Keyword::Matched, after) || begins_with_both(Keyword::Not, Keyword::Matched, after)
+    begins_with(Keyword::MATCHED, after) || begins_with_both(Keyword::NOT, Keyword::MATCHED, after)
 }
 
 fn is_target_list_end(word: Keyword) -> bool
     ensures { result ≡ spec.is_target_list_end word }
 {
     match word {
-        Keyword::Into | Keyword::From | Keyword::Where | Keyword::Group | Keyword::Having => true,
-        Keyword::Window | Keyword::Union | Keyword::Intersect | Keyword::Except => true,
-        Keyword::Order | Keyword::Limit | Keyword::Offset | Keyword::Fetch | Keyword::For => true,
+        Keyword::INTO | Keyword::FROM | Keyword::WHERE | Keyword::GROUP | Keyword::HAVING => true,
+        Keyword::WINDOW | Keyword::UNION | Keyword::INTERSECT | Keyword::EXCEPT => true,
+        Keyword::ORDER | Keyword::LIMIT | Keyword::OFFSET | Keyword::FETCH | Keyword::FOR => true,
         _ => false,
     }
 }
@@ -71,18 +71,18 @@ pub(crate) fn begins_write(
     match mark {
         WriteMark::Equals => matches!(first.symbol, Symbol::Equals),
         WriteMark::DoUpdateSet => {
-            first.is_keyword(Keyword::Do) && begins_with_both(Keyword::Update, Keyword::Set, after)
+            first.is_keyword(Keyword::DO) && begins_with_both(Keyword::UPDATE, Keyword::SET, after)
         }
         WriteMark::ThenUpdateSet => {
-            first.is_keyword(Keyword::Then)
-                && begins_with_both(Keyword::Update, Keyword::Set, after)
+            first.is_keyword(Keyword::THEN)
+                && begins_with_both(Keyword::UPDATE, Keyword::SET, after)
         }
         WriteMark::ThenInsert => {
-            first.is_keyword(Keyword::Then) && begins_with(Keyword::Insert, after)
+            first.is_keyword(Keyword::THEN) && begins_with(Keyword::INSERT, after)
         }
         WriteMark::ClauseEnd => is_clause_end(first),
         WriteMark::MergeClauseEnd => {
-            is_clause_end(first) || (first.is_keyword(Keyword::When) && is_matched(after))
+            is_clause_end(first) || (first.is_keyword(Keyword::WHEN) && is_matched(after))
         }
         WriteMark::TargetListEnd => ends_targets(first.symbol),
     }

@@ -5,7 +5,7 @@
 
 ghost use Rattle.std.specs.Prelude.{◌≡◌, ◌==◌, ◌&&◌, ◌||◌, not, length};
 ghost use Rattle.std.specs.Option.{option_map, option_copied};
-ghost use Rattle.sql_keyword.specs.declared.words.Keyword.TheVariants as k;
+ghost use Rattle.sql_keyword.specs.declared.words.TheConstants.Keyword as keyword;
 ghost use Rattle.sql_token.specs.Terminal.{is_keyword, is_name};
 ghost use Rattle.sql_tree.specs.declared.forms.Captures.{Captures};
 ghost use Rattle.sql_tree.specs.Forms.{at, one, nothing_kept, word_kept, name_kept, concurrently_kept, is_temp, is_other_mod, take_path, take_mods, tell, take_index_name, take_chain, take_concurrently, take_star, take_into, take_rest, take_list, some_left, is_str_symbol, words_of, behind_word, behind_words, or_here, take_phrase, take_part};
@@ -123,12 +123,12 @@ fn words(phrase: Phrase) -> &'static [Keyword]
     ensures { result.now ≡ words_of phrase }
 {
     match phrase {
-        Phrase::IfExists => &[Keyword::If, Keyword::Exists],
-        Phrase::IfNotExists => &[Keyword::If, Keyword::Not, Keyword::Exists],
-        Phrase::AndChain => &[Keyword::And, Keyword::Chain],
-        Phrase::AndNoChain => &[Keyword::And, Keyword::No, Keyword::Chain],
-        Phrase::OrReplace => &[Keyword::Or, Keyword::Replace],
-        Phrase::SetData => &[Keyword::Set, Keyword::Data],
+        Phrase::IfExists => &[Keyword::IF, Keyword::EXISTS],
+        Phrase::IfNotExists => &[Keyword::IF, Keyword::NOT, Keyword::EXISTS],
+        Phrase::AndChain => &[Keyword::AND, Keyword::CHAIN],
+        Phrase::AndNoChain => &[Keyword::AND, Keyword::NO, Keyword::CHAIN],
+        Phrase::OrReplace => &[Keyword::OR, Keyword::REPLACE],
+        Phrase::SetData => &[Keyword::SET, Keyword::DATA],
     }
 }
 
@@ -182,7 +182,7 @@ fn after_concurrently<'a>(kept: &mut Captures, left: &'a [Terminal]) -> &'a [Ter
     ensures { at kept.new result.now ≡ take_concurrently kept.old left.entry.now }
 {
     match left {
-        [first, rest @ ..] if first.is_keyword(Keyword::Concurrently) => {
+        [first, rest @ ..] if first.is_keyword(Keyword::CONCURRENTLY) => {
             kept.concurrently = Some(first.number);
             rest
         }
@@ -192,9 +192,9 @@ fn after_concurrently<'a>(kept: &mut Captures, left: &'a [Terminal]) -> &'a [Ter
 
 /// The name of an index stands first, and it is not the word ON.
 fn is_index_name(t: Terminal) -> bool
-    ensures { result ≡ (is_name t && not (is_keyword k.On t)) }
+    ensures { result ≡ (is_name t && not (is_keyword keyword.ON t)) }
 {
-    t.is_name() && !t.is_keyword(Keyword::On)
+    t.is_name() && !t.is_keyword(Keyword::ON)
 }
 
 fn after_index_name<'a>(kept: &mut Captures, left: &'a [Terminal]) -> &'a [Terminal]
@@ -222,13 +222,13 @@ fn after_index_name<'a>(kept: &mut Captures, left: &'a [Terminal]) -> &'a [Termi
 fn is_temp_word(t: Terminal) -> bool
     ensures { result ≡ is_temp t }
 {
-    t.is_keyword(Keyword::Temp) || t.is_keyword(Keyword::Temporary)
+    t.is_keyword(Keyword::TEMP) || t.is_keyword(Keyword::TEMPORARY)
 }
 
 fn is_other_mod_word(t: Terminal) -> bool
     ensures { result ≡ is_other_mod t }
 {
-    t.is_keyword(Keyword::Global) || t.is_keyword(Keyword::Local) || t.is_keyword(Keyword::Unlogged)
+    t.is_keyword(Keyword::GLOBAL) || t.is_keyword(Keyword::LOCAL) || t.is_keyword(Keyword::UNLOGGED)
 }
 
 /// Whether a word that `Part::Mods` takes stands first.
@@ -325,7 +325,7 @@ fn after_star<'a>(kept: &Captures, left: &'a [Terminal]) -> &'a [Terminal]
 fn after_into<'a>(left: &'a [Terminal]) -> Option<&'a [Terminal]>
     ensures { (c : Captures) → option_map (behind c) result ≡ take_into c left.entry.now }
 {
-    behind_word(Keyword::Into, from_mark(sql_mark::Mark::Into, left))
+    behind_word(Keyword::INTO, from_mark(sql_mark::Mark::Into, left))
 }
 
 /// What is left, where it is something.

@@ -2,7 +2,7 @@
 use Rattle.std.proofs.Common.{◌≡◌, ℕ, suc, ◌+◌, ◌==◌, nat_lt, Bool, true, false, if◌then◌else◌, List, [], ◌∷◌, length, refl, arith, Option, Some, None}
 use Rattle.std.proofs.lemmas.Bool.{eqb-true, le-ltb}
 use Rattle.sql_keyword.specs.declared.words.Keyword.{Keyword}
-use Rattle.sql_keyword.specs.declared.words.Keyword.TheVariants as k
+use Rattle.sql_keyword.specs.declared.words.TheConstants.Keyword as keyword
 use Rattle.sql_token.specs.declared.terminal.Symbol.{Symbol}
 use Rattle.sql_token.specs.declared.terminal.Symbol.TheVariants as s
 use Rattle.sql_token.specs.declared.terminal.Terminal.{Terminal}
@@ -78,7 +78,7 @@ same_inside a b h = cc
 listed_by : (b : Bool) (kept : Captures) (tail inside : List Terminal) → is_list tail ≡ b → Some inside ≡ (if b then Some (inside_list tail) else None)
     → form_with (table_kind tail) (table_body (at kept tail)) ≡ form_with CreateTable (table_of kept false (if is_empty inside then [] else listed inside))
 unfolding elements
-listed_by true kept tail inside is h = rw (no_word k.As tail is, no_drop tail is, same_inside inside (inside_list tail) h) refl
+listed_by true kept tail inside is h = rw (no_word keyword.AS tail is, no_drop tail is, same_inside inside (inside_list tail) h) refl
 listed_by false kept tail inside is h = cc
 
 -- What is read of a tail that is one list, by what stands inside it.

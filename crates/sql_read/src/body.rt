@@ -62,7 +62,7 @@ pub(crate) fn shape_of(kind: StmtKind) -> Shape
 pub(crate) fn table_kind(left: &[Terminal]) -> StmtKind
     ensures { result ≡ spec.table_kind left.now }
 {
-    if has_keyword(Keyword::As, left) {
+    if has_keyword(Keyword::AS, left) {
         StmtKind::CreateTableAs
     } else {
         StmtKind::CreateTable

@@ -48,7 +48,7 @@ fn from_verb(terminals: &[Terminal]) -> &[Terminal]
     ensures { result.now ≡ spec.from_verb terminals.now }
 {
     match terminals {
-        [first, rest @ ..] if first.is_keyword(Keyword::With) => from_mark(Mark::Verb, rest),
+        [first, rest @ ..] if first.is_keyword(Keyword::WITH) => from_mark(Mark::Verb, rest),
         _ => terminals,
     }
 }

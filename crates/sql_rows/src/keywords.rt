@@ -3,21 +3,21 @@
 use sql_keyword::{Keyword, keyword_of, same_keyword};
 
 const ROWS: &[(&str, Option<Keyword>)] = &[
-    ("as", Some(Keyword::As)),
-    ("AS", Some(Keyword::As)),
-    ("By", Some(Keyword::By)),
-    ("create", Some(Keyword::Create)),
-    ("CrEaTe", Some(Keyword::Create)),
-    ("CONCURRENTLY", Some(Keyword::Concurrently)),
-    ("characteristics", Some(Keyword::Characteristics)),
-    ("type", Some(Keyword::Type)),
-    ("row", Some(Keyword::Row)),
-    ("level", Some(Keyword::Level)),
-    ("share", Some(Keyword::Share)),
-    ("exclusive", Some(Keyword::Exclusive)),
-    ("logged", Some(Keyword::Logged)),
-    ("zone", Some(Keyword::Zone)),
-    ("abort", Some(Keyword::Abort)),
+    ("as", Some(Keyword::AS)),
+    ("AS", Some(Keyword::AS)),
+    ("By", Some(Keyword::BY)),
+    ("create", Some(Keyword::CREATE)),
+    ("CrEaTe", Some(Keyword::CREATE)),
+    ("CONCURRENTLY", Some(Keyword::CONCURRENTLY)),
+    ("characteristics", Some(Keyword::CHARACTERISTICS)),
+    ("type", Some(Keyword::TYPE)),
+    ("row", Some(Keyword::ROW)),
+    ("level", Some(Keyword::LEVEL)),
+    ("share", Some(Keyword::SHARE)),
+    ("exclusive", Some(Keyword::EXCLUSIVE)),
+    ("logged", Some(Keyword::LOGGED)),
+    ("zone", Some(Keyword::ZONE)),
+    ("abort", Some(Keyword::ABORT)),
     ("", None),
     ("a", None),
     ("creat", None),
@@ -36,6 +36,6 @@ fn keywords(rt: HostRuntime) {
     for row in ROWS {
         assert_eq!(rt; keyword_of(row.0.as_bytes()), row.1, "at {:?}", row.0);
     }
-    assert!(rt; same_keyword(Keyword::As, Keyword::As));
-    assert!(rt; !same_keyword(Keyword::As, Keyword::By));
+    assert!(rt; same_keyword(Keyword::AS, Keyword::AS));
+    assert!(rt; !same_keyword(Keyword::AS, Keyword::BY));
 }

@@ -42,7 +42,7 @@ const ROWS: &[(&str, &str)] = &[
 fn told(alloc: Global, terminal: Terminal) -> Result<String, Fail> {
     let mut out = format!(in alloc; "{:?}", terminal.symbol)?;
     for (is_so, word) in [
-        (terminal.is_keyword(Keyword::Create), " create"),
+        (terminal.is_keyword(Keyword::CREATE), " create"),
         (terminal.is_name(), " name"),
         (terminal.is_opener(), " opener"),
         (terminal.is_closer(), " closer"),

@@ -15,7 +15,7 @@ fn ends(terminals: &[Terminal]) -> bool
 {
     match terminals {
         [] => true,
-        [only] => only.is_keyword(Keyword::Nowait),
+        [only] => only.is_keyword(Keyword::NOWAIT),
         _ => false,
     }
 }
@@ -28,7 +28,7 @@ fn is_mode(words: &[Keyword], terminals: &[Terminal]) -> bool
     let Some(behind) = behind_words(words, terminals) else {
         return false;
     };
-    match behind_word(Keyword::Mode, behind) {
+    match behind_word(Keyword::MODE, behind) {
         Some(rest) => ends(rest),
         None => false,
     }
@@ -60,7 +60,7 @@ pub fn lock_mode(terminals: &[Terminal]) -> Option<LockMode>
 {
     let mut left = terminals;
     while let [first, rest @ ..] = left {
-        if first.is_keyword(Keyword::In) {
+        if first.is_keyword(Keyword::IN) {
             if let Some(mode) = mode_of(rest) {
                 return Some(mode);
             }

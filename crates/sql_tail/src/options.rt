@@ -45,8 +45,8 @@ pub(crate) fn behind_flag(word: Keyword, terminals: &[Terminal]) -> &[Terminal]
 fn is_on(value: Terminal) -> bool
     ensures { result ≡ spec.is_on value }
 {
-    value.is_keyword(Keyword::True)
-        || value.is_keyword(Keyword::On)
+    value.is_keyword(Keyword::TRUE)
+        || value.is_keyword(Keyword::ON)
         || matches!(value.symbol, Symbol::One)
 }
 
@@ -55,8 +55,8 @@ fn is_full(option: &[Terminal]) -> bool
     ensures { result ≡ spec.is_full option.now }
 {
     match option {
-        [name] => name.is_keyword(Keyword::Full),
-        [name, value] => name.is_keyword(Keyword::Full) && is_on(*value),
+        [name] => name.is_keyword(Keyword::FULL),
+        [name, value] => name.is_keyword(Keyword::FULL) && is_on(*value),
         _ => false,
     }
 }
@@ -66,8 +66,8 @@ fn passes(test: OptionTest, option: &[Terminal]) -> bool
     ensures { result ≡ test_of test option.now }
 {
     match test {
-        OptionTest::Concurrent => begins_with(Keyword::Concurrently, option),
-        OptionTest::Valued => begins_with(Keyword::Concurrently, option) && option.len() > 1,
+        OptionTest::Concurrent => begins_with(Keyword::CONCURRENTLY, option),
+        OptionTest::Valued => begins_with(Keyword::CONCURRENTLY, option) && option.len() > 1,
         OptionTest::Full => is_full(option),
     }
 }

@@ -13,11 +13,11 @@ fn target_word(word: Keyword) -> Option<ReindexTarget>
     ensures { result ≡ spec.target_word word }
 {
     match word {
-        Keyword::Index => Some(ReindexTarget::Index),
-        Keyword::Table => Some(ReindexTarget::Table),
-        Keyword::Schema => Some(ReindexTarget::Schema),
-        Keyword::Database => Some(ReindexTarget::Database),
-        Keyword::System => Some(ReindexTarget::System),
+        Keyword::INDEX => Some(ReindexTarget::Index),
+        Keyword::TABLE => Some(ReindexTarget::Table),
+        Keyword::SCHEMA => Some(ReindexTarget::Schema),
+        Keyword::DATABASE => Some(ReindexTarget::Database),
+        Keyword::SYSTEM => Some(ReindexTarget::System),
         _ => None,
     }
 }
@@ -40,11 +40,11 @@ fn reindex_object(inside: &[Terminal], terminals: &[Terminal]) -> Option<Body>
         [] => None,
         [word, rest @ ..] => {
             let target = target_symbol(word.symbol)?;
-            let path = whole_path(behind_flag(Keyword::Concurrently, rest))?;
+            let path = whole_path(behind_flag(Keyword::CONCURRENTLY, rest))?;
             Some(Body::Reindex {
                 target,
                 word: word.number,
-                concurrent: begins_with(Keyword::Concurrently, rest)
+                concurrent: begins_with(Keyword::CONCURRENTLY, rest)
                     || any_option(OptionTest::Concurrent, inside),
                 valued: any_option(OptionTest::Valued, inside),
                 path,

@@ -12,7 +12,7 @@ fn begins_value(terminals: &[Terminal]) -> bool
 {
     match terminals {
         [] => false,
-        [first, ..] => first.is_keyword(Keyword::To)
+        [first, ..] => first.is_keyword(Keyword::TO)
             || matches!(first.symbol, Symbol::Equals | Symbol::EqualsOperator),
     }
 }
@@ -35,7 +35,7 @@ pub fn last_cascade(terminals: &[Terminal]) -> Option<u32>
         return None;
     }
     let last = terminals[terminals.len() - 1];
-    if last.is_keyword(Keyword::Cascade) {
+    if last.is_keyword(Keyword::CASCADE) {
         Some(last.number)
     } else {
         None

@@ -12,7 +12,7 @@ use sql_token::{Keyword, Span, Terminal};
 pub fn is_full_vacuum(terminals: &[Terminal]) -> bool
     ensures { result ≡ spec.is_full_vacuum terminals.now }
 {
-    begins_with(Keyword::Full, behind_options(terminals))
+    begins_with(Keyword::FULL, behind_options(terminals))
         || any_option(OptionTest::Full, inside_list(terminals))
 }
 
@@ -42,8 +42,8 @@ fn behind_either(word: Keyword, other: Keyword, terminals: &[Terminal]) -> &[Ter
 pub fn vacuum_tables(terminals: &[Terminal]) -> Option<Span>
     ensures { result ≡ spec.vacuum_tables terminals.now }
 {
-    let behind_full = behind_flag(Keyword::Full, behind_options(terminals));
-    let behind_freeze = behind_flag(Keyword::Freeze, behind_full);
-    let behind_verbose = behind_flag(Keyword::Verbose, behind_freeze);
-    some_span(behind_either(Keyword::Analyze, Keyword::Analyse, behind_verbose))
+    let behind_full = behind_flag(Keyword::FULL, behind_options(terminals));
+    let behind_freeze = behind_flag(Keyword::FREEZE, behind_full);
+    let behind_verbose = behind_flag(Keyword::VERBOSE, behind_freeze);
+    some_span(behind_either(Keyword::ANALYZE, Keyword::ANALYSE, behind_verbose))
 }

@@ -1,7 +1,7 @@
 -- A statement is sound where closers match openers in kind, no depth passes 128, the last depth is 0,
 -- and it has no Unicode-escaped name and no adjacent words BEGIN ATOMIC at depth 0.
 use Rattle.std.specs.Prelude.{ℕ, suc, zero, ◌+◌, ◌==◌, Bool, true, false, not, ◌&&◌, nat_lt, if◌then◌else◌, List, [], ◌∷◌, Option, Some, None}
-use Rattle.sql_keyword.specs.declared.words.Keyword.TheVariants as k
+use Rattle.sql_keyword.specs.declared.words.TheConstants.Keyword as keyword
 use Rattle.sql_token.specs.declared.terminal.Terminal.{Terminal}
 use Rattle.sql_token.specs.Terminal.{is_opener, is_closer, is_round, is_unicode_name, is_keyword}
 
@@ -31,7 +31,7 @@ matches (Some o) t = same (is_round o) (is_round t)
 
 unfoldable pub begins_atomic : Terminal → List Terminal → Bool
 begins_atomic t [] = false
-begins_atomic t (u ∷ us) = is_keyword k.Begin t && is_keyword k.Atomic u
+begins_atomic t (u ∷ us) = is_keyword keyword.BEGIN t && is_keyword keyword.ATOMIC u
 
 -- whether t may stand after the terminals before, and before those after
 abbrev pub may_stand : List Terminal → Terminal → List Terminal → Bool

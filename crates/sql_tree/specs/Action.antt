@@ -1,7 +1,7 @@
 -- The actions of ALTER statements (PostgreSQL manual, part VI, SQL Commands).
 use Rattle.std.specs.Prelude.{Bool, true, false, ◌||◌, if◌then◌else◌, List, [], ◌∷◌, map, Option, Some, None, is_some}
 use Rattle.std.specs.Option.{option_and_then}
-use Rattle.sql_keyword.specs.declared.words.Keyword.TheVariants as k
+use Rattle.sql_keyword.specs.declared.words.TheConstants.Keyword as keyword
 use Rattle.sql_token.specs.declared.terminal.Symbol.{Symbol}
 use Rattle.sql_token.specs.declared.terminal.Symbol.TheVariants as s
 use Rattle.sql_token.specs.declared.terminal.Terminal.{Terminal}
@@ -47,11 +47,11 @@ adding_behind ts rest = option_and_then (λ constraint. Some (adding ts constrai
 
 -- ADD and a table constraint
 unfoldable pub add_constraint : List Terminal → Option Action
-add_constraint ts = option_and_then (adding_behind ts) (behind_word k.Add ts)
+add_constraint ts = option_and_then (adding_behind ts) (behind_word keyword.ADD ts)
 
 -- CHECK, NOT NULL or CONSTRAINT
 unfoldable pub begins_domain_constraint : List Terminal → Bool
-begins_domain_constraint ts = begins_with k.Check ts || begins_with k.Constraint ts || is_some (behind_two k.Not k.Null ts)
+begins_domain_constraint ts = begins_with keyword.CHECK ts || begins_with keyword.CONSTRAINT ts || is_some (behind_two keyword.NOT keyword.NULL ts)
 
 abbrev pub behind_add : Option (List Terminal) → Bool
 behind_add None = false
@@ -59,7 +59,7 @@ behind_add (Some rest) = begins_domain_constraint rest
 
 -- A domain takes only some constraints.
 unfoldable pub takes_constraint : StmtKind → List Terminal → Bool
-takes_constraint stmt.AlterDomain ts = behind_add (behind_word k.Add ts)
+takes_constraint stmt.AlterDomain ts = behind_add (behind_word keyword.ADD ts)
 takes_constraint kind ts = true
 
 unfoldable pub added_constraint : StmtKind → List Terminal → Option Action
@@ -118,10 +118,10 @@ list_or (Some rest) other = rest
 
 -- behind ALTER [COLUMN] name
 unfoldable pub behind_column : List Terminal → Option (List Terminal)
-behind_column ts = option_and_then (λ rest. behind_name (list_or (behind_word k.Column rest) rest)) (behind_word k.Alter ts)
+behind_column ts = option_and_then (λ rest. behind_name (list_or (behind_word keyword.COLUMN rest) rest)) (behind_word keyword.ALTER ts)
 
 abbrev pub behind_in_database : List Terminal → Option (List Terminal)
-behind_in_database ts = option_and_then behind_name (behind_two k.In k.Database ts)
+behind_in_database ts = option_and_then behind_name (behind_two keyword.IN keyword.DATABASE ts)
 
 -- behind IN DATABASE name, where that stands
 unfoldable pub behind_database : List Terminal → List Terminal
@@ -164,7 +164,7 @@ takes_options kind = false
 -- Options of roles and databases are what has no other form, behind the word WITH where that stands.
 unfoldable pub options : StmtKind → List Terminal → Option Action
 options kind ts =
-    if takes_options kind then by_rows (map (λ r. (r.0, r.1.now)) OPTIONS) (list_or (behind_word k.With ts) ts) else None
+    if takes_options kind then by_rows (map (λ r. (r.0, r.1.now)) OPTIONS) (list_or (behind_word keyword.WITH ts) ts) else None
 
 unfoldable pub unlisted_action : StmtKind → List Terminal → Option Action
 unlisted_action kind ts = either_of (options kind ts) (by_rows (map (λ r. (r.0, r.1.now)) OTHER) ts)

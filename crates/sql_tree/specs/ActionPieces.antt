@@ -1,7 +1,7 @@
 -- The pieces of ALTER actions (PostgreSQL manual, ALTER TABLE, ALTER SEQUENCE, ALTER POLICY and ALTER TYPE).
 use Rattle.std.specs.Prelude.{ℕ, Bool, true, false, not, ◌&&◌, ◌||◌, if◌then◌else◌, List, [], ◌∷◌, map, take, Option, Some, None}
 use Rattle.std.specs.Option.{option_and_then}
-use Rattle.sql_keyword.specs.declared.words.Keyword.TheVariants as k
+use Rattle.sql_keyword.specs.declared.words.TheConstants.Keyword as keyword
 use Rattle.sql_token.specs.declared.terminal.Symbol.{Symbol}
 use Rattle.sql_token.specs.declared.terminal.Symbol.TheVariants as s
 use Rattle.sql_token.specs.declared.terminal.Terminal.{Terminal}
@@ -26,17 +26,17 @@ use Rattle.sql_tree.specs.Words.{is_of_class}
 -- A word right after NO or a dot begins nothing.
 unfoldable pub sequence_option : Option Terminal → Terminal → List Terminal → Bool
 sequence_option None t after = false
-sequence_option (Some earlier) t after = is_of_class class.SequenceOption t && not (is_keyword k.No earlier || is_dot earlier)
+sequence_option (Some earlier) t after = is_of_class class.SequenceOption t && not (is_keyword keyword.NO earlier || is_dot earlier)
 
 -- RESTART right after SET begins nothing.
 unfoldable pub identity_option : Option Terminal → Terminal → List Terminal → Bool
 identity_option None t after = false
-identity_option (Some earlier) t after = is_keyword k.Set t || (is_keyword k.Restart t && not (is_keyword k.Set earlier))
+identity_option (Some earlier) t after = is_keyword keyword.SET t || (is_keyword keyword.RESTART t && not (is_keyword keyword.SET earlier))
 
 -- TO, USING or WITH CHECK
 unfoldable pub policy_part : Option Terminal → Terminal → List Terminal → Bool
 policy_part None t after = false
-policy_part (Some earlier) t after = is_keyword k.To t || is_keyword k.Using t || (is_keyword k.With t && begins_with k.Check after)
+policy_part (Some earlier) t after = is_keyword keyword.TO t || is_keyword keyword.USING t || (is_keyword keyword.WITH t && begins_with keyword.CHECK after)
 
 -- ---- how long a piece is
 
@@ -48,8 +48,8 @@ is_word_symbol _ = false
 -- NOT ENFORCED, NOT DEFERRABLE, or INITIALLY with a word behind it
 unfoldable pub is_pair : Terminal → Terminal → Bool
 is_pair t u =
-    (is_keyword k.Not t && (is_keyword k.Enforced u || is_keyword k.Deferrable u))
-    || (is_keyword k.Initially t && is_word_symbol u.symbol)
+    (is_keyword keyword.NOT t && (is_keyword keyword.ENFORCED u || is_keyword keyword.DEFERRABLE u))
+    || (is_keyword keyword.INITIALLY t && is_word_symbol u.symbol)
 
 abbrev pub begins_pair : List Terminal → Bool
 begins_pair (t ∷ u ∷ ts) = is_pair t u
@@ -75,7 +75,7 @@ type_in kind rest = None
 
 -- SET GENERATED ALWAYS
 unfoldable pub is_always : PieceKind → List Terminal → Bool
-is_always p.SetGenerated rest = begins_with k.Always rest
+is_always p.SetGenerated rest = begins_with keyword.ALWAYS rest
 is_always kind rest = false
 
 -- the piece of this kind, of which this is left open

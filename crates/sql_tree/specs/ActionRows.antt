@@ -2,6 +2,8 @@
 use Rattle.std.specs.Prelude.{List, [], map}
 use Rattle.sql_keyword.specs.declared.words.Keyword.{Keyword}
 use Rattle.sql_keyword.specs.declared.words.Keyword.TheVariants as k
+use Rattle.sql_keyword.specs.declared.words.Verb.TheVariants as verbs
+use Rattle.sql_keyword.specs.declared.words.Other.TheVariants as others
 use Rattle.sql_token.specs.declared.terminal.Symbol.{Symbol}
 use Rattle.sql_token.specs.declared.terminal.Symbol.TheVariants as s
 use Rattle.sql_tree.specs.declared.actions.TheConstants.{OWNER, SCHEMA, RENAME, TYPE, DOMAIN, SEQUENCE, FUNCTION, CONFIG, EXTENSION, POLICY, PUBLICATION, GROUP, PRIVILEGES, ADD, DROP, ALTER, RENAME_COLUMN, VALIDATE, DETACH, ENABLE, DISABLE, FORCE, NO, REPLICA, SET, RESET, CLUSTER}
@@ -11,9 +13,9 @@ use Rattle.sql_tree.specs.Forms.{ActionRow}
 
 -- read before all others, by the first word
 unfoldable pub first_rows : Keyword → List ActionRow
-first_rows k.Owner = map (λ r. (r.0, r.1.now)) OWNER
-first_rows k.Set = map (λ r. (r.0, r.1.now)) SCHEMA
-first_rows k.Rename = map (λ r. (r.0, r.1.now)) RENAME
+first_rows (k.Other others.Owner) = map (λ r. (r.0, r.1.now)) OWNER
+first_rows (k.Verb verbs.Set) = map (λ r. (r.0, r.1.now)) SCHEMA
+first_rows (k.Other others.Rename) = map (λ r. (r.0, r.1.now)) RENAME
 first_rows _ = []
 
 -- read next, of one kind of statement
@@ -38,20 +40,20 @@ own_rows _ = []
 
 -- read next, of every kind of statement, by the first word
 unfoldable pub general_rows : Keyword → List ActionRow
-general_rows k.Add = map (λ r. (r.0, r.1.now)) ADD
-general_rows k.Drop = map (λ r. (r.0, r.1.now)) DROP
-general_rows k.Alter = map (λ r. (r.0, r.1.now)) ALTER
-general_rows k.Rename = map (λ r. (r.0, r.1.now)) RENAME_COLUMN
-general_rows k.Validate = map (λ r. (r.0, r.1.now)) VALIDATE
-general_rows k.Detach = map (λ r. (r.0, r.1.now)) DETACH
-general_rows k.Enable = map (λ r. (r.0, r.1.now)) ENABLE
-general_rows k.Disable = map (λ r. (r.0, r.1.now)) DISABLE
-general_rows k.Force = map (λ r. (r.0, r.1.now)) FORCE
-general_rows k.No = map (λ r. (r.0, r.1.now)) NO
-general_rows k.Replica = map (λ r. (r.0, r.1.now)) REPLICA
-general_rows k.Set = map (λ r. (r.0, r.1.now)) SET
-general_rows k.Reset = map (λ r. (r.0, r.1.now)) RESET
-general_rows k.Cluster = map (λ r. (r.0, r.1.now)) CLUSTER
+general_rows (k.Other others.Add) = map (λ r. (r.0, r.1.now)) ADD
+general_rows (k.Verb verbs.Drop) = map (λ r. (r.0, r.1.now)) DROP
+general_rows (k.Verb verbs.Alter) = map (λ r. (r.0, r.1.now)) ALTER
+general_rows (k.Other others.Rename) = map (λ r. (r.0, r.1.now)) RENAME_COLUMN
+general_rows (k.Other others.Validate) = map (λ r. (r.0, r.1.now)) VALIDATE
+general_rows (k.Other others.Detach) = map (λ r. (r.0, r.1.now)) DETACH
+general_rows (k.Other others.Enable) = map (λ r. (r.0, r.1.now)) ENABLE
+general_rows (k.Other others.Disable) = map (λ r. (r.0, r.1.now)) DISABLE
+general_rows (k.Other others.Force) = map (λ r. (r.0, r.1.now)) FORCE
+general_rows (k.Other others.No) = map (λ r. (r.0, r.1.now)) NO
+general_rows (k.Other others.Replica) = map (λ r. (r.0, r.1.now)) REPLICA
+general_rows (k.Verb verbs.Set) = map (λ r. (r.0, r.1.now)) SET
+general_rows (k.Verb verbs.Reset) = map (λ r. (r.0, r.1.now)) RESET
+general_rows (k.Verb verbs.Cluster) = map (λ r. (r.0, r.1.now)) CLUSTER
 general_rows _ = []
 
 -- the same by the first symbol: nothing where it is no key word

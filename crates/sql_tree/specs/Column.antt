@@ -3,6 +3,9 @@ use Rattle.std.specs.Prelude.{Bool, true, false, ◌&&◌, ◌||◌, if◌then�
 use Rattle.std.specs.Option.{option_and_then}
 use Rattle.sql_keyword.specs.declared.words.Keyword.{Keyword}
 use Rattle.sql_keyword.specs.declared.words.Keyword.TheVariants as k
+use Rattle.sql_keyword.specs.declared.words.Object.TheVariants as objects
+use Rattle.sql_keyword.specs.declared.words.Other.TheVariants as others
+use Rattle.sql_keyword.specs.declared.words.TheConstants.Keyword as keyword
 use Rattle.sql_token.specs.declared.terminal.Symbol.{Symbol}
 use Rattle.sql_token.specs.declared.terminal.Symbol.TheVariants as s
 use Rattle.sql_token.specs.declared.terminal.Terminal.{Terminal}
@@ -36,12 +39,12 @@ column (t ∷ ts) =
 -- ---- elements
 
 abbrev pub is_constraint_word : Keyword → Bool
-is_constraint_word k.Constraint = true
-is_constraint_word k.Check = true
-is_constraint_word k.Unique = true
-is_constraint_word k.Primary = true
-is_constraint_word k.Foreign = true
-is_constraint_word k.Not = true
+is_constraint_word (k.Object objects.Constraint) = true
+is_constraint_word (k.Other others.Check) = true
+is_constraint_word (k.Other others.Unique) = true
+is_constraint_word (k.Other others.Primary) = true
+is_constraint_word (k.Object objects.Foreign) = true
+is_constraint_word (k.Other others.Not) = true
 is_constraint_word _ = false
 
 abbrev pub is_constraint_symbol : Symbol → Bool
@@ -50,7 +53,7 @@ is_constraint_symbol _ = false
 
 -- Whether a constraint of the table is led by t. EXCLUDE may be a column's name too.
 unfoldable pub leads_constraint : Terminal → List Terminal → Bool
-leads_constraint t after = is_constraint_symbol t.symbol || is_keyword k.Exclude t && is_exclusion after
+leads_constraint t after = is_constraint_symbol t.symbol || is_keyword keyword.EXCLUDE t && is_exclusion after
 
 abbrev pub constraint_element : Option Constraint → Elem
 constraint_element None = elem.Other
@@ -65,7 +68,7 @@ unfoldable pub element : List Terminal → Elem
 element [] = elem.Other
 element (t ∷ ts) =
     if leads_constraint t ts then constraint_element (table_constraint (t ∷ ts))
-    else (if is_keyword k.Like t then elem.Like else column_element (column (t ∷ ts)))
+    else (if is_keyword keyword.LIKE t then elem.Like else column_element (column (t ∷ ts)))
 
 abbrev pub listed : List Terminal → List Elem
 listed inside = map element (split comma inside)

@@ -3,6 +3,9 @@
 use Rattle.std.specs.Prelude.{ℕ, ◌+◌, Bool, true, false, not, ◌&&◌, ◌||◌, if◌then◌else◌, List, [], ◌∷◌, Option, Some, None, is_some}
 use Rattle.sql_keyword.specs.declared.words.Keyword.{Keyword}
 use Rattle.sql_keyword.specs.declared.words.Keyword.TheVariants as k
+use Rattle.sql_keyword.specs.declared.words.Object.TheVariants as objects
+use Rattle.sql_keyword.specs.declared.words.Other.TheVariants as others
+use Rattle.sql_keyword.specs.declared.words.TheConstants.Keyword as keyword
 use Rattle.sql_token.specs.declared.terminal.Symbol.{Symbol}
 use Rattle.sql_token.specs.declared.terminal.Symbol.TheVariants as s
 use Rattle.sql_token.specs.declared.terminal.Terminal.{Terminal}
@@ -14,20 +17,20 @@ use Rattle.sql_tree.specs.Split.{begins_with}
 -- ---- ends
 
 abbrev pub is_value_end_word : Keyword → Bool
-is_value_end_word k.Constraint = true
-is_value_end_word k.Not = true
-is_value_end_word k.Null = true
-is_value_end_word k.Check = true
-is_value_end_word k.Default = true
-is_value_end_word k.Generated = true
-is_value_end_word k.Unique = true
-is_value_end_word k.Primary = true
-is_value_end_word k.References = true
-is_value_end_word k.Deferrable = true
-is_value_end_word k.Initially = true
-is_value_end_word k.Enforced = true
-is_value_end_word k.Compression = true
-is_value_end_word k.Storage = true
+is_value_end_word (k.Object objects.Constraint) = true
+is_value_end_word (k.Other others.Not) = true
+is_value_end_word (k.Other others.Null) = true
+is_value_end_word (k.Other others.Check) = true
+is_value_end_word (k.Other others.Default) = true
+is_value_end_word (k.Other others.Generated) = true
+is_value_end_word (k.Other others.Unique) = true
+is_value_end_word (k.Other others.Primary) = true
+is_value_end_word (k.Other others.References) = true
+is_value_end_word (k.Other others.Deferrable) = true
+is_value_end_word (k.Other others.Initially) = true
+is_value_end_word (k.Other others.Enforced) = true
+is_value_end_word (k.Other others.Compression) = true
+is_value_end_word (k.Other others.Storage) = true
 is_value_end_word _ = false
 
 abbrev pub is_value_end_symbol : Symbol → Bool
@@ -39,7 +42,7 @@ unfoldable pub value_end : Option Terminal → Terminal → List Terminal → Bo
 value_end earlier t after = is_value_end_symbol t.symbol
 
 abbrev pub is_type_end : Terminal → Bool
-is_type_end t = is_value_end_symbol t.symbol || is_keyword k.Collate t || is_keyword k.Using t || is_keyword k.Options t
+is_type_end t = is_value_end_symbol t.symbol || is_keyword keyword.COLLATE t || is_keyword keyword.USING t || is_keyword keyword.OPTIONS t
 
 -- a word that ends the type of a column
 unfoldable pub type_end : Option Terminal → Terminal → List Terminal → Bool
@@ -52,14 +55,14 @@ abbrev pub kind_before : ConKind → Keyword → List Terminal → Option ConKin
 kind_before kind w after = if begins_with w after then Some kind else None
 
 abbrev pub kind_of_word : Keyword → List Terminal → Option ConKind
-kind_of_word k.Not after = kind_before NotNull k.Null after
-kind_of_word k.Primary after = kind_before PrimaryKey k.Key after
-kind_of_word k.Null after = Some Null
-kind_of_word k.Check after = Some Check
-kind_of_word k.Default after = Some Default
-kind_of_word k.Generated after = Some Generated
-kind_of_word k.Unique after = Some Unique
-kind_of_word k.References after = Some References
+kind_of_word (k.Other others.Not) after = kind_before NotNull keyword.NULL after
+kind_of_word (k.Other others.Primary) after = kind_before PrimaryKey keyword.KEY after
+kind_of_word (k.Other others.Null) after = Some Null
+kind_of_word (k.Other others.Check) after = Some Check
+kind_of_word (k.Other others.Default) after = Some Default
+kind_of_word (k.Other others.Generated) after = Some Generated
+kind_of_word (k.Other others.Unique) after = Some Unique
+kind_of_word (k.Other others.References) after = Some References
 kind_of_word _ after = None
 
 abbrev pub kind_of_symbol : Symbol → List Terminal → Option ConKind
@@ -83,8 +86,8 @@ follows w (Some t) = is_keyword w t
 -- NULL and DEFAULT right after SET, and DEFAULT right after BY, belong to other words.
 unfoldable pub is_bound : Option Terminal → Terminal → Bool
 is_bound earlier t =
-    is_keyword k.Null t && follows k.Set earlier
-    || is_keyword k.Default t && (follows k.Set earlier || follows k.By earlier)
+    is_keyword keyword.NULL t && follows keyword.SET earlier
+    || is_keyword keyword.DEFAULT t && (follows keyword.SET earlier || follows keyword.BY earlier)
 
 -- the kind of a constraint behind its name
 unfoldable pub kind_behind_name : List Terminal → Option ConKind
@@ -94,7 +97,7 @@ kind_behind_name (t ∷ ts) = if is_name t then first_kind ts else None
 -- The word CONSTRAINT begins a constraint where a name and the words of a kind follow it.
 unfoldable pub constraint_start : Option Terminal → Terminal → List Terminal → Bool
 constraint_start earlier t after =
-    if is_keyword k.Constraint t then is_some (kind_behind_name after)
+    if is_keyword keyword.CONSTRAINT t then is_some (kind_behind_name after)
     else is_some (kind_led t after) && not (is_bound earlier t)
 
 -- How many terminals of the head follow the first word of a kind. The first token of a default's expression is
@@ -108,4 +111,4 @@ kind_head _ = 0
 -- how many terminals of a constraint's head follow its first one
 unfoldable pub constraint_head : Terminal → List Terminal → ℕ
 constraint_head t after =
-    if is_keyword k.Constraint t then kind_head (kind_behind_name after) + 2 else kind_head (kind_led t after)
+    if is_keyword keyword.CONSTRAINT t then kind_head (kind_behind_name after) + 2 else kind_head (kind_led t after)

@@ -3,6 +3,8 @@ use Rattle.std.specs.Prelude.{ℕ, ◌-◌, ◌==◌, nat_lt, Bool, true, false,
 use Rattle.std.specs.Option.{option_and_then}
 use Rattle.sql_keyword.specs.declared.words.Keyword.{Keyword}
 use Rattle.sql_keyword.specs.declared.words.Keyword.TheVariants as k
+use Rattle.sql_keyword.specs.declared.words.Other.TheVariants as others
+use Rattle.sql_keyword.specs.declared.words.TheConstants.Keyword as keyword
 use Rattle.sql_token.specs.declared.token.Span.{Span}
 use Rattle.sql_token.specs.declared.terminal.Symbol.{Symbol}
 use Rattle.sql_token.specs.declared.terminal.Symbol.TheVariants as s
@@ -45,11 +47,11 @@ with_arguments kind name ts rest =
 
 -- what follows the word VARYING, where it stands
 unfoldable pub behind_varying : List Terminal → List Terminal
-behind_varying ts = if begins_with k.Varying ts then drop 1 ts else ts
+behind_varying ts = if begins_with keyword.VARYING ts then drop 1 ts else ts
 
 -- CHARACTER or CHAR, which is Varchar with VARYING
 abbrev pub character_kind : List Terminal → TyKind
-character_kind rest = if begins_with k.Varying rest then Varchar else Character
+character_kind rest = if begins_with keyword.VARYING rest then Varchar else Character
 
 unfoldable pub character_type : List Terminal → List Terminal → Option ColType
 character_type ts rest = with_arguments (character_kind rest) (span_of ts).first ts (behind_varying rest)
@@ -57,18 +59,18 @@ character_type ts rest = with_arguments (character_kind rest) (span_of ts).first
 -- DOUBLE PRECISION
 unfoldable pub double_type : List Terminal → List Terminal → Option ColType
 double_type ts rest =
-    if begins_with k.Precision rest && length rest == 1 then Some (plain_of Double (span_of ts).first (span_of ts) None false)
+    if begins_with keyword.PRECISION rest && length rest == 1 then Some (plain_of Double (span_of ts).first (span_of ts) None false)
     else None
 
 abbrev pub is_time_zone : List Terminal → Bool
 is_time_zone [] = false
-is_time_zone (t ∷ ts) = is_keyword k.Time t && begins_with k.Zone ts && length ts == 1
+is_time_zone (t ∷ ts) = is_keyword keyword.TIME t && begins_with keyword.ZONE ts && length ts == 1
 
 -- Whether the type is WITH TIME ZONE. None where something else than WITH or WITHOUT TIME ZONE, or nothing, stands.
 unfoldable pub zone : List Terminal → Option Bool
 zone [] = Some false
 zone (t ∷ ts) =
-    if is_time_zone ts then (if is_keyword k.With t then Some true else (if is_keyword k.Without t then Some false else None)) else None
+    if is_time_zone ts then (if is_keyword keyword.WITH t then Some true else (if is_keyword keyword.WITHOUT t then Some false else None)) else None
 
 -- how many terminals of what follows TIME or TIMESTAMP are its arguments
 unfoldable pub list_len : List Terminal → ℕ
@@ -85,14 +87,14 @@ time_type kind ts rest =
 
 -- a type that opens with this word, `rest` being what follows it
 unfoldable pub word_type : Keyword → List Terminal → List Terminal → Option ColType
-word_type k.Varchar ts rest = with_arguments Varchar (span_of ts).first ts rest
-word_type k.Character ts rest = character_type ts rest
-word_type k.Char ts rest = character_type ts rest
-word_type k.Bit ts rest = with_arguments Bit (span_of ts).first ts (behind_varying rest)
-word_type k.Double ts rest = double_type ts rest
-word_type k.Time ts rest = time_type Time ts rest
-word_type k.Timestamp ts rest = time_type Timestamp ts rest
-word_type k.Interval ts rest = Some (plain_of Interval (span_of ts).first (span_of ts) None false)
+word_type (k.Other others.Varchar) ts rest = with_arguments Varchar (span_of ts).first ts rest
+word_type (k.Other others.Character) ts rest = character_type ts rest
+word_type (k.Other others.Char) ts rest = character_type ts rest
+word_type (k.Other others.Bit) ts rest = with_arguments Bit (span_of ts).first ts (behind_varying rest)
+word_type (k.Other others.Double) ts rest = double_type ts rest
+word_type (k.Other others.Time) ts rest = time_type Time ts rest
+word_type (k.Other others.Timestamp) ts rest = time_type Timestamp ts rest
+word_type (k.Other others.Interval) ts rest = Some (plain_of Interval (span_of ts).first (span_of ts) None false)
 word_type _ ts rest = None
 
 abbrev pub symbol_type : Symbol → List Terminal → List Terminal → Option ColType
@@ -139,7 +141,7 @@ ends_with w ts = begins_with w (drop (length ts - 1) ts)
 
 -- the word ARRAY and no more than one group
 abbrev pub has_word_array : List Terminal → ℕ → Bool
-has_word_array ts n = ends_with k.Array (take n ts) && closing 0 0 (drop n ts) == length (drop n ts)
+has_word_array ts n = ends_with keyword.ARRAY (take n ts) && closing 0 0 (drop n ts) == length (drop n ts)
 
 -- a type, the word ARRAY, and no more than one group
 unfoldable pub array_by_word : List Terminal → Option ColType

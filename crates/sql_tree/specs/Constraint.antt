@@ -2,7 +2,7 @@
 use Rattle.std.specs.Prelude.{ℕ, Bool, true, false, ◌&&◌, ◌||◌, if◌then◌else◌, List, [], ◌∷◌, take, drop, Option, Some, None, is_some}
 use Rattle.std.specs.Option.{option_and_then}
 use Rattle.sql_keyword.specs.declared.words.Keyword.{Keyword}
-use Rattle.sql_keyword.specs.declared.words.Keyword.TheVariants as k
+use Rattle.sql_keyword.specs.declared.words.TheConstants.Keyword as keyword
 use Rattle.sql_token.specs.declared.token.Span.{Span}
 use Rattle.sql_token.specs.declared.terminal.Terminal.{Terminal}
 use Rattle.sql_token.specs.Terminal.{is_keyword, is_name}
@@ -28,17 +28,17 @@ named (t ∷ ts) = if is_name t then Some (Some t.number, ts) else None
 -- The name behind CONSTRAINT: any word is one, key words too.
 unfoldable pub constraint_name : List Terminal → Option (Option ℕ × List Terminal)
 constraint_name [] = Some (None, [])
-constraint_name (t ∷ ts) = if is_keyword k.Constraint t then named ts else Some (None, t ∷ ts)
+constraint_name (t ∷ ts) = if is_keyword keyword.CONSTRAINT t then named ts else Some (None, t ∷ ts)
 
 -- ---- what a table's constraint is: CHECK, UNIQUE, PRIMARY KEY, EXCLUDE, FOREIGN KEY or NOT NULL, then anything
 
 abbrev pub is_exclusion : List Terminal → Bool
 is_exclusion [] = false
-is_exclusion (t ∷ ts) = is_keyword k.Using t || is_open_round_symbol t.symbol
+is_exclusion (t ∷ ts) = is_keyword keyword.USING t || is_open_round_symbol t.symbol
 
 -- EXCLUDE may be a column's name too: it is a constraint only directly before USING or `(`.
 unfoldable pub behind_exclude : List Terminal → Option (List Terminal)
-behind_exclude ts = option_and_then (λ rest. if is_exclusion rest then Some rest else None) (behind_word k.Exclude ts)
+behind_exclude ts = option_and_then (λ rest. if is_exclusion rest then Some rest else None) (behind_word keyword.EXCLUDE ts)
 
 -- what follows these two words, which stand first
 unfoldable pub behind_two : Keyword → Keyword → List Terminal → Option (List Terminal)
@@ -52,14 +52,14 @@ kind_or kind (Some rest) other = Some (kind, rest)
 -- PRIMARY KEY, FOREIGN KEY or NOT NULL
 unfoldable pub two_word_kind : List Terminal → Option (ConKind × List Terminal)
 two_word_kind ts =
-    kind_or PrimaryKey (behind_two k.Primary k.Key ts)
-    (kind_or ForeignKey (behind_two k.Foreign k.Key ts)
-    (kind_or NotNull (behind_two k.Not k.Null ts) None))
+    kind_or PrimaryKey (behind_two keyword.PRIMARY keyword.KEY ts)
+    (kind_or ForeignKey (behind_two keyword.FOREIGN keyword.KEY ts)
+    (kind_or NotNull (behind_two keyword.NOT keyword.NULL ts) None))
 
 unfoldable pub constraint_kind : List Terminal → Option (ConKind × List Terminal)
 constraint_kind ts =
-    kind_or Check (behind_word k.Check ts)
-    (kind_or Unique (behind_word k.Unique ts)
+    kind_or Check (behind_word keyword.CHECK ts)
+    (kind_or Unique (behind_word keyword.UNIQUE ts)
     (kind_or Exclude (behind_exclude ts) (two_word_kind ts)))
 
 -- ---- how it is added
@@ -71,7 +71,7 @@ is_key _ = false
 
 -- UNIQUE or PRIMARY KEY, followed at once by USING INDEX
 unfoldable pub by_index : ConKind → List Terminal → Bool
-by_index kind rest = is_key kind && is_some (behind_two k.Using k.Index rest)
+by_index kind rest = is_key kind && is_some (behind_two keyword.USING keyword.INDEX rest)
 
 -- ---- its expression
 

@@ -1,6 +1,6 @@
 -- Expressions (PostgreSQL manual, section 4.2): which reading one has, and its tree.
 use Rattle.std.specs.Prelude.{ℕ, suc, zero, ◌+◌, ◌-◌, ◌==◌, nat_lt, nat_le, Bool, true, false, not, ◌&&◌, ◌||◌, if◌then◌else◌, List, [], ◌∷◌, length, take, drop, map, slice_index_or, Option, Some, None}
-use Rattle.sql_keyword.specs.declared.words.Keyword.TheVariants as k
+use Rattle.sql_keyword.specs.declared.words.TheConstants.Keyword as keyword
 use Rattle.sql_token.specs.declared.token.Span.{Span}
 use Rattle.sql_token.specs.declared.terminal.Symbol.{Symbol}
 use Rattle.sql_token.specs.declared.terminal.Symbol.TheVariants as s
@@ -22,8 +22,8 @@ from_end n ts = slice_index_or ts (length ts - n) nothing
 
 unfoldable pub ends_not_null : List Terminal → Bool
 ends_not_null ts =
-    nat_le 3 (length ts) && is_keyword k.Is (from_end 3 ts) && is_keyword k.Not (from_end 2 ts)
-    && is_keyword k.Null (from_end 1 ts)
+    nat_le 3 (length ts) && is_keyword keyword.IS (from_end 3 ts) && is_keyword keyword.NOT (from_end 2 ts)
+    && is_keyword keyword.NULL (from_end 1 ts)
 
 -- The part before IS NOT NULL is not empty, has no operator at depth 0, and does not itself end with IS NOT NULL.
 unfoldable pub is_not_null : List Terminal → Bool
@@ -44,7 +44,7 @@ all_full ts = all_full_of (split operator ts)
 -- The mark behind n terminals decides, and it is of what stands before it. Neither side is empty.
 unfoldable pub cast_at : List Terminal → ℕ → Shape
 cast_at ts n =
-    if is_keyword k.Collate (slice_index_or ts n nothing)
+    if is_keyword keyword.COLLATE (slice_index_or ts n nothing)
     then (if n == 0 || n + 1 == length ts then Other else Collate n)
     else (if n == 0 || nat_le (length ts) (n + 2) then Other else Cast 0 n)
 
@@ -59,12 +59,12 @@ is_literal_symbol _ = false
 
 -- a number, a string constant, or TRUE, FALSE or NULL
 unfoldable pub is_literal : Terminal → Bool
-is_literal t = is_literal_symbol t.symbol || is_keyword k.True t || is_keyword k.False t || is_keyword k.Null t
+is_literal t = is_literal_symbol t.symbol || is_keyword keyword.TRUE t || is_keyword keyword.FALSE t || is_keyword keyword.NULL t
 
 -- What follows the word CAST: a bracket list with an AS in it, the first one of depth 0.
 unfoldable pub cast_call : List Terminal → Option Shape
 cast_call ts =
-    if is_list ts && has (word k.As) (inside_list ts) then Some (Cast 2 (before (word k.As) (inside_list ts))) else None
+    if is_list ts && has (word keyword.AS) (inside_list ts) then Some (Cast 2 (before (word keyword.AS) (inside_list ts))) else None
 
 -- the name of a path of one name
 abbrev pub name_of : Bool → Span → Option ℕ
@@ -91,8 +91,8 @@ unfoldable pub leaf : List Terminal → Shape
 leaf [] = Other
 leaf (t ∷ ts) =
     if is_empty ts && is_literal t then Literal
-    else (if is_keyword k.Array t && is_square ts then Array
-    else (if is_keyword k.Cast t then or_named (t ∷ ts) (cast_call ts) else named (t ∷ ts)))
+    else (if is_keyword keyword.ARRAY t && is_square ts then Array
+    else (if is_keyword keyword.CAST t then or_named (t ∷ ts) (cast_call ts) else named (t ∷ ts)))
 
 -- ---- the first reading that fits
 

@@ -3,6 +3,10 @@ use Rattle.std.specs.Prelude.{ℕ, ◌==◌, List, [], ◌∷◌, length, map, B
 use Rattle.std.specs.Option.{option_and_then}
 use Rattle.sql_keyword.specs.declared.words.Keyword.{Keyword}
 use Rattle.sql_keyword.specs.declared.words.Keyword.TheVariants as k
+use Rattle.sql_keyword.specs.declared.words.Verb.TheVariants as verbs
+use Rattle.sql_keyword.specs.declared.words.Object.TheVariants as objects
+use Rattle.sql_keyword.specs.declared.words.Other.TheVariants as others
+use Rattle.sql_keyword.specs.declared.words.TheConstants.Keyword as keyword
 use Rattle.sql_token.specs.declared.terminal.Symbol.{Symbol}
 use Rattle.sql_token.specs.declared.terminal.Symbol.TheVariants as s
 use Rattle.sql_token.specs.declared.terminal.Terminal.{Terminal}
@@ -68,12 +72,12 @@ or_here (Some s) c ts = s
 or_here None c ts = at c ts
 
 unfoldable pub words_of : Phrase → List Keyword
-words_of phrase.IfExists = k.If ∷ k.Exists ∷ []
-words_of phrase.IfNotExists = k.If ∷ k.Not ∷ k.Exists ∷ []
-words_of phrase.AndChain = k.And ∷ k.Chain ∷ []
-words_of phrase.AndNoChain = k.And ∷ k.No ∷ k.Chain ∷ []
-words_of phrase.OrReplace = k.Or ∷ k.Replace ∷ []
-words_of phrase.SetData = k.Set ∷ k.Data ∷ []
+words_of phrase.IfExists = keyword.IF ∷ keyword.EXISTS ∷ []
+words_of phrase.IfNotExists = keyword.IF ∷ keyword.NOT ∷ keyword.EXISTS ∷ []
+words_of phrase.AndChain = keyword.AND ∷ keyword.CHAIN ∷ []
+words_of phrase.AndNoChain = keyword.AND ∷ keyword.NO ∷ keyword.CHAIN ∷ []
+words_of phrase.OrReplace = keyword.OR ∷ keyword.REPLACE ∷ []
+words_of phrase.SetData = keyword.SET ∷ keyword.DATA ∷ []
 
 -- the terminals behind this word
 abbrev pub behind_word : Keyword → List Terminal → Option (List Terminal)
@@ -106,10 +110,10 @@ take_path c (t ∷ ts) =
     else None
 
 abbrev pub is_temp : Terminal → Bool
-is_temp t = is_keyword k.Temp t || is_keyword k.Temporary t
+is_temp t = is_keyword keyword.TEMP t || is_keyword keyword.TEMPORARY t
 
 abbrev pub is_other_mod : Terminal → Bool
-is_other_mod t = is_keyword k.Global t || is_keyword k.Local t || is_keyword k.Unlogged t
+is_other_mod t = is_keyword keyword.GLOBAL t || is_keyword keyword.LOCAL t || is_keyword keyword.UNLOGGED t
 
 abbrev pub take_mods : Captures → List Terminal → State
 take_mods c [] = at c []
@@ -119,7 +123,7 @@ take_mods c (t ∷ ts) =
 
 -- a name that is not the word ON
 abbrev pub index_name : Captures → List Terminal → Option State
-index_name c ts = one (λ t. is_name t && not (is_keyword k.On t)) name_kept c ts
+index_name c ts = one (λ t. is_name t && not (is_keyword keyword.ON t)) name_kept c ts
 
 abbrev pub guard : Captures → List Terminal → State
 guard c ts = or_here (take_phrase phrase.IfNotExists m.Guarded c ts) c ts
@@ -132,7 +136,7 @@ take_chain c ts =
     or_here (either_of (take_phrase phrase.AndChain m.Chain c ts) (take_phrase phrase.AndNoChain m.Nothing c ts)) c ts
 
 abbrev pub take_concurrently : Captures → List Terminal → State
-take_concurrently c ts = or_here (one (is_keyword k.Concurrently) concurrently_kept c ts) c ts
+take_concurrently c ts = or_here (one (is_keyword keyword.CONCURRENTLY) concurrently_kept c ts) c ts
 
 abbrev pub is_star_symbol : Symbol → Bool
 is_star_symbol s.Star = true
@@ -143,7 +147,7 @@ take_star c ts = or_here (one (λ t. is_star_symbol t.symbol) nothing_kept c ts)
 
 -- what stands behind the INTO of a SELECT
 abbrev pub take_into : Captures → List Terminal → Option State
-take_into c ts = one (is_keyword k.Into) nothing_kept c (from_mark into ts)
+take_into c ts = one (is_keyword keyword.INTO) nothing_kept c (from_mark into ts)
 
 abbrev pub is_str_symbol : Symbol → Bool
 is_str_symbol s.Str = true
@@ -247,48 +251,48 @@ first_whole (r ∷ rs) ts = either_of (finished r.0 r.1 (at fresh ts)) (first_wh
 
 -- the family of the object that this word names, or that may stand before it
 unfoldable pub family_of : Keyword → Family
-family_of k.Table = family.Relation
-family_of k.Temp = family.Relation
-family_of k.Temporary = family.Relation
-family_of k.Global = family.Relation
-family_of k.Local = family.Relation
-family_of k.Unlogged = family.Relation
-family_of k.Unique = family.Relation
-family_of k.Index = family.Relation
-family_of k.Sequence = family.Relation
-family_of k.View = family.Relation
-family_of k.Recursive = family.Relation
-family_of k.Materialized = family.Relation
-family_of k.Foreign = family.Relation
-family_of k.Property = family.Relation
-family_of k.Or = family.Code
-family_of k.Function = family.Code
-family_of k.Procedure = family.Code
-family_of k.Routine = family.Code
-family_of k.Aggregate = family.Code
-family_of k.Trigger = family.Code
-family_of k.Constraint = family.Code
-family_of k.Rule = family.Code
-family_of k.Language = family.Code
-family_of k.Trusted = family.Code
-family_of k.Procedural = family.Code
-family_of k.Policy = family.Code
-family_of k.Event = family.Code
-family_of k.Transform = family.Code
-family_of k.«Type» = family.DataType
-family_of k.Domain = family.DataType
-family_of k.Cast = family.DataType
-family_of k.Collation = family.DataType
-family_of k.Operator = family.DataType
-family_of k.Role = family.Service
-family_of k.User = family.Service
-family_of k.Group = family.Service
-family_of k.Database = family.Service
-family_of k.Tablespace = family.Service
-family_of k.Server = family.Service
-family_of k.Publication = family.Service
-family_of k.Subscription = family.Service
-family_of k.System = family.Service
+family_of (k.Object objects.Table) = family.Relation
+family_of (k.Other others.Temp) = family.Relation
+family_of (k.Other others.Temporary) = family.Relation
+family_of (k.Other others.Global) = family.Relation
+family_of (k.Other others.Local) = family.Relation
+family_of (k.Other others.Unlogged) = family.Relation
+family_of (k.Other others.Unique) = family.Relation
+family_of (k.Object objects.Index) = family.Relation
+family_of (k.Object objects.Sequence) = family.Relation
+family_of (k.Object objects.View) = family.Relation
+family_of (k.Other others.Recursive) = family.Relation
+family_of (k.Object objects.Materialized) = family.Relation
+family_of (k.Object objects.Foreign) = family.Relation
+family_of (k.Object objects.Property) = family.Relation
+family_of (k.Other others.Or) = family.Code
+family_of (k.Object objects.Function) = family.Code
+family_of (k.Object objects.Procedure) = family.Code
+family_of (k.Object objects.Routine) = family.Code
+family_of (k.Object objects.Aggregate) = family.Code
+family_of (k.Object objects.Trigger) = family.Code
+family_of (k.Object objects.Constraint) = family.Code
+family_of (k.Object objects.Rule) = family.Code
+family_of (k.Object objects.Language) = family.Code
+family_of (k.Other others.Trusted) = family.Code
+family_of (k.Other others.Procedural) = family.Code
+family_of (k.Object objects.Policy) = family.Code
+family_of (k.Object objects.Event) = family.Code
+family_of (k.Object objects.Transform) = family.Code
+family_of (k.Object objects.«Type») = family.DataType
+family_of (k.Object objects.Domain) = family.DataType
+family_of (k.Object objects.Cast) = family.DataType
+family_of (k.Object objects.Collation) = family.DataType
+family_of (k.Object objects.Operator) = family.DataType
+family_of (k.Object objects.Role) = family.Service
+family_of (k.Object objects.User) = family.Service
+family_of (k.Object objects.Group) = family.Service
+family_of (k.Object objects.Database) = family.Service
+family_of (k.Object objects.Tablespace) = family.Service
+family_of (k.Object objects.Server) = family.Service
+family_of (k.Object objects.Publication) = family.Service
+family_of (k.Object objects.Subscription) = family.Service
+family_of (k.Object objects.System) = family.Service
 family_of _ = family.Other
 
 abbrev pub family_by : Symbol → Family
@@ -323,63 +327,63 @@ drop_rows family.Other = map (λ r. (r.0, r.1.now, r.2.now)) DROP_OTHER
 
 -- the rows of a first word, and of what follows it
 unfoldable pub rows_of : Keyword → List Terminal → List Row
-rows_of k.Create ts = create_rows (family_first ts)
-rows_of k.Alter ts = alter_rows (family_first ts)
-rows_of k.Drop ts = drop_rows (family_first ts)
-rows_of k.Start ts = map (λ r. (r.0, r.1.now, r.2.now)) START
-rows_of k.Commit ts = map (λ r. (r.0, r.1.now, r.2.now)) COMMIT
-rows_of k.End ts = map (λ r. (r.0, r.1.now, r.2.now)) END
-rows_of k.Rollback ts = map (λ r. (r.0, r.1.now, r.2.now)) ROLLBACK
-rows_of k.Abort ts = map (λ r. (r.0, r.1.now, r.2.now)) ABORT
-rows_of k.Select ts = map (λ r. (r.0, r.1.now, r.2.now)) SELECT
-rows_of k.Insert ts = map (λ r. (r.0, r.1.now, r.2.now)) INSERT
-rows_of k.Update ts = map (λ r. (r.0, r.1.now, r.2.now)) UPDATE
-rows_of k.Merge ts = map (λ r. (r.0, r.1.now, r.2.now)) MERGE
-rows_of k.Set ts = map (λ r. (r.0, r.1.now, r.2.now)) SET
-rows_of k.Reset ts = map (λ r. (r.0, r.1.now, r.2.now)) RESET
-rows_of k.Prepare ts = map (λ r. (r.0, r.1.now, r.2.now)) PREPARE
-rows_of k.Comment ts = map (λ r. (r.0, r.1.now, r.2.now)) COMMENT
-rows_of k.Import ts = map (λ r. (r.0, r.1.now, r.2.now)) IMPORT
-rows_of k.Security ts = map (λ r. (r.0, r.1.now, r.2.now)) SECURITY
-rows_of k.Refresh ts = map (λ r. (r.0, r.1.now, r.2.now)) REFRESH
-rows_of k.Cluster ts = map (λ r. (r.0, r.1.now, r.2.now)) CLUSTER
+rows_of (k.Verb verbs.Create) ts = create_rows (family_first ts)
+rows_of (k.Verb verbs.Alter) ts = alter_rows (family_first ts)
+rows_of (k.Verb verbs.Drop) ts = drop_rows (family_first ts)
+rows_of (k.Verb verbs.Start) ts = map (λ r. (r.0, r.1.now, r.2.now)) START
+rows_of (k.Verb verbs.Commit) ts = map (λ r. (r.0, r.1.now, r.2.now)) COMMIT
+rows_of (k.Verb verbs.End) ts = map (λ r. (r.0, r.1.now, r.2.now)) END
+rows_of (k.Verb verbs.Rollback) ts = map (λ r. (r.0, r.1.now, r.2.now)) ROLLBACK
+rows_of (k.Verb verbs.Abort) ts = map (λ r. (r.0, r.1.now, r.2.now)) ABORT
+rows_of (k.Verb verbs.Select) ts = map (λ r. (r.0, r.1.now, r.2.now)) SELECT
+rows_of (k.Verb verbs.Insert) ts = map (λ r. (r.0, r.1.now, r.2.now)) INSERT
+rows_of (k.Verb verbs.Update) ts = map (λ r. (r.0, r.1.now, r.2.now)) UPDATE
+rows_of (k.Verb verbs.Merge) ts = map (λ r. (r.0, r.1.now, r.2.now)) MERGE
+rows_of (k.Verb verbs.Set) ts = map (λ r. (r.0, r.1.now, r.2.now)) SET
+rows_of (k.Verb verbs.Reset) ts = map (λ r. (r.0, r.1.now, r.2.now)) RESET
+rows_of (k.Verb verbs.Prepare) ts = map (λ r. (r.0, r.1.now, r.2.now)) PREPARE
+rows_of (k.Verb verbs.Comment) ts = map (λ r. (r.0, r.1.now, r.2.now)) COMMENT
+rows_of (k.Verb verbs.Import) ts = map (λ r. (r.0, r.1.now, r.2.now)) IMPORT
+rows_of (k.Other others.Security) ts = map (λ r. (r.0, r.1.now, r.2.now)) SECURITY
+rows_of (k.Verb verbs.Refresh) ts = map (λ r. (r.0, r.1.now, r.2.now)) REFRESH
+rows_of (k.Verb verbs.Cluster) ts = map (λ r. (r.0, r.1.now, r.2.now)) CLUSTER
 rows_of _ ts = []
 
 -- the kind that a first word tells alone
 unfoldable pub one_word_kind : Keyword → Option StmtKind
-one_word_kind k.Analyse = Some stmt.Analyze
-one_word_kind k.Analyze = Some stmt.Analyze
-one_word_kind k.Begin = Some stmt.Begin
-one_word_kind k.Call = Some stmt.Call
-one_word_kind k.Checkpoint = Some stmt.Checkpoint
-one_word_kind k.Close = Some stmt.Close
-one_word_kind k.Copy = Some stmt.Copy
-one_word_kind k.Deallocate = Some stmt.Deallocate
-one_word_kind k.Declare = Some stmt.Declare
-one_word_kind k.Delete = Some stmt.Delete
-one_word_kind k.Discard = Some stmt.Discard
-one_word_kind k.Do = Some stmt.Do
-one_word_kind k.Execute = Some stmt.Execute
-one_word_kind k.Explain = Some stmt.Explain
-one_word_kind k.Fetch = Some stmt.Fetch
-one_word_kind k.Grant = Some stmt.Grant
-one_word_kind k.Listen = Some stmt.Listen
-one_word_kind k.Load = Some stmt.Load
-one_word_kind k.Lock = Some stmt.Lock
-one_word_kind k.Move = Some stmt.Move
-one_word_kind k.Notify = Some stmt.Notify
-one_word_kind k.Reassign = Some stmt.Reassign
-one_word_kind k.Reindex = Some stmt.Reindex
-one_word_kind k.Release = Some stmt.ReleaseSavepoint
-one_word_kind k.Repack = Some stmt.Repack
-one_word_kind k.Revoke = Some stmt.Revoke
-one_word_kind k.Savepoint = Some stmt.SavepointCreate
-one_word_kind k.Show = Some stmt.Show
-one_word_kind k.Table = Some stmt.Table
-one_word_kind k.Truncate = Some stmt.Truncate
-one_word_kind k.Unlisten = Some stmt.Unlisten
-one_word_kind k.Vacuum = Some stmt.Vacuum
-one_word_kind k.Values = Some stmt.Values
+one_word_kind (k.Verb verbs.Analyse) = Some stmt.Analyze
+one_word_kind (k.Verb verbs.Analyze) = Some stmt.Analyze
+one_word_kind (k.Verb verbs.Begin) = Some stmt.Begin
+one_word_kind (k.Verb verbs.Call) = Some stmt.Call
+one_word_kind (k.Verb verbs.Checkpoint) = Some stmt.Checkpoint
+one_word_kind (k.Verb verbs.Close) = Some stmt.Close
+one_word_kind (k.Verb verbs.Copy) = Some stmt.Copy
+one_word_kind (k.Verb verbs.Deallocate) = Some stmt.Deallocate
+one_word_kind (k.Verb verbs.Declare) = Some stmt.Declare
+one_word_kind (k.Verb verbs.Delete) = Some stmt.Delete
+one_word_kind (k.Verb verbs.Discard) = Some stmt.Discard
+one_word_kind (k.Verb verbs.Do) = Some stmt.Do
+one_word_kind (k.Verb verbs.Execute) = Some stmt.Execute
+one_word_kind (k.Verb verbs.Explain) = Some stmt.Explain
+one_word_kind (k.Verb verbs.Fetch) = Some stmt.Fetch
+one_word_kind (k.Verb verbs.Grant) = Some stmt.Grant
+one_word_kind (k.Verb verbs.Listen) = Some stmt.Listen
+one_word_kind (k.Verb verbs.Load) = Some stmt.Load
+one_word_kind (k.Verb verbs.Lock) = Some stmt.Lock
+one_word_kind (k.Verb verbs.Move) = Some stmt.Move
+one_word_kind (k.Verb verbs.Notify) = Some stmt.Notify
+one_word_kind (k.Verb verbs.Reassign) = Some stmt.Reassign
+one_word_kind (k.Verb verbs.Reindex) = Some stmt.Reindex
+one_word_kind (k.Verb verbs.Release) = Some stmt.ReleaseSavepoint
+one_word_kind (k.Verb verbs.Repack) = Some stmt.Repack
+one_word_kind (k.Verb verbs.Revoke) = Some stmt.Revoke
+one_word_kind (k.Verb verbs.Savepoint) = Some stmt.SavepointCreate
+one_word_kind (k.Verb verbs.Show) = Some stmt.Show
+one_word_kind (k.Object objects.Table) = Some stmt.Table
+one_word_kind (k.Verb verbs.Truncate) = Some stmt.Truncate
+one_word_kind (k.Verb verbs.Unlisten) = Some stmt.Unlisten
+one_word_kind (k.Verb verbs.Vacuum) = Some stmt.Vacuum
+one_word_kind (k.Verb verbs.Values) = Some stmt.Values
 one_word_kind _ = None
 
 -- a kind of statement whose form takes anything

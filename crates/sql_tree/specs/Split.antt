@@ -3,6 +3,10 @@
 use Rattle.std.specs.Prelude.{◌≡◌, ◌≤◌, ℕ, zero, suc, ◌+◌, ◌-◌, ◌==◌, nat_lt, Bool, true, false, not, ◌&&◌, ◌||◌, if◌then◌else◌, List, [], ◌∷◌, length, take, drop, Option, Some, None}
 use Rattle.sql_keyword.specs.declared.words.Keyword.{Keyword}
 use Rattle.sql_keyword.specs.declared.words.Keyword.TheVariants as k
+use Rattle.sql_keyword.specs.declared.words.Verb.TheVariants as verbs
+use Rattle.sql_keyword.specs.declared.words.Object.TheVariants as objects
+use Rattle.sql_keyword.specs.declared.words.Other.TheVariants as others
+use Rattle.sql_keyword.specs.declared.words.TheConstants.Keyword as keyword
 use Rattle.sql_token.specs.declared.terminal.Symbol.{Symbol}
 use Rattle.sql_token.specs.declared.terminal.Symbol.TheVariants as s
 use Rattle.sql_token.specs.declared.terminal.Terminal.{Terminal}
@@ -29,24 +33,24 @@ begins_with w (t ∷ ts) = is_keyword w t
 
 -- the adjacent words NOT VALID
 unfoldable pub not_valid : Option Terminal → Terminal → List Terminal → Bool
-not_valid earlier t after = is_keyword k.Not t && begins_with k.Valid after
+not_valid earlier t after = is_keyword keyword.NOT t && begins_with keyword.VALID after
 
 abbrev pub is_as_or_dot : Option Terminal → Bool
 is_as_or_dot None = false
-is_as_or_dot (Some t) = is_keyword k.As t || is_dot t
+is_as_or_dot (Some t) = is_keyword keyword.AS t || is_dot t
 
 -- the word INTO behind neither the word AS nor a dot
 unfoldable pub into : Option Terminal → Terminal → List Terminal → Bool
-into earlier t after = is_keyword k.Into t && not (is_as_or_dot earlier)
+into earlier t after = is_keyword keyword.INTO t && not (is_as_or_dot earlier)
 
 abbrev pub is_verb_word : Keyword → Bool
-is_verb_word k.Select = true
-is_verb_word k.Insert = true
-is_verb_word k.Update = true
-is_verb_word k.Delete = true
-is_verb_word k.Merge = true
-is_verb_word k.Values = true
-is_verb_word k.Table = true
+is_verb_word (k.Verb verbs.Select) = true
+is_verb_word (k.Verb verbs.Insert) = true
+is_verb_word (k.Verb verbs.Update) = true
+is_verb_word (k.Verb verbs.Delete) = true
+is_verb_word (k.Verb verbs.Merge) = true
+is_verb_word (k.Verb verbs.Values) = true
+is_verb_word (k.Object objects.Table) = true
 is_verb_word _ = false
 
 abbrev pub is_verb_symbol : Symbol → Bool
@@ -59,7 +63,7 @@ verb earlier t after = is_verb_symbol t.symbol
 
 -- the word GRANT or REVOKE
 unfoldable pub privileges : Option Terminal → Terminal → List Terminal → Bool
-privileges earlier t after = is_keyword k.Grant t || is_keyword k.Revoke t
+privileges earlier t after = is_keyword keyword.GRANT t || is_keyword keyword.REVOKE t
 
 -- this key word
 unfoldable pub word : Keyword → Option Terminal → Terminal → List Terminal → Bool
@@ -73,7 +77,7 @@ is_operator_symbol s.Operator = true
 is_operator_symbol _ = false
 
 abbrev pub is_operator : Terminal → Bool
-is_operator t = is_operator_symbol t.symbol || is_keyword k.And t || is_keyword k.Or t
+is_operator t = is_operator_symbol t.symbol || is_keyword keyword.AND t || is_keyword keyword.OR t
 
 -- an operator sign, AND or OR
 unfoldable pub operator : Option Terminal → Terminal → List Terminal → Bool
@@ -88,7 +92,7 @@ begins_with_colon [] = false
 begins_with_colon (t ∷ ts) = is_colon_symbol t.symbol
 
 abbrev pub is_cast : Terminal → List Terminal → Bool
-is_cast t after = is_keyword k.Collate t || is_colon_symbol t.symbol && begins_with_colon after
+is_cast t after = is_keyword keyword.COLLATE t || is_colon_symbol t.symbol && begins_with_colon after
 
 -- `::` or COLLATE
 unfoldable pub cast : Option Terminal → Terminal → List Terminal → Bool
@@ -99,7 +103,7 @@ begins_with_both v w [] = false
 begins_with_both v w (t ∷ ts) = is_keyword v t && begins_with w ts
 
 abbrev pub is_on_commit_drop : Terminal → List Terminal → Bool
-is_on_commit_drop t after = is_keyword k.On t && begins_with_both k.Commit k.Drop after
+is_on_commit_drop t after = is_keyword keyword.ON t && begins_with_both keyword.COMMIT keyword.DROP after
 
 -- the adjacent words ON COMMIT DROP
 unfoldable pub on_commit_drop : Option Terminal → Terminal → List Terminal → Bool
@@ -115,45 +119,45 @@ equals earlier t after = is_equals_symbol t.symbol
 
 -- the words DO UPDATE SET
 unfoldable pub do_update_set : Option Terminal → Terminal → List Terminal → Bool
-do_update_set earlier t after = is_keyword k.Do t && begins_with_both k.Update k.Set after
+do_update_set earlier t after = is_keyword keyword.DO t && begins_with_both keyword.UPDATE keyword.SET after
 
 -- the words THEN UPDATE SET
 unfoldable pub then_update_set : Option Terminal → Terminal → List Terminal → Bool
-then_update_set earlier t after = is_keyword k.Then t && begins_with_both k.Update k.Set after
+then_update_set earlier t after = is_keyword keyword.THEN t && begins_with_both keyword.UPDATE keyword.SET after
 
 -- the words THEN INSERT
 unfoldable pub then_insert : Option Terminal → Terminal → List Terminal → Bool
-then_insert earlier t after = is_keyword k.Then t && begins_with k.Insert after
+then_insert earlier t after = is_keyword keyword.THEN t && begins_with keyword.INSERT after
 
 abbrev pub is_clause_end : Terminal → Bool
-is_clause_end t = is_keyword k.From t || is_keyword k.Where t || is_keyword k.Returning t
+is_clause_end t = is_keyword keyword.FROM t || is_keyword keyword.WHERE t || is_keyword keyword.RETURNING t
 
 -- the end of a SET clause: FROM, WHERE or RETURNING
 unfoldable pub clause_end : Option Terminal → Terminal → List Terminal → Bool
 clause_end earlier t after = is_clause_end t
 
 abbrev pub is_matched : List Terminal → Bool
-is_matched after = begins_with k.Matched after || begins_with_both k.Not k.Matched after
+is_matched after = begins_with keyword.MATCHED after || begins_with_both keyword.NOT keyword.MATCHED after
 
 -- the end of a SET clause of MERGE: the same, or the word WHEN of WHEN MATCHED and WHEN NOT MATCHED
 unfoldable pub merge_clause_end : Option Terminal → Terminal → List Terminal → Bool
-merge_clause_end earlier t after = is_clause_end t || (is_keyword k.When t && is_matched after)
+merge_clause_end earlier t after = is_clause_end t || (is_keyword keyword.WHEN t && is_matched after)
 
 abbrev pub is_target_list_end : Keyword → Bool
-is_target_list_end k.Into = true
-is_target_list_end k.From = true
-is_target_list_end k.Where = true
-is_target_list_end k.Group = true
-is_target_list_end k.Having = true
-is_target_list_end k.Window = true
-is_target_list_end k.Union = true
-is_target_list_end k.Intersect = true
-is_target_list_end k.Except = true
-is_target_list_end k.Order = true
-is_target_list_end k.Limit = true
-is_target_list_end k.Offset = true
-is_target_list_end k.Fetch = true
-is_target_list_end k.For = true
+is_target_list_end (k.Other others.Into) = true
+is_target_list_end (k.Other others.From) = true
+is_target_list_end (k.Other others.Where) = true
+is_target_list_end (k.Object objects.Group) = true
+is_target_list_end (k.Other others.Having) = true
+is_target_list_end (k.Other others.Window) = true
+is_target_list_end (k.Other others.Union) = true
+is_target_list_end (k.Other others.Intersect) = true
+is_target_list_end (k.Other others.Except) = true
+is_target_list_end (k.Other others.Order) = true
+is_target_list_end (k.Other others.Limit) = true
+is_target_list_end (k.Other others.Offset) = true
+is_target_list_end (k.Verb verbs.Fetch) = true
+is_target_list_end (k.Other others.For) = true
 is_target_list_end _ = false
 
 abbrev pub ends_targets : Symbol → Bool

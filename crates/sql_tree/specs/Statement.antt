@@ -1,7 +1,7 @@
 -- Which statement a list of terminals is, and the tree of a text.
 use Rattle.std.specs.Prelude.{◌≡◌, ◌<◌, ℕ, ◌-◌, ◌^◌, take, List, [], ◌∷◌, length, slice_index_or, not, if◌then◌else◌, Option, Some, None, is_some, Result, Ok, Err}
 use Rattle.std.specs.Option.{option_and_then}
-use Rattle.sql_keyword.specs.declared.words.Keyword.TheVariants as k
+use Rattle.sql_keyword.specs.declared.words.TheConstants.Keyword as keyword
 use Rattle.sql_token.specs.declared.token.Span.{Span}
 use Rattle.sql_token.specs.declared.token.Tok.{Tok}
 use Rattle.sql_token.specs.declared.token.TokKind.TheVariants as kinds
@@ -38,7 +38,7 @@ without_semicolon ts = if is_semicolon (last_of ts) then take (length ts - 1) ts
 
 -- CREATE TABLE with the word AS behind its path makes its rows by a query.
 abbrev pub table_kind : List Terminal → StmtKind
-table_kind tail = if has_keyword k.As tail then stmt.CreateTableAs else stmt.CreateTable
+table_kind tail = if has_keyword keyword.AS tail then stmt.CreateTableAs else stmt.CreateTable
 
 unfoldable pub kind_of : StmtKind → State → StmtKind
 kind_of stmt.CreateTable s = table_kind s.left
@@ -180,7 +180,7 @@ front_by _ ts = None
 -- A statement led by WITH is read from its verb on, the first one at depth 0.
 unfoldable pub from_verb : List Terminal → List Terminal
 from_verb [] = []
-from_verb (t ∷ ts) = if is_keyword k.With t then from_mark verb ts else t ∷ ts
+from_verb (t ∷ ts) = if is_keyword keyword.WITH t then from_mark verb ts else t ∷ ts
 
 -- Without a verb it is a SELECT of which nothing is known.
 unfoldable pub form_from : List Terminal → Option (StmtKind × Body)

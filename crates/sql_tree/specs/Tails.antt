@@ -5,6 +5,8 @@ use Rattle.std.specs.Option.{option_and_then}
 use Rattle.std.specs.List.{list_any}
 use Rattle.sql_keyword.specs.declared.words.Keyword.{Keyword}
 use Rattle.sql_keyword.specs.declared.words.Keyword.TheVariants as k
+use Rattle.sql_keyword.specs.declared.words.Object.TheVariants as objects
+use Rattle.sql_keyword.specs.declared.words.TheConstants.Keyword as keyword
 use Rattle.sql_token.specs.declared.token.Span.{Span}
 use Rattle.sql_token.specs.declared.terminal.Symbol.{Symbol}
 use Rattle.sql_token.specs.declared.terminal.Symbol.TheVariants as s
@@ -62,11 +64,11 @@ behind_flag w (t ∷ ts) = if is_keyword w t then ts else t ∷ ts
 -- ---- REINDEX
 
 abbrev pub target_word : Keyword → Option ReindexTarget
-target_word k.Index = Some target.Index
-target_word k.Table = Some target.Table
-target_word k.Schema = Some target.Schema
-target_word k.Database = Some target.Database
-target_word k.System = Some target.System
+target_word (k.Object objects.Index) = Some target.Index
+target_word (k.Object objects.Table) = Some target.Table
+target_word (k.Object objects.Schema) = Some target.Schema
+target_word (k.Object objects.Database) = Some target.Database
+target_word (k.Object objects.System) = Some target.System
 target_word _ = None
 
 abbrev pub target_symbol : Symbol → Option ReindexTarget
@@ -75,22 +77,22 @@ target_symbol _ = None
 
 -- an option CONCURRENTLY, whatever its value
 unfoldable pub is_concurrent : List Terminal → Bool
-is_concurrent option = begins_with k.Concurrently option
+is_concurrent option = begins_with keyword.CONCURRENTLY option
 
 -- the same with a value
 unfoldable pub is_valued : List Terminal → Bool
-is_valued option = begins_with k.Concurrently option && nat_lt 1 (length option)
+is_valued option = begins_with keyword.CONCURRENTLY option && nat_lt 1 (length option)
 
 abbrev pub reindex_body : List Terminal → Terminal → List Terminal → ReindexTarget → Option Span → Body
 reindex_body inside word rest found path =
-    body.Reindex found word.number (begins_with k.Concurrently rest || any_option is_concurrent inside) (any_option is_valued inside) path
+    body.Reindex found word.number (begins_with keyword.CONCURRENTLY rest || any_option is_concurrent inside) (any_option is_valued inside) path
 
 -- what is rebuilt, by its word and what follows
 unfoldable pub reindex_object : List Terminal → List Terminal → Option Body
 reindex_object inside [] = None
 reindex_object inside (t ∷ ts) =
     option_and_then (λ found. option_and_then (λ path.
-    Some (reindex_body inside t ts found path)) (whole_path (behind_flag k.Concurrently ts))) (target_symbol t.symbol)
+    Some (reindex_body inside t ts found path)) (whole_path (behind_flag keyword.CONCURRENTLY ts))) (target_symbol t.symbol)
 
 -- [( options )], the word of what is rebuilt, [CONCURRENTLY], [path], and nothing more
 unfoldable pub reindex : List Terminal → Option Body
@@ -104,17 +106,17 @@ is_one_symbol _ = false
 
 -- TRUE, ON or 1
 unfoldable pub is_on : Terminal → Bool
-is_on t = is_keyword k.True t || is_keyword k.On t || is_one_symbol t.symbol
+is_on t = is_keyword keyword.TRUE t || is_keyword keyword.ON t || is_one_symbol t.symbol
 
 -- an option FULL that is not turned off
 unfoldable pub is_full : List Terminal → Bool
 is_full [] = false
-is_full (t ∷ []) = is_keyword k.Full t
-is_full (t ∷ v ∷ []) = is_keyword k.Full t && is_on v
+is_full (t ∷ []) = is_keyword keyword.FULL t
+is_full (t ∷ v ∷ []) = is_keyword keyword.FULL t && is_on v
 is_full (t ∷ v ∷ u ∷ ts) = false
 
 unfoldable pub is_full_vacuum : List Terminal → Bool
-is_full_vacuum ts = begins_with k.Full (behind_options ts) || any_option is_full (inside_list ts)
+is_full_vacuum ts = begins_with keyword.FULL (behind_options ts) || any_option is_full (inside_list ts)
 
 abbrev pub some_span : List Terminal → Option Span
 some_span [] = None
@@ -127,12 +129,12 @@ behind_either v w (t ∷ ts) = if is_keyword v t || is_keyword w t then ts else 
 -- what follows [( options )] [FULL] [FREEZE] [VERBOSE] [ANALYZE or ANALYSE], where it is something
 unfoldable pub vacuum_tables : List Terminal → Option Span
 vacuum_tables ts =
-    some_span (behind_either k.Analyze k.Analyse (behind_flag k.Verbose (behind_flag k.Freeze (behind_flag k.Full (behind_options ts)))))
+    some_span (behind_either keyword.ANALYZE keyword.ANALYSE (behind_flag keyword.VERBOSE (behind_flag keyword.FREEZE (behind_flag keyword.FULL (behind_options ts)))))
 
 -- ---- TRUNCATE
 
 abbrev pub cascade_number : Terminal → Option ℕ
-cascade_number t = if is_keyword k.Cascade t then Some t.number else None
+cascade_number t = if is_keyword keyword.CASCADE t then Some t.number else None
 
 -- the last terminal, where it is the word CASCADE
 unfoldable pub last_cascade : List Terminal → Option ℕ
@@ -148,7 +150,7 @@ is_equals_symbol _ = false
 -- TO or an operator that begins with `=`
 unfoldable pub begins_value : List Terminal → Bool
 begins_value [] = false
-begins_value (t ∷ ts) = is_keyword k.To t || is_equals_symbol t.symbol
+begins_value (t ∷ ts) = is_keyword keyword.TO t || is_equals_symbol t.symbol
 
 abbrev pub path_to : Span × List Terminal → Option Span
 path_to (path, rest) = if begins_value rest then Some path else None
@@ -161,7 +163,7 @@ parameter ts = option_and_then path_to (path_first ts)
 
 abbrev pub ends : List Terminal → Bool
 ends [] = true
-ends (t ∷ []) = is_keyword k.Nowait t
+ends (t ∷ []) = is_keyword keyword.NOWAIT t
 ends (t ∷ u ∷ ts) = false
 
 abbrev pub does_end : Option (List Terminal) → Bool
@@ -170,7 +172,7 @@ does_end (Some rest) = ends rest
 
 -- these words and MODE, and then nothing or NOWAIT
 unfoldable pub is_mode : List Keyword → List Terminal → Bool
-is_mode ws ts = does_end (option_and_then (behind_word k.Mode) (behind_words ws ts))
+is_mode ws ts = does_end (option_and_then (behind_word keyword.MODE) (behind_words ws ts))
 
 abbrev pub mode_by : List (LockMode × List Keyword) → List Terminal → Option LockMode
 mode_by [] ts = None
@@ -182,4 +184,4 @@ mode_of ts = mode_by (map (λ r. (r.0, r.1.now)) LOCK_MODES) ts
 -- the mode between IN and MODE, at the end
 abbrev pub lock_mode : List Terminal → Option LockMode
 lock_mode [] = None
-lock_mode (t ∷ ts) = if is_keyword k.In t then either_of (mode_of ts) (lock_mode ts) else lock_mode ts
+lock_mode (t ∷ ts) = if is_keyword keyword.IN t then either_of (mode_of ts) (lock_mode ts) else lock_mode ts

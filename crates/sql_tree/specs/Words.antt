@@ -2,6 +2,9 @@
 use Rattle.std.specs.Prelude.{Bool, true, false}
 use Rattle.sql_keyword.specs.declared.words.Keyword.{Keyword}
 use Rattle.sql_keyword.specs.declared.words.Keyword.TheVariants as k
+use Rattle.sql_keyword.specs.declared.words.Verb.TheVariants as verbs
+use Rattle.sql_keyword.specs.declared.words.Object.TheVariants as objects
+use Rattle.sql_keyword.specs.declared.words.Other.TheVariants as others
 use Rattle.sql_token.specs.declared.terminal.Symbol.{Symbol}
 use Rattle.sql_token.specs.declared.terminal.Symbol.TheVariants as s
 use Rattle.sql_token.specs.declared.terminal.Terminal.{Terminal}
@@ -9,37 +12,37 @@ use Rattle.sql_tree.specs.declared.forms.WordClass.{WordClass}
 use Rattle.sql_tree.specs.declared.forms.WordClass.TheVariants as class
 
 abbrev pub is_sequence_word : Keyword → Bool
-is_sequence_word k.Restart = true
-is_sequence_word k.Increment = true
-is_sequence_word k.Minvalue = true
-is_sequence_word k.Maxvalue = true
-is_sequence_word k.Start = true
-is_sequence_word k.Cache = true
-is_sequence_word k.Cycle = true
-is_sequence_word k.As = true
-is_sequence_word k.Owned = true
-is_sequence_word k.Set = true
-is_sequence_word k.Sequence = true
-is_sequence_word k.No = true
+is_sequence_word (k.Other others.Restart) = true
+is_sequence_word (k.Other others.Increment) = true
+is_sequence_word (k.Other others.Minvalue) = true
+is_sequence_word (k.Other others.Maxvalue) = true
+is_sequence_word (k.Verb verbs.Start) = true
+is_sequence_word (k.Other others.Cache) = true
+is_sequence_word (k.Other others.Cycle) = true
+is_sequence_word (k.Other others.As) = true
+is_sequence_word (k.Other others.Owned) = true
+is_sequence_word (k.Verb verbs.Set) = true
+is_sequence_word (k.Object objects.Sequence) = true
+is_sequence_word (k.Other others.No) = true
 is_sequence_word _ = false
 
 abbrev pub is_function_word : Keyword → Bool
-is_function_word k.Called = true
-is_function_word k.Returns = true
-is_function_word k.Strict = true
-is_function_word k.Immutable = true
-is_function_word k.Stable = true
-is_function_word k.Volatile = true
-is_function_word k.Not = true
-is_function_word k.Leakproof = true
-is_function_word k.External = true
-is_function_word k.Security = true
-is_function_word k.Parallel = true
-is_function_word k.Cost = true
-is_function_word k.Rows = true
-is_function_word k.Support = true
-is_function_word k.Set = true
-is_function_word k.Reset = true
+is_function_word (k.Other others.Called) = true
+is_function_word (k.Other others.Returns) = true
+is_function_word (k.Other others.Strict) = true
+is_function_word (k.Other others.Immutable) = true
+is_function_word (k.Other others.Stable) = true
+is_function_word (k.Other others.Volatile) = true
+is_function_word (k.Other others.Not) = true
+is_function_word (k.Other others.Leakproof) = true
+is_function_word (k.Other others.External) = true
+is_function_word (k.Other others.Security) = true
+is_function_word (k.Other others.Parallel) = true
+is_function_word (k.Other others.Cost) = true
+is_function_word (k.Other others.Rows) = true
+is_function_word (k.Other others.Support) = true
+is_function_word (k.Verb verbs.Set) = true
+is_function_word (k.Verb verbs.Reset) = true
 is_function_word _ = false
 
 abbrev pub is_class_word : WordClass → Keyword → Bool

@@ -4,6 +4,9 @@ use Rattle.std.specs.List.{filter_map}
 use Rattle.std.specs.Option.{option_and_then}
 use Rattle.sql_keyword.specs.declared.words.Keyword.{Keyword}
 use Rattle.sql_keyword.specs.declared.words.Keyword.TheVariants as k
+use Rattle.sql_keyword.specs.declared.words.Verb.TheVariants as verbs
+use Rattle.sql_keyword.specs.declared.words.Object.TheVariants as objects
+use Rattle.sql_keyword.specs.declared.words.TheConstants.Keyword as keyword
 use Rattle.sql_token.specs.declared.token.Span.{Span}
 use Rattle.sql_token.specs.declared.terminal.Symbol.{Symbol}
 use Rattle.sql_token.specs.declared.terminal.Symbol.TheVariants as s
@@ -85,7 +88,7 @@ set_clauses mark end tail = map (λ part. set_clause end (drop 2 part)) (others 
 
 -- the clause of an UPDATE, behind the first word SET
 unfoldable pub update_clause : List Terminal → List (List SetPart)
-update_clause tail = if has (word k.Set) tail then set_clause clause_end (drop 1 (from_mark (word k.Set) tail)) ∷ [] else []
+update_clause tail = if has (word keyword.SET) tail then set_clause clause_end (drop 1 (from_mark (word keyword.SET) tail)) ∷ [] else []
 
 unfoldable pub sets_of : StmtKind → List Terminal → List (List SetPart)
 sets_of stmt.Update tail = update_clause tail
@@ -96,10 +99,10 @@ sets_of kind tail = []
 -- ---- lists of columns
 
 abbrev pub is_query_word : Keyword → Bool
-is_query_word k.Select = true
-is_query_word k.With = true
-is_query_word k.Values = true
-is_query_word k.Table = true
+is_query_word (k.Verb verbs.Select) = true
+is_query_word (k.Verb verbs.With) = true
+is_query_word (k.Verb verbs.Values) = true
+is_query_word (k.Object objects.Table) = true
 is_query_word _ = false
 
 abbrev pub is_query_symbol : Symbol → Bool
@@ -123,7 +126,7 @@ behind_name ts (t ∷ rest) = if is_name t then rest else ts
 -- what follows `AS name`, where it stands first
 unfoldable pub behind_alias : List Terminal → List Terminal
 behind_alias [] = []
-behind_alias (t ∷ ts) = if is_keyword k.As t then behind_name (t ∷ ts) ts else t ∷ ts
+behind_alias (t ∷ ts) = if is_keyword keyword.AS t then behind_name (t ∷ ts) ts else t ∷ ts
 
 unfoldable pub insert_lists : List Terminal → List (List Target)
 insert_lists tail = filter_map (λ part. column_list (drop 1 part)) (others (split then_insert tail))
@@ -140,7 +143,7 @@ table_write kind path tail = record { path = path; sets = sets_of kind tail; lis
 -- ---- targets of queries
 
 abbrev pub name_behind_as : List Terminal → Option ℕ
-name_behind_as (a ∷ t ∷ []) = if is_keyword k.As a && is_name t then Some t.number else None
+name_behind_as (a ∷ t ∷ []) = if is_keyword keyword.AS a && is_name t then Some t.number else None
 name_behind_as _ = None
 
 -- the name of a closing `AS name`
@@ -170,8 +173,8 @@ left_or ts None = ts
 unfoldable pub behind_distinct : List Terminal → List Terminal
 behind_distinct [] = []
 behind_distinct (t ∷ ts) =
-    if is_keyword k.All t then ts
-    else (if is_keyword k.Distinct t then left_or ts (option_and_then behind_list (behind_word k.On ts))
+    if is_keyword keyword.ALL t then ts
+    else (if is_keyword keyword.DISTINCT t then left_or ts (option_and_then behind_list (behind_word keyword.ON ts))
     else t ∷ ts)
 
 -- The targets of a query that have a name, by what follows its word SELECT.
@@ -194,7 +197,7 @@ targets_of_select (Some ts) = targets ts
 
 -- the targets of the query behind the first AS, where it begins with SELECT
 unfoldable pub view_targets : List Terminal → List Target
-view_targets ts = targets_of_select (behind_words (k.As ∷ k.Select ∷ []) (from_mark (word k.As) ts))
+view_targets ts = targets_of_select (behind_words (keyword.AS ∷ keyword.SELECT ∷ []) (from_mark (word keyword.AS) ts))
 
 abbrev pub named_or : {A : Type 0} → List A → Option (List A) → List A
 named_or other None = other

@@ -18,7 +18,7 @@ use sql_token::Keyword as K;
 pub type PieceRows = &'static [(P, &'static [Part])];
 
 /// A list of pieces that is cut by what begins a piece.
-#[derive(Clone, Copy, Debug, PartialEq, Eq)]
+#[derive(Clone, Copy, PartialEq, Eq)]
 pub enum PieceList {
     /// Of ALTER CONSTRAINT.
     ConstraintOptions,
@@ -33,18 +33,18 @@ pub enum PieceList {
 // ---- read before all others
 
 /// OWNER.
-pub const OWNER: [(A, &[Part]); 1] = [(A::OwnerTo, &[Word(K::Owner), Word(K::To), Rest])];
+pub const OWNER: [(A, &[Part]); 1] = [(A::OwnerTo, &[Word(K::OWNER), Word(K::TO), Rest])];
 
 /// SET SCHEMA.
-pub const SCHEMA: [(A, &[Part]); 1] = [(A::SetSchema, &[Word(K::Set), Word(K::Schema), Rest])];
+pub const SCHEMA: [(A, &[Part]); 1] = [(A::SetSchema, &[Word(K::SET), Word(K::SCHEMA), Rest])];
 
 /// RENAME, but of what may be a column.
 pub const RENAME: [(A, &[Part]); 2] = [
     (
         A::RenameConstraint,
-        &[Word(K::Rename), Object(K::Constraint), Rest],
+        &[Word(K::RENAME), Object(K::CONSTRAINT), Rest],
     ),
-    (A::RenameTo, &[Word(K::Rename), Word(K::To), Rest]),
+    (A::RenameTo, &[Word(K::RENAME), Word(K::TO), Rest]),
 ];
 
 // ---- of one kind of statement
@@ -53,18 +53,18 @@ pub const RENAME: [(A, &[Part]); 2] = [
 pub const TYPE: [(A, &[Part]); 4] = [
     (
         A::RenameAttribute,
-        &[Word(K::Rename), Object(K::Attribute), Rest],
+        &[Word(K::RENAME), Object(K::ATTRIBUTE), Rest],
     ),
-    (A::RenameValue, &[Word(K::Rename), Object(K::Value), Rest]),
+    (A::RenameValue, &[Word(K::RENAME), Object(K::VALUE), Rest]),
     (
         A::AddValue,
         &[
-            Word(K::Add),
-            Object(K::Value),
+            Word(K::ADD),
+            Object(K::VALUE),
             Maybe(Phrase::IfNotExists, Mark::Guarded),
             Str,
-            Flag(K::Before, Mark::Placed),
-            Flag(K::After, Mark::Placed),
+            Flag(K::BEFORE, Mark::Placed),
+            Flag(K::AFTER, Mark::Placed),
             Rest,
         ],
     ),
@@ -73,12 +73,12 @@ pub const TYPE: [(A, &[Part]); 4] = [
 
 /// ALTER DOMAIN, and ALTER VIEW behind the name of a column.
 pub const DOMAIN: [(A, &[Part]); 4] = [
-    (A::SetDefault, &[Word(K::Set), Word(K::Default), Rest]),
-    (A::DropDefault, &[Word(K::Drop), Word(K::Default)]),
-    (A::SetNotNull, &[Word(K::Set), Word(K::Not), Word(K::Null)]),
+    (A::SetDefault, &[Word(K::SET), Word(K::DEFAULT), Rest]),
+    (A::DropDefault, &[Word(K::DROP), Word(K::DEFAULT)]),
+    (A::SetNotNull, &[Word(K::SET), Word(K::NOT), Word(K::NULL)]),
     (
         A::DropNotNull,
-        &[Word(K::Drop), Word(K::Not), Word(K::Null)],
+        &[Word(K::DROP), Word(K::NOT), Word(K::NULL)],
     ),
 ];
 
@@ -90,15 +90,15 @@ pub const FUNCTION: [(A, &[Part]); 1] = [(A::Options, &[AnyOf(WordClass::Functio
 
 /// What ALTER ROLE, USER, DATABASE and SYSTEM set. SET TABLESPACE sets no parameter.
 pub const CONFIG: [(A, &[Part]); 3] = [
-    (A::Other, &[Word(K::Set), Word(K::Tablespace), Rest]),
-    (A::SetConfig, &[Word(K::Set), Rest]),
-    (A::ResetConfig, &[Word(K::Reset), Rest]),
+    (A::Other, &[Word(K::SET), Word(K::TABLESPACE), Rest]),
+    (A::SetConfig, &[Word(K::SET), Rest]),
+    (A::ResetConfig, &[Word(K::RESET), Rest]),
 ];
 
 /// ALTER EXTENSION.
 pub const EXTENSION: [(A, &[Part]); 2] = [
-    (A::ExtensionUpdate, &[Word(K::Update), Rest]),
-    (A::ExtensionDrop, &[Word(K::Drop), Rest]),
+    (A::ExtensionUpdate, &[Word(K::UPDATE), Rest]),
+    (A::ExtensionDrop, &[Word(K::DROP), Rest]),
 ];
 
 /// ALTER POLICY.
@@ -106,15 +106,15 @@ pub const POLICY: [(A, &[Part]); 1] = [(A::PolicyChange, &[Tail])];
 
 /// ALTER PUBLICATION.
 pub const PUBLICATION: [(A, &[Part]); 2] = [
-    (A::PublicationDrop, &[Word(K::Drop), Rest]),
-    (A::PublicationSet, &[Word(K::Set), Rest]),
+    (A::PublicationDrop, &[Word(K::DROP), Rest]),
+    (A::PublicationSet, &[Word(K::SET), Rest]),
 ];
 
 /// ALTER GROUP.
-pub const GROUP: [(A, &[Part]); 1] = [(A::GroupDrop, &[Word(K::Drop), Word(K::User), Rest])];
+pub const GROUP: [(A, &[Part]); 1] = [(A::GroupDrop, &[Word(K::DROP), Word(K::USER), Rest])];
 
 /// ALTER DEFAULT PRIVILEGES.
-pub const PRIVILEGES: [(A, &[Part]); 1] = [(A::RevokePrivileges, &[Word(K::Revoke), Rest])];
+pub const PRIVILEGES: [(A, &[Part]); 1] = [(A::RevokePrivileges, &[Word(K::REVOKE), Rest])];
 
 // ---- of every kind of statement, by the first word
 
@@ -122,8 +122,8 @@ pub const PRIVILEGES: [(A, &[Part]); 1] = [(A::RevokePrivileges, &[Word(K::Revok
 pub const ADD: [(A, &[Part]); 1] = [(
     A::AddColumn,
     &[
-        Word(K::Add),
-        MaybeObject(K::Column),
+        Word(K::ADD),
+        MaybeObject(K::COLUMN),
         Maybe(Phrase::IfNotExists, Mark::Guarded),
         Tail,
     ],
@@ -134,8 +134,8 @@ pub const DROP: [(A, &[Part]); 2] = [
     (
         A::DropConstraint,
         &[
-            Word(K::Drop),
-            Object(K::Constraint),
+            Word(K::DROP),
+            Object(K::CONSTRAINT),
             Maybe(Phrase::IfExists, Mark::Guarded),
             Name,
             Rest,
@@ -144,8 +144,8 @@ pub const DROP: [(A, &[Part]); 2] = [
     (
         A::DropColumn,
         &[
-            Word(K::Drop),
-            MaybeObject(K::Column),
+            Word(K::DROP),
+            MaybeObject(K::COLUMN),
             Maybe(Phrase::IfExists, Mark::Guarded),
             Name,
             Rest,
@@ -157,11 +157,11 @@ pub const DROP: [(A, &[Part]); 2] = [
 pub const ALTER: [(A, &[Part]); 2] = [
     (
         A::AlterConstraint,
-        &[Word(K::Alter), Object(K::Constraint), Name, Rest],
+        &[Word(K::ALTER), Object(K::CONSTRAINT), Name, Rest],
     ),
     (
         A::AlterColumn,
-        &[Word(K::Alter), MaybeObject(K::Column), Name, Tail],
+        &[Word(K::ALTER), MaybeObject(K::COLUMN), Name, Tail],
     ),
 ];
 
@@ -169,10 +169,10 @@ pub const ALTER: [(A, &[Part]); 2] = [
 pub const RENAME_COLUMN: [(A, &[Part]); 1] = [(
     A::RenameColumn,
     &[
-        Word(K::Rename),
-        MaybeObject(K::Column),
+        Word(K::RENAME),
+        MaybeObject(K::COLUMN),
         Name,
-        Word(K::To),
+        Word(K::TO),
         AnyName,
     ],
 )];
@@ -180,47 +180,47 @@ pub const RENAME_COLUMN: [(A, &[Part]); 1] = [(
 /// VALIDATE.
 pub const VALIDATE: [(A, &[Part]); 1] = [(
     A::ValidateConstraint,
-    &[Word(K::Validate), Object(K::Constraint), Path],
+    &[Word(K::VALIDATE), Object(K::CONSTRAINT), Path],
 )];
 
 /// DETACH. Where no word follows the path, it is the end of the action.
 pub const DETACH: [(A, &[Part]); 1] = [(
     A::DetachPartition,
     &[
-        Word(K::Detach),
-        Word(K::Partition),
+        Word(K::DETACH),
+        Word(K::PARTITION),
         Path,
-        Either(K::Concurrently, K::Finalize),
+        Either(K::CONCURRENTLY, K::FINALIZE),
     ],
 )];
 
 /// ENABLE.
 pub const ENABLE: [(A, &[Part]); 7] = [
-    (A::EnableTrigger, &[Word(K::Enable), Word(K::Trigger), Rest]),
+    (A::EnableTrigger, &[Word(K::ENABLE), Word(K::TRIGGER), Rest]),
     (
         A::EnableAlwaysTrigger,
-        &[Word(K::Enable), Word(K::Always), Word(K::Trigger), Rest],
+        &[Word(K::ENABLE), Word(K::ALWAYS), Word(K::TRIGGER), Rest],
     ),
     (
         A::EnableReplicaTrigger,
-        &[Word(K::Enable), Word(K::Replica), Word(K::Trigger), Rest],
+        &[Word(K::ENABLE), Word(K::REPLICA), Word(K::TRIGGER), Rest],
     ),
-    (A::EnableRule, &[Word(K::Enable), Word(K::Rule), Rest]),
+    (A::EnableRule, &[Word(K::ENABLE), Word(K::RULE), Rest]),
     (
         A::EnableAlwaysRule,
-        &[Word(K::Enable), Word(K::Always), Word(K::Rule), Rest],
+        &[Word(K::ENABLE), Word(K::ALWAYS), Word(K::RULE), Rest],
     ),
     (
         A::EnableReplicaRule,
-        &[Word(K::Enable), Word(K::Replica), Word(K::Rule), Rest],
+        &[Word(K::ENABLE), Word(K::REPLICA), Word(K::RULE), Rest],
     ),
     (
         A::EnableRls,
         &[
-            Word(K::Enable),
-            Word(K::Row),
-            Word(K::Level),
-            Word(K::Security),
+            Word(K::ENABLE),
+            Word(K::ROW),
+            Word(K::LEVEL),
+            Word(K::SECURITY),
         ],
     ),
 ];
@@ -229,16 +229,16 @@ pub const ENABLE: [(A, &[Part]); 7] = [
 pub const DISABLE: [(A, &[Part]); 3] = [
     (
         A::DisableTrigger,
-        &[Word(K::Disable), Word(K::Trigger), Rest],
+        &[Word(K::DISABLE), Word(K::TRIGGER), Rest],
     ),
-    (A::DisableRule, &[Word(K::Disable), Word(K::Rule), Rest]),
+    (A::DisableRule, &[Word(K::DISABLE), Word(K::RULE), Rest]),
     (
         A::DisableRls,
         &[
-            Word(K::Disable),
-            Word(K::Row),
-            Word(K::Level),
-            Word(K::Security),
+            Word(K::DISABLE),
+            Word(K::ROW),
+            Word(K::LEVEL),
+            Word(K::SECURITY),
         ],
     ),
 ];
@@ -247,10 +247,10 @@ pub const DISABLE: [(A, &[Part]); 3] = [
 pub const FORCE: [(A, &[Part]); 1] = [(
     A::ForceRls,
     &[
-        Word(K::Force),
-        Word(K::Row),
-        Word(K::Level),
-        Word(K::Security),
+        Word(K::FORCE),
+        Word(K::ROW),
+        Word(K::LEVEL),
+        Word(K::SECURITY),
     ],
 )];
 
@@ -259,36 +259,36 @@ pub const NO: [(A, &[Part]); 2] = [
     (
         A::NoForceRls,
         &[
-            Word(K::No),
-            Word(K::Force),
-            Word(K::Row),
-            Word(K::Level),
-            Word(K::Security),
+            Word(K::NO),
+            Word(K::FORCE),
+            Word(K::ROW),
+            Word(K::LEVEL),
+            Word(K::SECURITY),
         ],
     ),
-    (A::NoInherit, &[Word(K::No), Word(K::Inherit), Rest]),
+    (A::NoInherit, &[Word(K::NO), Word(K::INHERIT), Rest]),
 ];
 
 /// REPLICA.
 pub const REPLICA: [(A, &[Part]); 1] = [(
     A::ReplicaIdentity,
-    &[Word(K::Replica), Word(K::Identity), Rest],
+    &[Word(K::REPLICA), Word(K::IDENTITY), Rest],
 )];
 
 /// SET.
 pub const SET: [(A, &[Part]); 2] = [
-    (A::SetOptions, &[Word(K::Set), List]),
+    (A::SetOptions, &[Word(K::SET), List]),
     (
         A::SetWithoutCluster,
-        &[Word(K::Set), Word(K::Without), Word(K::Cluster)],
+        &[Word(K::SET), Word(K::WITHOUT), Word(K::CLUSTER)],
     ),
 ];
 
 /// RESET.
-pub const RESET: [(A, &[Part]); 1] = [(A::ResetOptions, &[Word(K::Reset), List])];
+pub const RESET: [(A, &[Part]); 1] = [(A::ResetOptions, &[Word(K::RESET), List])];
 
 /// CLUSTER.
-pub const CLUSTER: [(A, &[Part]); 1] = [(A::ClusterOn, &[Word(K::Cluster), Word(K::On), Rest])];
+pub const CLUSTER: [(A, &[Part]); 1] = [(A::ClusterOn, &[Word(K::CLUSTER), Word(K::ON), Rest])];
 
 // ---- read after all others
 
@@ -302,27 +302,27 @@ pub const OTHER: [(A, &[Part]); 1] = [(A::Other, &[Rest])];
 
 /// An option of a column that is one piece.
 pub const COLUMN_OPTION: [(P, &[Part]); 12] = [
-    (P::SetNotNull, &[Word(K::Set), Word(K::Not), Word(K::Null)]),
+    (P::SetNotNull, &[Word(K::SET), Word(K::NOT), Word(K::NULL)]),
     (
         P::DropNotNull,
-        &[Word(K::Drop), Word(K::Not), Word(K::Null)],
+        &[Word(K::DROP), Word(K::NOT), Word(K::NULL)],
     ),
-    (P::SetDefault, &[Word(K::Set), Word(K::Default), Rest]),
-    (P::DropDefault, &[Word(K::Drop), Word(K::Default)]),
+    (P::SetDefault, &[Word(K::SET), Word(K::DEFAULT), Rest]),
+    (P::DropDefault, &[Word(K::DROP), Word(K::DEFAULT)]),
     (
         P::SetType,
-        &[Maybe(Phrase::SetData, Mark::Nothing), Word(K::Type), Rest],
+        &[Maybe(Phrase::SetData, Mark::Nothing), Word(K::TYPE), Rest],
     ),
-    (P::SetStatistics, &[Word(K::Set), Word(K::Statistics), Rest]),
-    (P::SetOptions, &[Word(K::Set), List]),
-    (P::ResetOptions, &[Word(K::Reset), List]),
-    (P::SetExpression, &[Word(K::Set), Word(K::Expression), Rest]),
+    (P::SetStatistics, &[Word(K::SET), Word(K::STATISTICS), Rest]),
+    (P::SetOptions, &[Word(K::SET), List]),
+    (P::ResetOptions, &[Word(K::RESET), List]),
+    (P::SetExpression, &[Word(K::SET), Word(K::EXPRESSION), Rest]),
     (
         P::DropExpression,
-        &[Word(K::Drop), Word(K::Expression), Rest],
+        &[Word(K::DROP), Word(K::EXPRESSION), Rest],
     ),
-    (P::AddGenerated, &[Word(K::Add), Word(K::Generated), Rest]),
-    (P::DropIdentity, &[Word(K::Drop), Word(K::Identity), Rest]),
+    (P::AddGenerated, &[Word(K::ADD), Word(K::GENERATED), Rest]),
+    (P::DropIdentity, &[Word(K::DROP), Word(K::IDENTITY), Rest]),
 ];
 
 /// An option of a column that is none of the listed ones.
@@ -330,21 +330,21 @@ pub const OTHER_OPTION: [(P, &[Part]); 1] = [(P::Other, &[Rest])];
 
 /// A piece of a list of options of an identity column.
 pub const IDENTITY_OPTION: [(P, &[Part]); 3] = [
-    (P::SetGenerated, &[Word(K::Set), Word(K::Generated), Rest]),
+    (P::SetGenerated, &[Word(K::SET), Word(K::GENERATED), Rest]),
     (
         P::SetSequence,
-        &[Word(K::Set), AnyOf(WordClass::SequenceOption), Rest],
+        &[Word(K::SET), AnyOf(WordClass::SequenceOption), Rest],
     ),
-    (P::Restart, &[Word(K::Restart), Rest]),
+    (P::Restart, &[Word(K::RESTART), Rest]),
 ];
 
 /// A piece of ALTER CONSTRAINT.
 pub const CONSTRAINT_OPTION: [(P, &[Part]); 6] = [
-    (P::NotEnforced, &[Word(K::Not), Word(K::Enforced)]),
-    (P::Enforced, &[Word(K::Enforced)]),
-    (P::NotDeferrable, &[Word(K::Not), Word(K::Deferrable)]),
-    (P::Deferrable, &[Word(K::Deferrable)]),
-    (P::Initially, &[Word(K::Initially), AnyName]),
+    (P::NotEnforced, &[Word(K::NOT), Word(K::ENFORCED)]),
+    (P::Enforced, &[Word(K::ENFORCED)]),
+    (P::NotDeferrable, &[Word(K::NOT), Word(K::DEFERRABLE)]),
+    (P::Deferrable, &[Word(K::DEFERRABLE)]),
+    (P::Initially, &[Word(K::INITIALLY), AnyName]),
     (P::Other, &[Rest]),
 ];
 
@@ -356,17 +356,17 @@ pub const SEQUENCE_OPTION: [(P, &[Part]); 1] = [(
 
 /// A piece of ALTER POLICY.
 pub const POLICY_PART: [(P, &[Part]); 3] = [
-    (P::PolicyTo, &[Word(K::To), Rest]),
-    (P::PolicyUsing, &[Word(K::Using), Rest]),
-    (P::PolicyCheck, &[Word(K::With), Word(K::Check), Rest]),
+    (P::PolicyTo, &[Word(K::TO), Rest]),
+    (P::PolicyUsing, &[Word(K::USING), Rest]),
+    (P::PolicyCheck, &[Word(K::WITH), Word(K::CHECK), Rest]),
 ];
 
 /// A piece of ALTER TYPE.
 pub const ATTRIBUTE: [(P, &[Part]); 3] = [
-    (P::AddAttribute, &[Word(K::Add), Word(K::Attribute), Rest]),
-    (P::DropAttribute, &[Word(K::Drop), Word(K::Attribute), Rest]),
+    (P::AddAttribute, &[Word(K::ADD), Word(K::ATTRIBUTE), Rest]),
+    (P::DropAttribute, &[Word(K::DROP), Word(K::ATTRIBUTE), Rest]),
     (
         P::AlterAttribute,
-        &[Word(K::Alter), Word(K::Attribute), Rest],
+        &[Word(K::ALTER), Word(K::ATTRIBUTE), Rest],
     ),
 ];

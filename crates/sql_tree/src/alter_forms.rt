@@ -21,10 +21,10 @@ use sql_token::Keyword as K;
 pub const ALTER_RELATION: [(StmtKind, &[Part], &[Part]); 8] = [
     (
         AlterTable,
-        &[Word(K::Table)],
+        &[Word(K::TABLE)],
         &[
             Maybe(Phrase::IfExists, Mark::Guarded),
-            Flag(K::Only, Mark::Nothing),
+            Flag(K::ONLY, Mark::Nothing),
             Path,
             Star,
             Tail,
@@ -32,25 +32,25 @@ pub const ALTER_RELATION: [(StmtKind, &[Part], &[Part]); 8] = [
     ),
     (
         AlterIndex,
-        &[Word(K::Index)],
+        &[Word(K::INDEX)],
         &[Maybe(Phrase::IfExists, Mark::Guarded), Path, Tail],
     ),
     (
         AlterView,
-        &[Word(K::View)],
+        &[Word(K::VIEW)],
         &[Maybe(Phrase::IfExists, Mark::Guarded), Path, Tail],
     ),
     (
         AlterSequence,
-        &[Word(K::Sequence)],
+        &[Word(K::SEQUENCE)],
         &[Maybe(Phrase::IfExists, Mark::Guarded), Path, Tail],
     ),
     (
         AlterMaterializedView,
-        &[Word(K::Materialized), Word(K::View)],
+        &[Word(K::MATERIALIZED), Word(K::VIEW)],
         &[
             Maybe(Phrase::IfExists, Mark::Guarded),
-            Flag(K::Only, Mark::Nothing),
+            Flag(K::ONLY, Mark::Nothing),
             Path,
             Star,
             Tail,
@@ -58,10 +58,10 @@ pub const ALTER_RELATION: [(StmtKind, &[Part], &[Part]); 8] = [
     ),
     (
         AlterForeignTable,
-        &[Word(K::Foreign), Word(K::Table)],
+        &[Word(K::FOREIGN), Word(K::TABLE)],
         &[
             Maybe(Phrase::IfExists, Mark::Guarded),
-            Flag(K::Only, Mark::Nothing),
+            Flag(K::ONLY, Mark::Nothing),
             Path,
             Star,
             Tail,
@@ -69,12 +69,12 @@ pub const ALTER_RELATION: [(StmtKind, &[Part], &[Part]); 8] = [
     ),
     (
         AlterForeignDataWrapper,
-        &[Word(K::Foreign), Word(K::Data), Word(K::Wrapper)],
+        &[Word(K::FOREIGN), Word(K::DATA), Word(K::WRAPPER)],
         &[Rest],
     ),
     (
         AlterPropertyGraph,
-        &[Word(K::Property), Word(K::Graph)],
+        &[Word(K::PROPERTY), Word(K::GRAPH)],
         &[Rest],
     ),
 ];
@@ -83,39 +83,39 @@ pub const ALTER_RELATION: [(StmtKind, &[Part], &[Part]); 8] = [
 pub const ALTER_CODE: [(StmtKind, &[Part], &[Part]); 9] = [
     (
         AlterFunction,
-        &[Word(K::Function)],
+        &[Word(K::FUNCTION)],
         &[Path, MaybeList, Tail],
     ),
     (
         AlterPolicy,
-        &[Word(K::Policy)],
-        &[Name, Word(K::On), Path, Tail],
+        &[Word(K::POLICY)],
+        &[Name, Word(K::ON), Path, Tail],
     ),
     (
         AlterTrigger,
-        &[Word(K::Trigger)],
-        &[Name, Word(K::On), Path, Tail],
+        &[Word(K::TRIGGER)],
+        &[Name, Word(K::ON), Path, Tail],
     ),
     (
         AlterProcedure,
-        &[Word(K::Procedure)],
+        &[Word(K::PROCEDURE)],
         &[Path, MaybeList, Tail],
     ),
-    (AlterRoutine, &[Word(K::Routine)], &[Path, MaybeList, Tail]),
+    (AlterRoutine, &[Word(K::ROUTINE)], &[Path, MaybeList, Tail]),
     (
         AlterAggregate,
-        &[Word(K::Aggregate)],
+        &[Word(K::AGGREGATE)],
         &[Path, MaybeList, Tail],
     ),
-    (AlterRule, &[Word(K::Rule)], &[Rest]),
+    (AlterRule, &[Word(K::RULE)], &[Rest]),
     (
         AlterEventTrigger,
-        &[Word(K::Event), Word(K::Trigger)],
+        &[Word(K::EVENT), Word(K::TRIGGER)],
         &[Rest],
     ),
     (
         AlterLanguage,
-        &[Flag(K::Procedural, Mark::Nothing), Word(K::Language)],
+        &[Flag(K::PROCEDURAL, Mark::Nothing), Word(K::LANGUAGE)],
         &[Rest],
     ),
 ];
@@ -124,80 +124,80 @@ pub const ALTER_CODE: [(StmtKind, &[Part], &[Part]); 9] = [
 pub const ALTER_DATA_TYPE: [(StmtKind, &[Part], &[Part]); 6] = [
     (
         AlterType,
-        &[Word(K::Type)],
+        &[Word(K::TYPE)],
         &[Maybe(Phrase::IfExists, Mark::Guarded), Path, Tail],
     ),
     (
         AlterDomain,
-        &[Word(K::Domain)],
+        &[Word(K::DOMAIN)],
         &[Maybe(Phrase::IfExists, Mark::Guarded), Path, Tail],
     ),
-    (AlterCollation, &[Word(K::Collation)], &[Rest]),
+    (AlterCollation, &[Word(K::COLLATION)], &[Rest]),
     (
         AlterOperatorClass,
-        &[Word(K::Operator), Word(K::Class)],
+        &[Word(K::OPERATOR), Word(K::CLASS)],
         &[Rest],
     ),
     (
         AlterOperatorFamily,
-        &[Word(K::Operator), Word(K::Family)],
+        &[Word(K::OPERATOR), Word(K::FAMILY)],
         &[Rest],
     ),
-    (AlterOperator, &[Word(K::Operator)], &[Rest]),
+    (AlterOperator, &[Word(K::OPERATOR)], &[Rest]),
 ];
 
 /// Roles, databases, servers, publications.
 pub const ALTER_SERVICE: [(StmtKind, &[Part], &[Part]); 10] = [
-    (AlterRole, &[Word(K::Role)], &[Name, Tail]),
+    (AlterRole, &[Word(K::ROLE)], &[Name, Tail]),
     (
         AlterUserMapping,
-        &[Word(K::User), Word(K::Mapping)],
+        &[Word(K::USER), Word(K::MAPPING)],
         &[Rest],
     ),
-    (AlterUser, &[Word(K::User)], &[Name, Tail]),
-    (AlterDatabase, &[Word(K::Database)], &[Name, Tail]),
-    (AlterPublication, &[Word(K::Publication)], &[Name, Tail]),
-    (AlterSubscription, &[Word(K::Subscription)], &[Rest]),
-    (AlterGroup, &[Word(K::Group)], &[Name, Tail]),
-    (AlterSystem, &[Word(K::System)], &[Tail]),
-    (AlterTablespace, &[Word(K::Tablespace)], &[Rest]),
-    (AlterServer, &[Word(K::Server)], &[Rest]),
+    (AlterUser, &[Word(K::USER)], &[Name, Tail]),
+    (AlterDatabase, &[Word(K::DATABASE)], &[Name, Tail]),
+    (AlterPublication, &[Word(K::PUBLICATION)], &[Name, Tail]),
+    (AlterSubscription, &[Word(K::SUBSCRIPTION)], &[Rest]),
+    (AlterGroup, &[Word(K::GROUP)], &[Name, Tail]),
+    (AlterSystem, &[Word(K::SYSTEM)], &[Tail]),
+    (AlterTablespace, &[Word(K::TABLESPACE)], &[Rest]),
+    (AlterServer, &[Word(K::SERVER)], &[Rest]),
 ];
 
 /// All else.
 pub const ALTER_OTHER: [(StmtKind, &[Part], &[Part]); 10] = [
-    (AlterSchema, &[Word(K::Schema)], &[Name, Tail]),
-    (AlterExtension, &[Word(K::Extension)], &[Name, Tail]),
+    (AlterSchema, &[Word(K::SCHEMA)], &[Name, Tail]),
+    (AlterExtension, &[Word(K::EXTENSION)], &[Name, Tail]),
     (
         AlterDefaultPrivileges,
-        &[Word(K::Default), Word(K::Privileges)],
+        &[Word(K::DEFAULT), Word(K::PRIVILEGES)],
         &[Privileges, Rest],
     ),
-    (AlterStatistics, &[Word(K::Statistics)], &[Rest]),
-    (AlterConversion, &[Word(K::Conversion)], &[Rest]),
+    (AlterStatistics, &[Word(K::STATISTICS)], &[Rest]),
+    (AlterConversion, &[Word(K::CONVERSION)], &[Rest]),
     (
         AlterLargeObject,
-        &[Word(K::Large), Word(K::Object)],
+        &[Word(K::LARGE), Word(K::OBJECT)],
         &[Rest],
     ),
     (
         AlterTextSearchConfiguration,
-        &[Word(K::Text), Word(K::Search), Word(K::Configuration)],
+        &[Word(K::TEXT), Word(K::SEARCH), Word(K::CONFIGURATION)],
         &[Rest],
     ),
     (
         AlterTextSearchDictionary,
-        &[Word(K::Text), Word(K::Search), Word(K::Dictionary)],
+        &[Word(K::TEXT), Word(K::SEARCH), Word(K::DICTIONARY)],
         &[Rest],
     ),
     (
         AlterTextSearchParser,
-        &[Word(K::Text), Word(K::Search), Word(K::Parser)],
+        &[Word(K::TEXT), Word(K::SEARCH), Word(K::PARSER)],
         &[Rest],
     ),
     (
         AlterTextSearchTemplate,
-        &[Word(K::Text), Word(K::Search), Word(K::Template)],
+        &[Word(K::TEXT), Word(K::SEARCH), Word(K::TEMPLATE)],
         &[Rest],
     ),
 ];

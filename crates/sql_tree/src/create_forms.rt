@@ -21,49 +21,49 @@ use sql_token::Keyword as K;
 pub const CREATE_RELATION: [(StmtKind, &[Part], &[Part]); 8] = [
     (
         CreateTable,
-        &[Mods, Object(K::Table)],
+        &[Mods, Object(K::TABLE)],
         &[Maybe(Phrase::IfNotExists, Mark::Guarded), Path, Rest],
     ),
     (
         CreateIndex,
-        &[Flag(K::Unique, Mark::Unique), Object(K::Index)],
+        &[Flag(K::UNIQUE, Mark::Unique), Object(K::INDEX)],
         &[
             Concurrently,
             IndexName,
-            Word(K::On),
-            Flag(K::Only, Mark::Nothing),
+            Word(K::ON),
+            Flag(K::ONLY, Mark::Nothing),
             Path,
             Rest,
         ],
     ),
     (
         CreateView,
-        &[Mods, Flag(K::Recursive, Mark::Nothing), Word(K::View)],
+        &[Mods, Flag(K::RECURSIVE, Mark::Nothing), Word(K::VIEW)],
         &[Path, Rest],
     ),
     (
         CreateSequence,
-        &[Mods, Word(K::Sequence)],
+        &[Mods, Word(K::SEQUENCE)],
         &[Maybe(Phrase::IfNotExists, Mark::Guarded), Path, Rest],
     ),
     (
         CreateMaterializedView,
-        &[Word(K::Materialized), Word(K::View)],
+        &[Word(K::MATERIALIZED), Word(K::VIEW)],
         &[Maybe(Phrase::IfNotExists, Mark::Guarded), Path, Rest],
     ),
     (
         CreateForeignTable,
-        &[Word(K::Foreign), Object(K::Table)],
+        &[Word(K::FOREIGN), Object(K::TABLE)],
         &[Maybe(Phrase::IfNotExists, Mark::Guarded), Path, Rest],
     ),
     (
         CreateForeignDataWrapper,
-        &[Word(K::Foreign), Word(K::Data), Word(K::Wrapper)],
+        &[Word(K::FOREIGN), Word(K::DATA), Word(K::WRAPPER)],
         &[Rest],
     ),
     (
         CreatePropertyGraph,
-        &[Mods, Word(K::Property), Word(K::Graph)],
+        &[Mods, Word(K::PROPERTY), Word(K::GRAPH)],
         &[Rest],
     ),
 ];
@@ -72,7 +72,7 @@ pub const CREATE_RELATION: [(StmtKind, &[Part], &[Part]); 8] = [
 pub const CREATE_CODE: [(StmtKind, &[Part], &[Part]); 10] = [
     (
         CreateFunction,
-        &[Maybe(Phrase::OrReplace, Mark::Replace), Word(K::Function)],
+        &[Maybe(Phrase::OrReplace, Mark::Replace), Word(K::FUNCTION)],
         &[Rest],
     ),
     (
@@ -80,8 +80,8 @@ pub const CREATE_CODE: [(StmtKind, &[Part], &[Part]); 10] = [
         &[
             Maybe(Phrase::OrReplace, Mark::Replace),
             Mods,
-            Flag(K::Recursive, Mark::Nothing),
-            Word(K::View),
+            Flag(K::RECURSIVE, Mark::Nothing),
+            Word(K::VIEW),
         ],
         &[Path, Rest],
     ),
@@ -89,44 +89,44 @@ pub const CREATE_CODE: [(StmtKind, &[Part], &[Part]); 10] = [
         CreateTrigger,
         &[
             Maybe(Phrase::OrReplace, Mark::Replace),
-            Flag(K::Constraint, Mark::Nothing),
-            Word(K::Trigger),
+            Flag(K::CONSTRAINT, Mark::Nothing),
+            Word(K::TRIGGER),
         ],
         &[Rest],
     ),
     (
         CreateProcedure,
-        &[Maybe(Phrase::OrReplace, Mark::Replace), Word(K::Procedure)],
+        &[Maybe(Phrase::OrReplace, Mark::Replace), Word(K::PROCEDURE)],
         &[Rest],
     ),
-    (CreatePolicy, &[Word(K::Policy)], &[Rest]),
+    (CreatePolicy, &[Word(K::POLICY)], &[Rest]),
     (
         CreateAggregate,
-        &[Maybe(Phrase::OrReplace, Mark::Replace), Word(K::Aggregate)],
+        &[Maybe(Phrase::OrReplace, Mark::Replace), Word(K::AGGREGATE)],
         &[Rest],
     ),
     (
         CreateRule,
-        &[Maybe(Phrase::OrReplace, Mark::Replace), Word(K::Rule)],
+        &[Maybe(Phrase::OrReplace, Mark::Replace), Word(K::RULE)],
         &[Rest],
     ),
     (
         CreateEventTrigger,
-        &[Word(K::Event), Word(K::Trigger)],
+        &[Word(K::EVENT), Word(K::TRIGGER)],
         &[Rest],
     ),
     (
         CreateTransform,
-        &[Maybe(Phrase::OrReplace, Mark::Replace), Word(K::Transform)],
+        &[Maybe(Phrase::OrReplace, Mark::Replace), Word(K::TRANSFORM)],
         &[Rest],
     ),
     (
         CreateLanguage,
         &[
             Maybe(Phrase::OrReplace, Mark::Replace),
-            Flag(K::Trusted, Mark::Nothing),
-            Flag(K::Procedural, Mark::Nothing),
-            Word(K::Language),
+            Flag(K::TRUSTED, Mark::Nothing),
+            Flag(K::PROCEDURAL, Mark::Nothing),
+            Word(K::LANGUAGE),
         ],
         &[Rest],
     ),
@@ -134,77 +134,77 @@ pub const CREATE_CODE: [(StmtKind, &[Part], &[Part]); 10] = [
 
 /// Types, domains, casts, operators.
 pub const CREATE_DATA_TYPE: [(StmtKind, &[Part], &[Part]); 7] = [
-    (CreateType, &[Word(K::Type)], &[Path, Rest]),
+    (CreateType, &[Word(K::TYPE)], &[Path, Rest]),
     (
         CreateDomain,
-        &[Word(K::Domain)],
-        &[Path, Flag(K::As, Mark::Nothing), Tail],
+        &[Word(K::DOMAIN)],
+        &[Path, Flag(K::AS, Mark::Nothing), Tail],
     ),
-    (CreateCast, &[Word(K::Cast)], &[Rest]),
-    (CreateCollation, &[Word(K::Collation)], &[Rest]),
+    (CreateCast, &[Word(K::CAST)], &[Rest]),
+    (CreateCollation, &[Word(K::COLLATION)], &[Rest]),
     (
         CreateOperatorClass,
-        &[Word(K::Operator), Word(K::Class)],
+        &[Word(K::OPERATOR), Word(K::CLASS)],
         &[Rest],
     ),
     (
         CreateOperatorFamily,
-        &[Word(K::Operator), Word(K::Family)],
+        &[Word(K::OPERATOR), Word(K::FAMILY)],
         &[Rest],
     ),
-    (CreateOperator, &[Word(K::Operator)], &[Rest]),
+    (CreateOperator, &[Word(K::OPERATOR)], &[Rest]),
 ];
 
 /// Roles, databases, servers, publications.
 pub const CREATE_SERVICE: [(StmtKind, &[Part], &[Part]); 9] = [
-    (CreateRole, &[Word(K::Role)], &[Rest]),
+    (CreateRole, &[Word(K::ROLE)], &[Rest]),
     (
         CreateUserMapping,
-        &[Word(K::User), Word(K::Mapping)],
+        &[Word(K::USER), Word(K::MAPPING)],
         &[Rest],
     ),
-    (CreateUser, &[Word(K::User)], &[Rest]),
-    (CreateGroup, &[Word(K::Group)], &[Rest]),
-    (CreateDatabase, &[Word(K::Database)], &[Rest]),
-    (CreateTablespace, &[Word(K::Tablespace)], &[Rest]),
-    (CreateServer, &[Word(K::Server)], &[Rest]),
-    (CreatePublication, &[Word(K::Publication)], &[Rest]),
-    (CreateSubscription, &[Word(K::Subscription)], &[Rest]),
+    (CreateUser, &[Word(K::USER)], &[Rest]),
+    (CreateGroup, &[Word(K::GROUP)], &[Rest]),
+    (CreateDatabase, &[Word(K::DATABASE)], &[Rest]),
+    (CreateTablespace, &[Word(K::TABLESPACE)], &[Rest]),
+    (CreateServer, &[Word(K::SERVER)], &[Rest]),
+    (CreatePublication, &[Word(K::PUBLICATION)], &[Rest]),
+    (CreateSubscription, &[Word(K::SUBSCRIPTION)], &[Rest]),
 ];
 
 /// All else.
 pub const CREATE_OTHER: [(StmtKind, &[Part], &[Part]); 9] = [
-    (CreateSchema, &[Word(K::Schema)], &[Rest]),
-    (CreateExtension, &[Word(K::Extension)], &[Rest]),
-    (CreateStatistics, &[Word(K::Statistics)], &[Rest]),
+    (CreateSchema, &[Word(K::SCHEMA)], &[Rest]),
+    (CreateExtension, &[Word(K::EXTENSION)], &[Rest]),
+    (CreateStatistics, &[Word(K::STATISTICS)], &[Rest]),
     (
         CreateConversion,
-        &[Flag(K::Default, Mark::Nothing), Word(K::Conversion)],
+        &[Flag(K::DEFAULT, Mark::Nothing), Word(K::CONVERSION)],
         &[Rest],
     ),
     (
         CreateAccessMethod,
-        &[Word(K::Access), Word(K::Method)],
+        &[Word(K::ACCESS), Word(K::METHOD)],
         &[Rest],
     ),
     (
         CreateTextSearchConfiguration,
-        &[Word(K::Text), Word(K::Search), Word(K::Configuration)],
+        &[Word(K::TEXT), Word(K::SEARCH), Word(K::CONFIGURATION)],
         &[Rest],
     ),
     (
         CreateTextSearchDictionary,
-        &[Word(K::Text), Word(K::Search), Word(K::Dictionary)],
+        &[Word(K::TEXT), Word(K::SEARCH), Word(K::DICTIONARY)],
         &[Rest],
     ),
     (
         CreateTextSearchParser,
-        &[Word(K::Text), Word(K::Search), Word(K::Parser)],
+        &[Word(K::TEXT), Word(K::SEARCH), Word(K::PARSER)],
         &[Rest],
     ),
     (
         CreateTextSearchTemplate,
-        &[Word(K::Text), Word(K::Search), Word(K::Template)],
+        &[Word(K::TEXT), Word(K::SEARCH), Word(K::TEMPLATE)],
         &[Rest],
     ),
 ];

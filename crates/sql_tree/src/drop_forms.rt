@@ -18,12 +18,12 @@ use sql_token::Keyword as K;
 pub const DROP_RELATION: [(StmtKind, &[Part], &[Part]); 8] = [
     (
         DropTable,
-        &[Object(K::Table)],
+        &[Object(K::TABLE)],
         &[Maybe(Phrase::IfExists, Mark::Guarded), Path, Rest],
     ),
     (
         DropIndex,
-        &[Object(K::Index)],
+        &[Object(K::INDEX)],
         &[
             Concurrently,
             Maybe(Phrase::IfExists, Mark::Guarded),
@@ -31,48 +31,48 @@ pub const DROP_RELATION: [(StmtKind, &[Part], &[Part]); 8] = [
             Rest,
         ],
     ),
-    (DropView, &[Word(K::View)], &[Rest]),
-    (DropSequence, &[Word(K::Sequence)], &[Rest]),
+    (DropView, &[Word(K::VIEW)], &[Rest]),
+    (DropSequence, &[Word(K::SEQUENCE)], &[Rest]),
     (
         DropMaterializedView,
-        &[Word(K::Materialized), Word(K::View)],
+        &[Word(K::MATERIALIZED), Word(K::VIEW)],
         &[Rest],
     ),
     (
         DropForeignTable,
-        &[Word(K::Foreign), Word(K::Table)],
+        &[Word(K::FOREIGN), Word(K::TABLE)],
         &[Rest],
     ),
     (
         DropForeignDataWrapper,
-        &[Word(K::Foreign), Word(K::Data), Word(K::Wrapper)],
+        &[Word(K::FOREIGN), Word(K::DATA), Word(K::WRAPPER)],
         &[Rest],
     ),
     (
         DropPropertyGraph,
-        &[Word(K::Property), Word(K::Graph)],
+        &[Word(K::PROPERTY), Word(K::GRAPH)],
         &[Rest],
     ),
 ];
 
 /// Functions, triggers, rules, policies, languages.
 pub const DROP_CODE: [(StmtKind, &[Part], &[Part]); 10] = [
-    (DropFunction, &[Word(K::Function)], &[Rest]),
-    (DropTrigger, &[Word(K::Trigger)], &[Rest]),
-    (DropPolicy, &[Word(K::Policy)], &[Rest]),
-    (DropProcedure, &[Word(K::Procedure)], &[Rest]),
-    (DropRoutine, &[Word(K::Routine)], &[Rest]),
-    (DropAggregate, &[Word(K::Aggregate)], &[Rest]),
-    (DropRule, &[Word(K::Rule)], &[Rest]),
+    (DropFunction, &[Word(K::FUNCTION)], &[Rest]),
+    (DropTrigger, &[Word(K::TRIGGER)], &[Rest]),
+    (DropPolicy, &[Word(K::POLICY)], &[Rest]),
+    (DropProcedure, &[Word(K::PROCEDURE)], &[Rest]),
+    (DropRoutine, &[Word(K::ROUTINE)], &[Rest]),
+    (DropAggregate, &[Word(K::AGGREGATE)], &[Rest]),
+    (DropRule, &[Word(K::RULE)], &[Rest]),
     (
         DropEventTrigger,
-        &[Word(K::Event), Word(K::Trigger)],
+        &[Word(K::EVENT), Word(K::TRIGGER)],
         &[Rest],
     ),
-    (DropTransform, &[Word(K::Transform)], &[Rest]),
+    (DropTransform, &[Word(K::TRANSFORM)], &[Rest]),
     (
         DropLanguage,
-        &[Flag(K::Procedural, Mark::Nothing), Word(K::Language)],
+        &[Flag(K::PROCEDURAL, Mark::Nothing), Word(K::LANGUAGE)],
         &[Rest],
     ),
 ];
@@ -81,68 +81,68 @@ pub const DROP_CODE: [(StmtKind, &[Part], &[Part]); 10] = [
 pub const DROP_DATA_TYPE: [(StmtKind, &[Part], &[Part]); 7] = [
     (
         DropType,
-        &[Object(K::Type)],
+        &[Object(K::TYPE)],
         &[Maybe(Phrase::IfExists, Mark::Guarded), Path, Rest],
     ),
-    (DropDomain, &[Word(K::Domain)], &[Rest]),
-    (DropCast, &[Word(K::Cast)], &[Rest]),
-    (DropCollation, &[Word(K::Collation)], &[Rest]),
+    (DropDomain, &[Word(K::DOMAIN)], &[Rest]),
+    (DropCast, &[Word(K::CAST)], &[Rest]),
+    (DropCollation, &[Word(K::COLLATION)], &[Rest]),
     (
         DropOperatorClass,
-        &[Word(K::Operator), Word(K::Class)],
+        &[Word(K::OPERATOR), Word(K::CLASS)],
         &[Rest],
     ),
     (
         DropOperatorFamily,
-        &[Word(K::Operator), Word(K::Family)],
+        &[Word(K::OPERATOR), Word(K::FAMILY)],
         &[Rest],
     ),
-    (DropOperator, &[Word(K::Operator)], &[Rest]),
+    (DropOperator, &[Word(K::OPERATOR)], &[Rest]),
 ];
 
 /// Roles, databases, servers, publications.
 pub const DROP_SERVICE: [(StmtKind, &[Part], &[Part]); 9] = [
-    (DropRole, &[Word(K::Role)], &[Rest]),
-    (DropUserMapping, &[Word(K::User), Word(K::Mapping)], &[Rest]),
-    (DropUser, &[Word(K::User)], &[Rest]),
-    (DropGroup, &[Word(K::Group)], &[Rest]),
-    (DropDatabase, &[Word(K::Database)], &[Rest]),
-    (DropTablespace, &[Word(K::Tablespace)], &[Rest]),
-    (DropServer, &[Word(K::Server)], &[Rest]),
-    (DropPublication, &[Word(K::Publication)], &[Rest]),
-    (DropSubscription, &[Word(K::Subscription)], &[Rest]),
+    (DropRole, &[Word(K::ROLE)], &[Rest]),
+    (DropUserMapping, &[Word(K::USER), Word(K::MAPPING)], &[Rest]),
+    (DropUser, &[Word(K::USER)], &[Rest]),
+    (DropGroup, &[Word(K::GROUP)], &[Rest]),
+    (DropDatabase, &[Word(K::DATABASE)], &[Rest]),
+    (DropTablespace, &[Word(K::TABLESPACE)], &[Rest]),
+    (DropServer, &[Word(K::SERVER)], &[Rest]),
+    (DropPublication, &[Word(K::PUBLICATION)], &[Rest]),
+    (DropSubscription, &[Word(K::SUBSCRIPTION)], &[Rest]),
 ];
 
 /// All else.
 pub const DROP_OTHER: [(StmtKind, &[Part], &[Part]); 10] = [
-    (DropSchema, &[Word(K::Schema)], &[Rest]),
-    (DropExtension, &[Word(K::Extension)], &[Rest]),
-    (DropOwned, &[Word(K::Owned)], &[Rest]),
-    (DropStatistics, &[Word(K::Statistics)], &[Rest]),
-    (DropConversion, &[Word(K::Conversion)], &[Rest]),
+    (DropSchema, &[Word(K::SCHEMA)], &[Rest]),
+    (DropExtension, &[Word(K::EXTENSION)], &[Rest]),
+    (DropOwned, &[Word(K::OWNED)], &[Rest]),
+    (DropStatistics, &[Word(K::STATISTICS)], &[Rest]),
+    (DropConversion, &[Word(K::CONVERSION)], &[Rest]),
     (
         DropAccessMethod,
-        &[Word(K::Access), Word(K::Method)],
+        &[Word(K::ACCESS), Word(K::METHOD)],
         &[Rest],
     ),
     (
         DropTextSearchConfig,
-        &[Word(K::Text), Word(K::Search), Word(K::Configuration)],
+        &[Word(K::TEXT), Word(K::SEARCH), Word(K::CONFIGURATION)],
         &[Rest],
     ),
     (
         DropTextSearchDict,
-        &[Word(K::Text), Word(K::Search), Word(K::Dictionary)],
+        &[Word(K::TEXT), Word(K::SEARCH), Word(K::DICTIONARY)],
         &[Rest],
     ),
     (
         DropTextSearchParser,
-        &[Word(K::Text), Word(K::Search), Word(K::Parser)],
+        &[Word(K::TEXT), Word(K::SEARCH), Word(K::PARSER)],
         &[Rest],
     ),
     (
         DropTextSearchTemplate,
-        &[Word(K::Text), Word(K::Search), Word(K::Template)],
+        &[Word(K::TEXT), Word(K::SEARCH), Word(K::TEMPLATE)],
         &[Rest],
     ),
 ];

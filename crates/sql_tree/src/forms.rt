@@ -12,7 +12,7 @@ use crate::kinds::{ActionKind, StmtKind};
 use sql_token::{Keyword as K, Span};
 
 /// What a form tells by words that stand or do not.
-#[derive(Clone, Copy, Debug, PartialEq, Eq)]
+#[derive(Clone, Copy, PartialEq, Eq)]
 pub enum Mark {
     /// Nothing is told.
     Nothing,
@@ -31,7 +31,7 @@ pub enum Mark {
 }
 
 /// Words that stand together.
-#[derive(Clone, Copy, Debug, PartialEq, Eq)]
+#[derive(Clone, Copy, PartialEq, Eq)]
 pub enum Phrase {
     IfExists,
     IfNotExists,
@@ -42,7 +42,7 @@ pub enum Phrase {
 }
 
 /// A class of words.
-#[derive(Clone, Copy, Debug, PartialEq, Eq)]
+#[derive(Clone, Copy, PartialEq, Eq)]
 pub enum WordClass {
     /// The words that begin an option of ALTER SEQUENCE.
     SequenceOption,
@@ -51,7 +51,7 @@ pub enum WordClass {
 }
 
 /// A part of a form. A part in square brackets is optional, and taken wherever it stands.
-#[derive(Clone, Copy, Debug, PartialEq, Eq)]
+#[derive(Clone, Copy, PartialEq, Eq)]
 pub enum Part {
     /// This word.
     Word(K),
@@ -102,7 +102,7 @@ pub enum Part {
 }
 
 /// What reading a form keeps, by token numbers. What a form does not have is `None` or false.
-#[derive(Clone, Copy, Debug, PartialEq, Eq)]
+#[derive(Clone, Copy, PartialEq, Eq)]
 pub struct Captures {
     pub word: Option<u32>,
     pub path: Option<Span>,
@@ -128,7 +128,7 @@ pub type ActionRows = &'static [(ActionKind, &'static [Part])];
 
 /// Objects by the word that names them, or that may stand before it: each family has a table of rows of CREATE, one of
 /// ALTER and one of DROP.
-#[derive(Clone, Copy, Debug, PartialEq, Eq)]
+#[derive(Clone, Copy, PartialEq, Eq)]
 pub enum Family {
     /// Tables, indexes, views, sequences.
     Relation,
@@ -143,7 +143,7 @@ pub enum Family {
 }
 
 /// What is kept of the statements of a kind: a variant of `Body` each.
-#[derive(Clone, Copy, Debug, PartialEq, Eq)]
+#[derive(Clone, Copy, PartialEq, Eq)]
 pub enum Shape {
     Kept,
     End,

@@ -14,111 +14,111 @@ use crate::nodes::LockMode;
 use sql_token::Keyword as K;
 
 /// START.
-pub const START: [(StmtKind, &[Part], &[Part]); 1] = [(Begin, &[Word(K::Transaction)], &[Rest])];
+pub const START: [(StmtKind, &[Part], &[Part]); 1] = [(Begin, &[Word(K::TRANSACTION)], &[Rest])];
 
 /// COMMIT.
 pub const COMMIT: [(StmtKind, &[Part], &[Part]); 2] = [
-    (Commit, &[Word(K::Prepared)], &[Tell(Mark::NotPlain), Rest]),
-    (Commit, &[], &[Either(K::Work, K::Transaction), Chain]),
+    (Commit, &[Word(K::PREPARED)], &[Tell(Mark::NotPlain), Rest]),
+    (Commit, &[], &[Either(K::WORK, K::TRANSACTION), Chain]),
 ];
 
 /// END.
 pub const END: [(StmtKind, &[Part], &[Part]); 1] = [(
     Commit,
     &[],
-    &[Either(K::Work, K::Transaction), Chain],
+    &[Either(K::WORK, K::TRANSACTION), Chain],
 )];
 
 /// ROLLBACK.
 pub const ROLLBACK: [(StmtKind, &[Part], &[Part]); 3] = [
     (
         Rollback,
-        &[Word(K::Prepared)],
+        &[Word(K::PREPARED)],
         &[Tell(Mark::NotPlain), Rest],
     ),
     (
         Rollback,
-        &[Either(K::Work, K::Transaction), Word(K::To)],
+        &[Either(K::WORK, K::TRANSACTION), Word(K::TO)],
         &[Tell(Mark::NotPlain), Rest],
     ),
-    (Rollback, &[], &[Either(K::Work, K::Transaction), Chain]),
+    (Rollback, &[], &[Either(K::WORK, K::TRANSACTION), Chain]),
 ];
 
 /// ABORT.
 pub const ABORT: [(StmtKind, &[Part], &[Part]); 1] = [(
     Rollback,
     &[],
-    &[Either(K::Work, K::Transaction), Chain],
+    &[Either(K::WORK, K::TRANSACTION), Chain],
 )];
 
 /// SELECT.
 pub const SELECT: [(StmtKind, &[Part], &[Part]); 2] = [
     (
         SelectInto,
-        &[Into, Mods, Flag(K::Table, Mark::Nothing), Path],
+        &[Into, Mods, Flag(K::TABLE, Mark::Nothing), Path],
         &[Rest],
     ),
     (Select, &[], &[Rest]),
 ];
 
 /// INSERT.
-pub const INSERT: [(StmtKind, &[Part], &[Part]); 1] = [(Insert, &[], &[Word(K::Into), Path, Rest])];
+pub const INSERT: [(StmtKind, &[Part], &[Part]); 1] = [(Insert, &[], &[Word(K::INTO), Path, Rest])];
 
 /// UPDATE.
 pub const UPDATE: [(StmtKind, &[Part], &[Part]); 1] = [(
     Update,
     &[],
-    &[Flag(K::Only, Mark::Nothing), Path, Rest],
+    &[Flag(K::ONLY, Mark::Nothing), Path, Rest],
 )];
 
 /// MERGE.
 pub const MERGE: [(StmtKind, &[Part], &[Part]); 1] = [(
     Merge,
     &[],
-    &[Word(K::Into), Flag(K::Only, Mark::Nothing), Path, Rest],
+    &[Word(K::INTO), Flag(K::ONLY, Mark::Nothing), Path, Rest],
 )];
 
 /// SET. A SESSION that AUTHORIZATION follows is not the optional one.
 pub const SET: [(StmtKind, &[Part], &[Part]); 7] = [
-    (SetConstraints, &[Word(K::Constraints)], &[Rest]),
+    (SetConstraints, &[Word(K::CONSTRAINTS)], &[Rest]),
     (
         SetSessionAuth,
-        &[Word(K::Session), Word(K::Authorization)],
+        &[Word(K::SESSION), Word(K::AUTHORIZATION)],
         &[Rest],
     ),
     (
         SetSessionAuth,
         &[
-            Either(K::Session, K::Local),
-            Word(K::Session),
-            Word(K::Authorization),
+            Either(K::SESSION, K::LOCAL),
+            Word(K::SESSION),
+            Word(K::AUTHORIZATION),
         ],
         &[Rest],
     ),
     (
         SetTransaction,
-        &[Word(K::Session), Word(K::Characteristics)],
+        &[Word(K::SESSION), Word(K::CHARACTERISTICS)],
         &[Rest],
     ),
     (
         SetTransaction,
-        &[Flag(K::Local, Mark::Nothing), Word(K::Transaction)],
+        &[Flag(K::LOCAL, Mark::Nothing), Word(K::TRANSACTION)],
         &[Rest],
     ),
     (
         SetRole,
-        &[Either(K::Session, K::Local), Word(K::Role)],
+        &[Either(K::SESSION, K::LOCAL), Word(K::ROLE)],
         &[Rest],
     ),
-    (Set, &[], &[Either(K::Session, K::Local), Rest]),
+    (Set, &[], &[Either(K::SESSION, K::LOCAL), Rest]),
 ];
 
 /// RESET.
 pub const RESET: [(StmtKind, &[Part], &[Part]); 3] = [
-    (ResetRole, &[Word(K::Role)], &[Rest]),
+    (ResetRole, &[Word(K::ROLE)], &[Rest]),
     (
         ResetSessionAuth,
-        &[Word(K::Session), Word(K::Authorization)],
+        &[Word(K::SESSION), Word(K::AUTHORIZATION)],
         &[Rest],
     ),
     (Reset, &[], &[Rest]),
@@ -126,24 +126,24 @@ pub const RESET: [(StmtKind, &[Part], &[Part]); 3] = [
 
 /// PREPARE.
 pub const PREPARE: [(StmtKind, &[Part], &[Part]); 2] = [
-    (PrepareTransaction, &[Word(K::Transaction)], &[Rest]),
+    (PrepareTransaction, &[Word(K::TRANSACTION)], &[Rest]),
     (Prepare, &[], &[Rest]),
 ];
 
 /// COMMENT.
-pub const COMMENT: [(StmtKind, &[Part], &[Part]); 1] = [(CommentOn, &[Word(K::On)], &[Rest])];
+pub const COMMENT: [(StmtKind, &[Part], &[Part]); 1] = [(CommentOn, &[Word(K::ON)], &[Rest])];
 
 /// IMPORT.
 pub const IMPORT: [(StmtKind, &[Part], &[Part]); 1] = [(
     ImportForeignSchema,
-    &[Word(K::Foreign), Word(K::Schema)],
+    &[Word(K::FOREIGN), Word(K::SCHEMA)],
     &[Rest],
 )];
 
 /// SECURITY.
 pub const SECURITY: [(StmtKind, &[Part], &[Part]); 1] = [(
     SecurityLabel,
-    &[Word(K::Label)],
+    &[Word(K::LABEL)],
     &[Rest],
 )];
 
@@ -151,48 +151,48 @@ pub const SECURITY: [(StmtKind, &[Part], &[Part]); 1] = [(
 pub const REFRESH: [(StmtKind, &[Part], &[Part]); 1] = [(
     Refresh,
     &[],
-    &[Word(K::Materialized), Word(K::View), Concurrently, Rest],
+    &[Word(K::MATERIALIZED), Word(K::VIEW), Concurrently, Rest],
 )];
 
 /// CLUSTER: an index ON its table, or a table and perhaps an index behind USING, or all tables.
 pub const CLUSTER: [(StmtKind, &[Part], &[Part]); 4] = [
     (
         Cluster,
-        &[Flag(K::Verbose, Mark::Nothing), Name, Word(K::On)],
+        &[Flag(K::VERBOSE, Mark::Nothing), Name, Word(K::ON)],
         &[Path],
     ),
     (
         Cluster,
         &[
             MaybeList,
-            Flag(K::Verbose, Mark::Nothing),
+            Flag(K::VERBOSE, Mark::Nothing),
             Path,
-            Word(K::Using),
+            Word(K::USING),
         ],
         &[Name],
     ),
     (
         Cluster,
-        &[MaybeList, Flag(K::Verbose, Mark::Nothing), Path],
+        &[MaybeList, Flag(K::VERBOSE, Mark::Nothing), Path],
         &[],
     ),
-    (Cluster, &[MaybeList, Flag(K::Verbose, Mark::Nothing)], &[]),
+    (Cluster, &[MaybeList, Flag(K::VERBOSE, Mark::Nothing)], &[]),
 ];
 
 /// The modes of LOCK: the words between IN and MODE.
 pub const LOCK_MODES: [(LockMode, &[K]); 8] = [
-    (LockMode::AccessShare, &[K::Access, K::Share]),
-    (LockMode::RowShare, &[K::Row, K::Share]),
-    (LockMode::RowExclusive, &[K::Row, K::Exclusive]),
+    (LockMode::AccessShare, &[K::ACCESS, K::SHARE]),
+    (LockMode::RowShare, &[K::ROW, K::SHARE]),
+    (LockMode::RowExclusive, &[K::ROW, K::EXCLUSIVE]),
     (
         LockMode::ShareUpdateExclusive,
-        &[K::Share, K::Update, K::Exclusive],
+        &[K::SHARE, K::UPDATE, K::EXCLUSIVE],
     ),
-    (LockMode::Share, &[K::Share]),
+    (LockMode::Share, &[K::SHARE]),
     (
         LockMode::ShareRowExclusive,
-        &[K::Share, K::Row, K::Exclusive],
+        &[K::SHARE, K::ROW, K::EXCLUSIVE],
     ),
-    (LockMode::Exclusive, &[K::Exclusive]),
-    (LockMode::AccessExclusive, &[K::Access, K::Exclusive]),
+    (LockMode::Exclusive, &[K::EXCLUSIVE]),
+    (LockMode::AccessExclusive, &[K::ACCESS, K::EXCLUSIVE]),
 ];

@@ -4,7 +4,7 @@ use sql_token::Span;
 
 /// A reading of an expression (PostgreSQL manual, section 4.2), told by its own terminals alone. Places and lengths count
 /// terminals: `from` is where an inner expression begins, and `len` how long it is.
-#[derive(Clone, Copy, Debug, PartialEq, Eq)]
+#[derive(Clone, Copy, PartialEq, Eq)]
 pub enum Shape {
     /// One constant.
     Literal,

@@ -100,7 +100,7 @@ fn array_by_word(terminals: &[Terminal], count: usize) -> Option<ColType>
     ensures { result ≡ spec.array_by_word terminals.now }
 {
     let groups = &terminals[count..];
-    if ends_with(Keyword::Array, &terminals[..count]) && closing(groups) == groups.len() {
+    if ends_with(Keyword::ARRAY, &terminals[..count]) && closing(groups) == groups.len() {
         array_of(terminals, &terminals[..count.saturating_sub(1)])
     } else {
         None

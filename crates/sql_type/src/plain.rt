@@ -54,7 +54,7 @@ fn with_arguments(
 fn behind_varying(rest: &[Terminal]) -> &[Terminal]
     ensures { result.now ≡ spec.behind_varying rest.now }
 {
-    if begins_with(Keyword::Varying, rest) {
+    if begins_with(Keyword::VARYING, rest) {
         &rest[1..]
     } else {
         rest
@@ -64,7 +64,7 @@ fn behind_varying(rest: &[Terminal]) -> &[Terminal]
 fn character_kind(rest: &[Terminal]) -> TyKind
     ensures { result ≡ spec.character_kind rest.now }
 {
-    if begins_with(Keyword::Varying, rest) {
+    if begins_with(Keyword::VARYING, rest) {
         TyKind::Varchar
     } else {
         TyKind::Character
@@ -86,7 +86,7 @@ fn character_type(terminals: &[Terminal], rest: &[Terminal]) -> Option<ColType>
 fn double_type(terminals: &[Terminal], rest: &[Terminal]) -> Option<ColType>
     ensures { result ≡ spec.double_type terminals.now rest.now }
 {
-    if !begins_with(Keyword::Precision, rest) || rest.len() != 1 {
+    if !begins_with(Keyword::PRECISION, rest) || rest.len() != 1 {
         return None;
     }
     let place = span_of(terminals);
@@ -99,7 +99,7 @@ fn is_time_zone(rest: &[Terminal]) -> bool
     match rest {
         [] => false,
         [first, more @ ..] => {
-            first.is_keyword(Keyword::Time) && begins_with(Keyword::Zone, more) && more.len() == 1
+            first.is_keyword(Keyword::TIME) && begins_with(Keyword::ZONE, more) && more.len() == 1
         }
     }
 }
@@ -115,10 +115,10 @@ fn zone(rest: &[Terminal]) -> Option<bool>
             if !is_time_zone(more) {
                 return None;
             }
-            if first.is_keyword(Keyword::With) {
+            if first.is_keyword(Keyword::WITH) {
                 return Some(true);
             }
-            if first.is_keyword(Keyword::Without) {
+            if first.is_keyword(Keyword::WITHOUT) {
                 Some(false)
             } else {
                 None
@@ -166,14 +166,14 @@ fn word_type(word: Keyword, terminals: &[Terminal], rest: &[Terminal]) -> Option
     let place = span_of(terminals);
     let name = place.first;
     match word {
-        Keyword::Varchar => with_arguments(TyKind::Varchar, name, terminals, rest),
-        Keyword::Character => character_type(terminals, rest),
-        Keyword::Char => character_type(terminals, rest),
-        Keyword::Bit => with_arguments(TyKind::Bit, name, terminals, behind_varying(rest)),
-        Keyword::Double => double_type(terminals, rest),
-        Keyword::Time => time_type(TyKind::Time, terminals, rest),
-        Keyword::Timestamp => time_type(TyKind::Timestamp, terminals, rest),
-        Keyword::Interval => Some(plain_of(TyKind::Interval, name, place, None, false)),
+        Keyword::VARCHAR => with_arguments(TyKind::Varchar, name, terminals, rest),
+        Keyword::CHARACTER => character_type(terminals, rest),
+        Keyword::CHAR => character_type(terminals, rest),
+        Keyword::BIT => with_arguments(TyKind::Bit, name, terminals, behind_varying(rest)),
+        Keyword::DOUBLE => double_type(terminals, rest),
+        Keyword::TIME => time_type(TyKind::Time, terminals, rest),
+        Keyword::TIMESTAMP => time_type(TyKind::Timestamp, terminals, rest),
+        Keyword::INTERVAL => Some(plain_of(TyKind::Interval, name, place, None, false)),
         _ => None,
     }
 }

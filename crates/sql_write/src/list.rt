@@ -17,7 +17,7 @@ fn is_query_word(word: Keyword) -> bool
 {
     matches!(
         word,
-        Keyword::Select | Keyword::With | Keyword::Values | Keyword::Table
+        Keyword::SELECT | Keyword::WITH | Keyword::VALUES | Keyword::TABLE
     )
 }
 
@@ -58,7 +58,7 @@ fn behind_alias(terminals: &[Terminal]) -> &[Terminal]
     ensures { result.now ≡ spec.behind_alias terminals.now }
 {
     match terminals {
-        [first, name, rest @ ..] if first.is_keyword(Keyword::As) && name.is_name() => rest,
+        [first, name, rest @ ..] if first.is_keyword(Keyword::AS) && name.is_name() => rest,
         _ => terminals,
     }
 }

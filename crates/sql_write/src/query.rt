@@ -2,7 +2,7 @@
 
 ghost use Rattle.std.specs.Prelude.{◌≡◌, IfOk};
 ghost use Rattle.std.specs.Option.{option_and_then};
-ghost use Rattle.sql_keyword.specs.declared.words.Keyword.TheVariants as k;
+ghost use Rattle.sql_keyword.specs.declared.words.TheConstants.Keyword as keyword;
 ghost use Rattle.sql_tree.specs.Forms.{behind_word};
 ghost use Rattle.sql_tree.specs.Split.{behind_list};
 ghost use Rattle.sql_tree.specs.Write as spec;
@@ -20,7 +20,7 @@ fn name_behind_as(terminals: &[Terminal]) -> Option<u32>
     ensures { result ≡ spec.name_behind_as terminals.now }
 {
     match terminals {
-        [first, name] if first.is_keyword(Keyword::As) && name.is_name() => Some(name.number),
+        [first, name] if first.is_keyword(Keyword::AS) && name.is_name() => Some(name.number),
         _ => None,
     }
 }
@@ -67,9 +67,9 @@ fn query_target(terminals: &[Terminal]) -> Option<Target>
 
 /// What follows DISTINCT: a list behind ON is taken.
 fn behind_on<'a>(terminals: &'a [Terminal]) -> &'a [Terminal]
-    ensures { result.now ≡ spec.left_or terminals.entry.now (option_and_then behind_list (behind_word k.On terminals.entry.now)) }
+    ensures { result.now ≡ spec.left_or terminals.entry.now (option_and_then behind_list (behind_word keyword.ON terminals.entry.now)) }
 {
-    match behind_word(Keyword::On, terminals) {
+    match behind_word(Keyword::ON, terminals) {
         None => terminals,
         Some(rest) => match behind_list(rest) {
             None => terminals,
@@ -84,8 +84,8 @@ fn behind_distinct(terminals: &[Terminal]) -> &[Terminal]
     ensures { result.now ≡ spec.behind_distinct terminals.now }
 {
     match terminals {
-        [first, rest @ ..] if first.is_keyword(Keyword::All) => rest,
-        [first, rest @ ..] if first.is_keyword(Keyword::Distinct) => behind_on(rest),
+        [first, rest @ ..] if first.is_keyword(Keyword::ALL) => rest,
+        [first, rest @ ..] if first.is_keyword(Keyword::DISTINCT) => behind_on(rest),
         _ => terminals,
     }
 }

@@ -134,7 +134,7 @@ fn update_clause(alloc: Global, tail: &[Terminal]) -> Result<Items<Items<SetPart
     ensures { IfOk result (λ clauses. clauses ≡ spec.update_clause tail.now) }
 {
     let mut clauses = Vec::new(alloc);
-    if let [_, rest @ ..] = from_mark(Mark::Word(Keyword::Set), tail) {
+    if let [_, rest @ ..] = from_mark(Mark::Word(Keyword::SET), tail) {
         let clause = set_clause(alloc, Mark::Write(WriteMark::ClauseEnd), rest)?;
         put(&mut clauses, clause)?;
     }

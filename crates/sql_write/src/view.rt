@@ -59,9 +59,9 @@ fn view_columns(alloc: Global, tail: &[Terminal]) -> Result<Option<Items<Target>
 fn view_targets(alloc: Global, tail: &[Terminal]) -> Result<Items<Target>, NoMemory>
     ensures { IfOk result (λ ts. ts ≡ spec.view_targets tail.now) }
 {
-    match from_mark(Mark::Word(Keyword::As), tail) {
+    match from_mark(Mark::Word(Keyword::AS), tail) {
         [first, second, rest @ ..]
-            if first.is_keyword(Keyword::As) && second.is_keyword(Keyword::Select) => {
+            if first.is_keyword(Keyword::AS) && second.is_keyword(Keyword::SELECT) => {
             read_targets(alloc, rest)
         }
         _ => Ok(Items::new(alloc)),

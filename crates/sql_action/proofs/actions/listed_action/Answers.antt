@@ -14,3 +14,11 @@ returns-then-branch c = grind (arith, first_put, other_put)
 pub returns-then-branch-2 : goal.returns-then-branch-2
 unfolding listed_action
 returns-then-branch-2 c = grind (arith, first_put, other_put)
+
+pub returns-in_err-by_rows : goal.returns-in_err-by_rows
+unfolding listed_action
+returns-in_err-by_rows c = grind (arith, first_put, other_put)
+
+pub returns-in_err-own_action : goal.returns-in_err-own_action
+unfolding listed_action
+returns-in_err-own_action c = grind (arith, first_put, other_put)

@@ -5,3 +5,11 @@ use Rattle.sql_constraint.proofs.constraint.behind_exclude.Goals as goal
 pub returns-else-is_exclusion : goal.returns-else-is_exclusion
 unfolding behind_exclude
 returns-else-is_exclusion c = grind arith
+
+pub returns-in_err-rest : goal.returns-in_err-rest
+unfolding behind_exclude
+returns-in_err-rest c = grind arith
+
+pub returns-then-is_exclusion : goal.returns-then-is_exclusion
+unfolding behind_exclude
+returns-then-is_exclusion c = grind arith

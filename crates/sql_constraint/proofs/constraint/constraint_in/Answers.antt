@@ -5,3 +5,7 @@ use Rattle.sql_constraint.proofs.constraint.constraint_in.Goals as goal
 pub returns : goal.returns
 unfolding constraint_in
 returns c = grind arith
+
+pub returns-in_err-expr : goal.returns-in_err-expr
+unfolding constraint_in
+returns-in_err-expr c = grind arith

@@ -9,3 +9,7 @@ returns-else-is_list c = grind arith
 pub returns-then-is_list : goal.returns-then-is_list
 unfolding after_path
 returns-then-is_list c = grind arith
+
+pub returns-then-is_empty : goal.returns-then-is_empty
+unfolding after_path
+returns-then-is_empty c = grind arith

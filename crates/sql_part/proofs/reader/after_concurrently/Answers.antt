@@ -4,3 +4,9 @@ use Rattle.sql_part.proofs.reader.after_concurrently.Goals as goal
 
 pub returns-in-len1-up : goal.returns-in-len1-up
 returns-in-len1-up c = grind (arith, common_steps)
+
+pub returns-in_default : goal.returns-in_default
+returns-in_default c = grind arith
+
+pub returns-in_default-2 : goal.returns-in_default-2
+returns-in_default-2 c = grind arith

@@ -3,3 +3,6 @@ use Rattle.sql_part.proofs.reader.is_all_taken.Goals as goal
 
 pub returns-else-kept : goal.returns-else-kept
 returns-else-kept c = grind arith
+
+pub returns-then-kept : goal.returns-then-kept
+returns-then-kept c = grind arith

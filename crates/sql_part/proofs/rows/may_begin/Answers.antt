@@ -1,3 +1,4 @@
+use Rattle.std.proofs.Common.{arith}
 use Rattle.sql_part.proofs.Leads.{word_may, object_may}
 use Rattle.sql_part.proofs.rows.may_begin.Goals as goal
 
@@ -6,3 +7,6 @@ returns-in-Word c = rw c.in-Word.is (word_may c.in-Word.word c.args.left.now _ c
 
 pub returns-in-Object : goal.returns-in-Object
 returns-in-Object c = rw c.in-Object.is (object_may c.in-Object.word c.args.left.now _ c.begins_with-in-Object.ensures)
+
+pub returns-in_default : goal.returns-in_default
+returns-in_default c = grind arith

@@ -2,10 +2,10 @@ use Rattle.std.proofs.Common.{arith}
 use Rattle.sql_tree.specs.Forms.{rows_of}
 use Rattle.sql_part.proofs.tables.rows_of.Goals as goal
 
-pub returns-in-Abort : goal.returns-in-Abort
+pub returns-in-ABORT : goal.returns-in-ABORT
 unfolding rows_of
-returns-in-Abort c = grind arith
+returns-in-ABORT c = grind arith
 
-pub returns-in-Drop : goal.returns-in-Drop
+pub returns-in-DROP : goal.returns-in-DROP
 unfolding rows_of
-returns-in-Drop c = grind arith
+returns-in-DROP c = grind arith

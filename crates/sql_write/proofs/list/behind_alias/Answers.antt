@@ -6,3 +6,15 @@ use Rattle.sql_write.proofs.list.behind_alias.Goals as goal
 pub returns-in-len2-up : goal.returns-in-len2-up
 unfolding behind_alias
 returns-in-len2-up c = grind (arith, common_steps)
+
+pub returns-in_default : goal.returns-in_default
+unfolding behind_alias
+returns-in_default c = grind arith
+
+pub returns-in_default-2 : goal.returns-in_default-2
+unfolding behind_alias
+returns-in_default-2 c = grind arith
+
+pub returns-in_default-3 : goal.returns-in_default-3
+unfolding behind_alias
+returns-in_default-3 c = grind arith

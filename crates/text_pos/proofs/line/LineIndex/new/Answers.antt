@@ -16,3 +16,9 @@ pub invariant_of-result : goal.invariant_of-result
 invariant_of-result c =
     let whole : c.loop-i.feeds.items ≡ line_feeds c.as_bytes-byte-items.result.now = grind (arith, common_steps) in
     rw whole (line_index-line_feeds c.as_bytes-byte-items.result.now (rw c.as_bytes-byte-items.ensures.value c.requires))
+
+pub returns : goal.returns
+returns c = grind (arith, common_steps)
+
+pub returns-in_err-push : goal.returns-in_err-push
+returns-in_err-push c = grind arith

@@ -1,0 +1,11 @@
+use Rattle.std.proofs.Common.{arith}
+use Rattle.sql_write.proofs.target.is_accessor.Goals as goal
+
+pub returns-else-is_name : goal.returns-else-is_name
+returns-else-is_name c = grind arith
+
+pub returns-then-begins_name : goal.returns-then-begins_name
+returns-then-begins_name c = grind arith
+
+pub returns-then-is_name : goal.returns-then-is_name
+returns-then-is_name c = grind arith

@@ -1,0 +1,5 @@
+use Rattle.std.proofs.Common.{arith}
+use Rattle.text_pos.proofs.range.TextRange.new.Goals as goal
+
+pub returns : goal.returns
+returns c = grind arith
