@@ -1,7 +1,7 @@
 #!/usr/bin/env python3
 """Writes the tables of the crate `sql_keyword` from the list of words below.
 
-Run it at the top of the repository after an edit of WORDS, and lay the files out:
+Run it at the top of the repository after an edit of WORDS, VERBS or OBJECTS, and lay the files out:
 
     python3 tools/keywords.py && (cd crates/sql_keyword && rt fmt && rt check)
 
@@ -59,8 +59,8 @@ WHEN WHERE WINDOW WITH WITHOUT WORK WRAPPER
 ZONE
 """.split()
 
-# The words that begin a statement, and those that name a kind of object; all others stand in a third group. The prover's time
-# for a type grows with the cube of its variants, so no group is large.
+# The words that begin a statement, and those that name a kind of object; all others stand in a third group. What the prover takes
+# for a goal that fails grows with the cube of the variants of a type in it, so no group is large (docs/DECISIONS.md).
 VERBS = """
 ABORT ALTER ANALYSE ANALYZE BEGIN CALL CHECKPOINT CLOSE CLUSTER COMMENT COMMIT COPY CREATE DEALLOCATE DECLARE DELETE DISCARD DO
 DROP END EXECUTE EXPLAIN FETCH GRANT IMPORT INSERT LISTEN LOAD LOCK MERGE MOVE NOTIFY PREPARE REASSIGN REFRESH REINDEX RELEASE
