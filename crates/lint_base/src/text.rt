@@ -8,7 +8,7 @@ ghost use Rattle.std.specs.Cmp.Rules.{hashing};
 ghost use Rattle.std.specs.String.{string_bytes};
 ghost use Rattle.std.proofs.Common.{rules};
 
-use bytes::ByteStr;
+use static_text::StaticText;
 use std::cmp::Ordering;
 use std::fmt;
 use std::hash::{Hash, Hasher};
@@ -18,7 +18,7 @@ use std::marker::Model;
 #[derive(Drop)]
 enum Source {
     /// In the program.
-    Fixed(ByteStr),
+    Fixed(StaticText),
     /// In memory that was taken for it.
     Made(String),
 }
@@ -47,7 +47,7 @@ impl Text {
         ensures { result ≡ s.entry.now }
     {
         Text {
-            source: Source::Fixed(ByteStr::from_static(s)),
+            source: Source::Fixed(StaticText::new(s)),
         }
     }
 

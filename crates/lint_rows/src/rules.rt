@@ -262,6 +262,7 @@ fn ranges_are_measured(rt: HostRuntime) -> Result<(), Fail> {
 
 #[test]
 fn every_rule_has_its_name(rt: HostRuntime) -> Result<(), Fail> {
+    assert_eq!(rt; TABLE.len(), Rule::ALL.len());
     for ((rule, name, is_opt_in), listed) in TABLE.iter().zip(&Rule::ALL) {
         assert!(rt; rule == listed && rule.name() == *name && rule.is_opt_in() == *is_opt_in);
         assert!(rt; format!(in rt.alloc(); "{rule}")?.as_str() == *name);

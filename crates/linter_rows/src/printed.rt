@@ -1,9 +1,10 @@
-//! The printed form of reports.
+//! The printed form of reports, in memory and in a sink.
 
 ghost use Rattle.std.specs.Prelude.{◌≤◌};
 
 use lint_base::{Edit, Fix, Rule, Text, Violation};
-use squawk_print::print_violations;
+use squawk_print::{WriteError, print_violations, write_violations};
+use squawk_stream::MemSink;
 use std::alloc::Global;
 use std::test::Fail;
 use text_pos::{TextRange, TextSize};
@@ -63,5 +64,70 @@ fn reports(rt: HostRuntime) -> Result<(), Fail> {
 fn no_report(rt: HostRuntime) -> Result<(), Fail> {
     let bytes = print_violations(rt.alloc(), &[])?;
     assert_eq!(rt; bytes.as_slice(), b"violations: 0\n".as_slice());
+    Ok(())
+}
+
+/// Writing the reports: how many bytes the sink holds at most, which of its calls fail, and what comes of it.
+const WRITTEN: &[(usize, &[u32], Result<(), WriteError>)] = &[
+    (1000, &[], Ok(())),
+    (PRINTED.len(), &[], Ok(())),
+    (100, &[], Err(WriteError::Fault)),
+    (0, &[], Err(WriteError::Fault)),
+    (1000, &[0], Err(WriteError::Fault)),
+];
+
+#[test]
+fn written(rt: HostRuntime) -> Result<(), Fail> {
+    let reports = reports_of(rt.alloc())?;
+    for (capacity, fails, expected) in WRITTEN {
+        let mut sink = MemSink::new(rt.alloc(), *capacity, *fails)?;
+        let result = write_violations(rt.alloc(), &mut sink, reports.as_slice());
+        assert_eq!(rt; result, *expected);
+        let held = if fails.is_empty() {
+            PRINTED.len().min(*capacity)
+        } else {
+            0
+        };
+        assert_eq!(rt; sink.bytes(), &PRINTED.as_bytes()[..held]);
+    }
+    Ok(())
+}
+
+/// How many reports are written in more than one piece, and how many bytes one takes.
+const MANY: usize = 3000;
+
+const LINE: &str = "9..9: warning[renaming-table]: m\n";
+
+fn many(alloc: Global) -> Result<(Vec<Violation>, String), Fail> {
+    let mut reports = Vec::new(alloc);
+    let mut printed = String::new(alloc);
+    for _ in 0..MANY {
+        let message = Text::fixed("m");
+        reports.push(Violation::for_range(Rule::RenamingTable, message, range(9, 9)))?;
+        printed.push_str(LINE)?;
+    }
+    printed.push_str("violations: 3000\n")?;
+    Ok((reports, printed))
+}
+
+#[test]
+fn written_in_pieces(rt: HostRuntime) -> Result<(), Fail> {
+    let (reports, printed) = many(rt.alloc())?;
+    let mut sink = MemSink::new(rt.alloc(), 200_000, &[])?;
+    let result = write_violations(rt.alloc(), &mut sink, reports.as_slice());
+    assert_eq!(rt; result, Ok(()));
+    assert_eq!(rt; sink.bytes(), printed.as_bytes());
+    Ok(())
+}
+
+#[test]
+fn stopped_between_pieces(rt: HostRuntime) -> Result<(), Fail> {
+    let (reports, printed) = many(rt.alloc())?;
+    let mut sink = MemSink::new(rt.alloc(), 200_000, &[1])?;
+    let result = write_violations(rt.alloc(), &mut sink, reports.as_slice());
+    assert_eq!(rt; result, Err(WriteError::Fault));
+    let held = sink.bytes();
+    assert!(rt; !held.is_empty() && held.len() < printed.len());
+    assert!(rt; printed.as_bytes().starts_with(held));
     Ok(())
 }

@@ -1,2 +1,2 @@
 pub mod Complete
-pub mod Pages
+pub mod Inputs

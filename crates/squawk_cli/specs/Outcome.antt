@@ -1,5 +1,5 @@
 -- What each status says of a run.
-use Rattle.std.specs.Prelude.{◌≡◌, ◌≢◌, ℕ, ◌^◌, ◌<◌, Bool, true, false, List, [], length, ⊤}
+use Rattle.std.specs.Prelude.{◌≡◌, ◌≢◌, ℕ, ◌^◌, ◌<◌, List, [], length, ⊤}
 use Rattle.std.specs.declared.option.Option.{Option}
 use Rattle.std.specs.Str.{IsUtf8}
 use Rattle.std.specs.Io.KnownBytes.{Appends, Keeps, IsAtEnd}
@@ -48,14 +48,10 @@ pub record AppendsPartOfReports (words : List (List ℕ)) (t : List ℕ) (old ne
   pub reports : AreReports words t violations
   pub appended : AppendsPart old new (printed violations)
 
--- these bytes are the printed form of the reports of a linter on the text, and tell whether there are none
-pub record IsPage (rules : Rules) (settings : LinterSettings) (t bytes : List ℕ) (clean : Bool) : Type 0 where
-  pub violations : List Violation
+-- these are the reports of a linter on the text
+pub record AreFound (rules : Rules) (settings : LinterSettings) (t : List ℕ) (violations : List Violation) : Type 0 where
   pub answer : IsAnswer t rules settings violations
   pub headline : HasHeadline t rules settings violations
-  pub printed_form : bytes ≡ printed violations
-  pub cleans : clean ≡ true → violations ≡ []
-  pub finds : clean ≡ false → violations ≢ []
 
 -- what the whole input is
 abbrev pub InputFor : Status → List (List ℕ) → List ℕ → Type 0
@@ -98,7 +94,7 @@ IsDone Found = ⊤
 IsDone NoMemory = ⊤
 IsDone _ = ⊥
 
--- why an input has no page
+-- why an input has no reports
 abbrev pub RefusalFits : Status → List ℕ → Type 0
 RefusalFits NotUtf8 t = ¬ (IsUtf8 t)
 RefusalFits (Unterminated at) t = IsUtf8 t × (length t < 2 ^ 32) × OpenAt t at

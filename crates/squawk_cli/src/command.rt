@@ -9,10 +9,11 @@ ghost use Rattle.sql_tree.specs.Statement.{IsValid};
 ghost use Rattle.squawk_cli.specs.StatusLine.{line_of};
 ghost use Rattle.squawk_cli.specs.Outcome.{WordsFor, ReadFor, InputFor, WrittenFor, KeptFor, SourceCause, SinkCause, IsDone};
 
-use crate::page::make_page;
+use crate::input::lint_input;
 use crate::status::Status;
 use crate::status_line::say;
-use squawk_stream::{ReadError, Sink, Source, read_to_end, write_all};
+use squawk_print::{WriteError, write_violations};
+use squawk_stream::{ReadError, Sink, Source, read_to_end};
 use squawk_words::{Words, read_words};
 use std::alloc::Global;
 
@@ -38,21 +39,25 @@ fn work<S: Source, K: Sink>(alloc: Global, words: &Words, src: &mut S, out: &mut
         Err(ReadError::Fault) => return Status::ReadFault,
         Err(ReadError::NoMemory) => return Status::NoMemory,
     };
-    let page = match make_page(alloc, &mut linter, input.as_slice()) {
-        Ok(page) => page,
+    let found = match lint_input(alloc, &mut linter, input.as_slice()) {
+        Ok(found) => found,
         Err(refused) => return refused,
     };
-    if write_all(out, page.bytes.as_slice()).is_err() {
-        return Status::WriteFault;
-    }
-    if page.clean {
-        Status::Clean
-    } else {
-        Status::Found
+    let reports = found.as_slice();
+    match write_violations(alloc, out, reports) {
+        Ok(()) => {
+            if reports.is_empty() {
+                Status::Clean
+            } else {
+                Status::Found
+            }
+        }
+        Err(WriteError::Fault) => Status::WriteFault,
+        Err(WriteError::NoMemory) => Status::NoMemory,
     }
 }
 
-/// Reads the words, then all of the input, lints it as they say, prints the reports into memory and writes them to `out`. The line of
+/// Reads the words, then all of the input, lints it as they say, and writes the printed reports to `out`. The line of
 /// the status goes to `err`, and a failure there changes no status.
 ///
 /// The clauses say by each status what the words and the input are (`words`, `input`), what was read and written (`read`,

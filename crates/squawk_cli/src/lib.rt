@@ -3,12 +3,12 @@
 #![tactic(auto)]
 
 mod command;
-mod page;
+mod input;
 mod status;
 mod status_line;
 
 pub use command::run;
-pub use squawk_print::{print_violations, printed_form_is_exact};
+pub use squawk_print::{WriteError, print_violations, printed_form_is_exact, write_violations};
 pub use squawk_stream::{
     Failed, MemSink, MemSource, Sink, SliceSource, Source, StdSink, StdSource,
 };

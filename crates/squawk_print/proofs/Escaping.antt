@@ -1,36 +1,18 @@
 -- Escaped texts: those without special bytes stay, and no two texts are escaped alike.
 use Rattle.std.proofs.Common.{◌≡◌, ◌∙◌, ℕ, Bool, true, false, ◌&&◌, List, [], ◌∷◌, ◌++◌, refl, ap, sym, append_assoc, arith, if◌then◌else◌}
 use Rattle.std.specs.List.{list_all}
-use Rattle.std.specs.Prelude.{suc, length}
-use Rattle.memchr.specs.Find.{Nowhere, Passes, is_byte, is_byte3}
 use Rattle.squawk_print.specs.Plain.{is_plain}
 use Rattle.squawk_print.specs.Escaped.{letter_of, escaped_byte, escaped}
 
-both_and : (a b : Bool) → a ≡ true → b ≡ true → (a && b) ≡ true
-both_and a b p q = cc
-
-plain_byte : (b : ℕ) → (is_byte3 92 34 10 b ≡ true → ⊥) → (is_byte 13 b ≡ true → ⊥) → is_plain b ≡ true
-plain_byte b h k = grind (arith, h, k)
-
-and_both : (a b : Bool) → (a && b) ≡ true → (a ≡ true) × (b ≡ true)
-and_both true b h = (refl, h)
-and_both false b h = absurd (cc)
+both_of_and : (a b : Bool) → (a && b) ≡ true → (a ≡ true) × (b ≡ true)
+both_of_and true b h = (refl, h)
+both_of_and false b h = absurd (cc)
 
 pub escaped_plain : (text : List ℕ) → list_all is_plain text ≡ true → escaped text ≡ text
 escaped_plain [] h = refl
 escaped_plain (b ∷ bs) h =
-    let k = and_both (is_plain b) (list_all is_plain bs) h in
+    let k = both_of_and (is_plain b) (list_all is_plain bs) h in
     ap (λ c. (if c then b ∷ [] else 92 ∷ letter_of b ∷ []) ++ escaped bs) k.0 ∙ ap (λ xs. b ∷ xs) (escaped_plain bs k.1)
-
--- a text without a backslash, a quote and the ends of lines
-pub plain_where_none : (text : List ℕ)
-    → Nowhere (Passes (is_byte3 92 34 10) text) 0 (length text) → Nowhere (Passes (is_byte 13) text) 0 (length text)
-    → list_all is_plain text ≡ true
-plain_where_none [] h k = refl
-plain_where_none (b ∷ bs) h k =
-    let p : is_plain b ≡ true = plain_byte b (h 0 (omega arith) (omega arith)) (k 0 (omega arith) (omega arith)) in
-    let q = plain_where_none bs (λ i l u. h (suc i) (omega arith) (omega (arith, u))) (λ i l u. k (suc i) (omega arith) (omega (arith, u))) in
-    both_and (is_plain b) (list_all is_plain bs) p q
 
 letters_differ : (x y : ℕ) → is_plain x ≡ false → is_plain y ≡ false → letter_of x ≡ letter_of y → x ≡ y
 letters_differ x y hx hy e = grind arith

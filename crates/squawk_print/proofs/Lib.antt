@@ -2,3 +2,6 @@ pub mod Escaping
 pub mod Cuts
 pub mod Edits
 pub mod Reports
+pub mod Vectors
+pub mod Rooms
+pub mod Pieces

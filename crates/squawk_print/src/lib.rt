@@ -7,6 +7,9 @@
 mod escape;
 mod laws;
 mod report;
+mod room;
+mod write;
 
 pub use laws::printed_form_is_exact;
 pub use report::print_violations;
+pub use write::{WriteError, write_violations};

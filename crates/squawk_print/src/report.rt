@@ -1,8 +1,10 @@
 //! Reports and their list.
-ghost use Rattle.std.specs.Prelude.{◌≡◌, ◌++◌, IfOk, OnOk, codes, decimal, Some};
+ghost use Rattle.std.specs.Prelude.{◌≡◌, ◌≤◌, ◌++◌, vec_capacity, IfOk, OnOk, OnErr, decimal, Some};
 ghost use Rattle.std.specs.List.{flat_map};
 ghost use Rattle.lint_base.specs.Rules.{name_of};
 ghost use Rattle.squawk_print.specs.Printed as spec;
+ghost use Rattle.squawk_print.specs.Room.{LacksRoom};
+ghost use Rattle.squawk_print.specs.Written.{last_line};
 
 use crate::escape::push_escaped;
 use itoa::Buffer;
@@ -14,7 +16,9 @@ use text_pos::{NoMemory, TextRange};
 const ROOM: usize = 272;
 
 fn push_number(to: &mut Vec<u8>, number: usize) -> Result<(), NoMemory>
-    ensures { OnOk result (to.new.items ≡ to.old.items ++ decimal number) }
+    ensures grown { OnOk result (to.new.items ≡ to.old.items ++ decimal number) }
+    ensures capacity { vec_capacity to.old ≤ vec_capacity to.new }
+    ensures full { OnErr result (LacksRoom to.old (decimal number)) }
 {
     let mut buffer = Buffer::new();
     to.extend_from_slice(buffer.format(number).as_bytes())?;
@@ -22,7 +26,9 @@ fn push_number(to: &mut Vec<u8>, number: usize) -> Result<(), NoMemory>
 }
 
 fn push_range(to: &mut Vec<u8>, range: TextRange) -> Result<(), NoMemory>
-    ensures { OnOk result (to.new.items ≡ to.old.items ++ spec.printed_range range) }
+    ensures grown { OnOk result (to.new.items ≡ to.old.items ++ spec.printed_range range) }
+    ensures capacity { vec_capacity to.old ≤ vec_capacity to.new }
+    ensures full { OnErr result (LacksRoom to.old (spec.printed_range range)) }
 {
     push_number(to, range.start().raw() as usize)?;
     to.extend_from_slice(b"..")?;
@@ -30,7 +36,9 @@ fn push_range(to: &mut Vec<u8>, range: TextRange) -> Result<(), NoMemory>
 }
 
 fn push_line(to: &mut Vec<u8>, label: &[u8], text: &Text) -> Result<(), NoMemory>
-    ensures { OnOk result (to.new.items ≡ to.old.items ++ spec.labelled label.now (Some text.now)) }
+    ensures grown { OnOk result (to.new.items ≡ to.old.items ++ spec.labelled label.now (Some text.now)) }
+    ensures capacity { vec_capacity to.old ≤ vec_capacity to.new }
+    ensures full { OnErr result (LacksRoom to.old (spec.labelled label.now (Some text.now))) }
 {
     to.extend_from_slice(label)?;
     push_escaped(to, text.as_str().as_bytes())?;
@@ -39,7 +47,9 @@ fn push_line(to: &mut Vec<u8>, label: &[u8], text: &Text) -> Result<(), NoMemory
 }
 
 fn push_labelled(to: &mut Vec<u8>, label: &[u8], text: &Option<Text>) -> Result<(), NoMemory>
-    ensures { OnOk result (to.new.items ≡ to.old.items ++ spec.labelled label.now text.now) }
+    ensures grown { OnOk result (to.new.items ≡ to.old.items ++ spec.labelled label.now text.now) }
+    ensures capacity { vec_capacity to.old ≤ vec_capacity to.new }
+    ensures full { OnErr result (LacksRoom to.old (spec.labelled label.now text.now)) }
 {
     match text {
         None => Ok(()),
@@ -48,7 +58,9 @@ fn push_labelled(to: &mut Vec<u8>, label: &[u8], text: &Option<Text>) -> Result<
 }
 
 fn push_quoted(to: &mut Vec<u8>, text: &Text) -> Result<(), NoMemory>
-    ensures { OnOk result (to.new.items ≡ to.old.items ++ spec.quoted text.now) }
+    ensures grown { OnOk result (to.new.items ≡ to.old.items ++ spec.quoted text.now) }
+    ensures capacity { vec_capacity to.old ≤ vec_capacity to.new }
+    ensures full { OnErr result (LacksRoom to.old (spec.quoted text.now)) }
 {
     to.extend_from_slice(b" \"")?;
     push_escaped(to, text.as_str().as_bytes())?;
@@ -57,7 +69,9 @@ fn push_quoted(to: &mut Vec<u8>, text: &Text) -> Result<(), NoMemory>
 }
 
 fn push_insertion(to: &mut Vec<u8>, at: u32, text: &Text) -> Result<(), NoMemory>
-    ensures { OnOk result (to.new.items ≡ to.old.items ++ spec.insertion at text.now) }
+    ensures grown { OnOk result (to.new.items ≡ to.old.items ++ spec.insertion at text.now) }
+    ensures capacity { vec_capacity to.old ≤ vec_capacity to.new }
+    ensures full { OnErr result (LacksRoom to.old (spec.insertion at text.now)) }
 {
     to.extend_from_slice(b"    insert ")?;
     push_number(to, at as usize)?;
@@ -65,7 +79,9 @@ fn push_insertion(to: &mut Vec<u8>, at: u32, text: &Text) -> Result<(), NoMemory
 }
 
 fn push_replacement(to: &mut Vec<u8>, range: TextRange, text: &Text) -> Result<(), NoMemory>
-    ensures { OnOk result (to.new.items ≡ to.old.items ++ spec.replacement range text.now) }
+    ensures grown { OnOk result (to.new.items ≡ to.old.items ++ spec.replacement range text.now) }
+    ensures capacity { vec_capacity to.old ≤ vec_capacity to.new }
+    ensures full { OnErr result (LacksRoom to.old (spec.replacement range text.now)) }
 {
     to.extend_from_slice(b"    replace ")?;
     push_range(to, range)?;
@@ -73,7 +89,9 @@ fn push_replacement(to: &mut Vec<u8>, range: TextRange, text: &Text) -> Result<(
 }
 
 fn push_deletion(to: &mut Vec<u8>, range: TextRange) -> Result<(), NoMemory>
-    ensures { OnOk result (to.new.items ≡ to.old.items ++ spec.deletion range) }
+    ensures grown { OnOk result (to.new.items ≡ to.old.items ++ spec.deletion range) }
+    ensures capacity { vec_capacity to.old ≤ vec_capacity to.new }
+    ensures full { OnErr result (LacksRoom to.old (spec.deletion range)) }
 {
     to.extend_from_slice(b"    delete ")?;
     push_range(to, range)?;
@@ -82,7 +100,9 @@ fn push_deletion(to: &mut Vec<u8>, range: TextRange) -> Result<(), NoMemory>
 }
 
 fn push_edit(to: &mut Vec<u8>, edit: &Edit) -> Result<(), NoMemory>
-    ensures { OnOk result (to.new.items ≡ to.old.items ++ spec.printed_edit edit.now) }
+    ensures grown { OnOk result (to.new.items ≡ to.old.items ++ spec.printed_edit edit.now) }
+    ensures capacity { vec_capacity to.old ≤ vec_capacity to.new }
+    ensures full { OnErr result (LacksRoom to.old (spec.printed_edit edit.now)) }
 {
     let range = edit.text_range;
     match &edit.text {
@@ -98,7 +118,9 @@ fn push_edit(to: &mut Vec<u8>, edit: &Edit) -> Result<(), NoMemory>
 }
 
 fn push_edits(to: &mut Vec<u8>, edits: &[Edit]) -> Result<(), NoMemory>
-    ensures { OnOk result (to.new.items ≡ to.old.items ++ flat_map spec.printed_edit edits.now) }
+    ensures grown { OnOk result (to.new.items ≡ to.old.items ++ flat_map spec.printed_edit edits.now) }
+    ensures capacity { vec_capacity to.old ≤ vec_capacity to.new }
+    ensures full { OnErr result (LacksRoom to.old (flat_map spec.printed_edit edits.now)) }
 {
     for edit in edits {
         push_edit(to, edit)?;
@@ -107,7 +129,9 @@ fn push_edits(to: &mut Vec<u8>, edits: &[Edit]) -> Result<(), NoMemory>
 }
 
 fn push_fix(to: &mut Vec<u8>, fix: &Option<Fix>) -> Result<(), NoMemory>
-    ensures { OnOk result (to.new.items ≡ to.old.items ++ spec.printed_fix fix.now) }
+    ensures grown { OnOk result (to.new.items ≡ to.old.items ++ spec.printed_fix fix.now) }
+    ensures capacity { vec_capacity to.old ≤ vec_capacity to.new }
+    ensures full { OnErr result (LacksRoom to.old (spec.printed_fix fix.now)) }
 {
     match fix {
         None => Ok(()),
@@ -119,7 +143,9 @@ fn push_fix(to: &mut Vec<u8>, fix: &Option<Fix>) -> Result<(), NoMemory>
 }
 
 fn push_head(to: &mut Vec<u8>, violation: &Violation) -> Result<(), NoMemory>
-    ensures { OnOk result (to.new.items ≡ to.old.items ++ spec.printed_head violation.now) }
+    ensures grown { OnOk result (to.new.items ≡ to.old.items ++ spec.printed_head violation.now) }
+    ensures capacity { vec_capacity to.old ≤ vec_capacity to.new }
+    ensures full { OnErr result (LacksRoom to.old (spec.printed_head violation.now)) }
 {
     push_range(to, violation.text_range)?;
     to.extend_from_slice(b": warning[")?;
@@ -131,8 +157,10 @@ fn push_head(to: &mut Vec<u8>, violation: &Violation) -> Result<(), NoMemory>
 }
 
 #[tactic(auto, unfolding(crate::specs::Printed::printed_violation))]
-fn push_violation(to: &mut Vec<u8>, violation: &Violation) -> Result<(), NoMemory>
-    ensures { OnOk result (to.new.items ≡ to.old.items ++ spec.printed_violation violation.now) }
+pub(crate) fn push_violation(to: &mut Vec<u8>, violation: &Violation) -> Result<(), NoMemory>
+    ensures grown { OnOk result (to.new.items ≡ to.old.items ++ spec.printed_violation violation.now) }
+    ensures capacity { vec_capacity to.old ≤ vec_capacity to.new }
+    ensures full { OnErr result (LacksRoom to.old (spec.printed_violation violation.now)) }
 {
     push_head(to, violation)?;
     push_labelled(to, b"  note: ", &violation.note)?;
@@ -142,7 +170,9 @@ fn push_violation(to: &mut Vec<u8>, violation: &Violation) -> Result<(), NoMemor
 }
 
 fn push_each(to: &mut Vec<u8>, violations: &[Violation]) -> Result<(), NoMemory>
-    ensures { OnOk result (to.new.items ≡ to.old.items ++ spec.printed_each violations.now) }
+    ensures grown { OnOk result (to.new.items ≡ to.old.items ++ spec.printed_each violations.now) }
+    ensures capacity { vec_capacity to.old ≤ vec_capacity to.new }
+    ensures full { OnErr result (LacksRoom to.old (spec.printed_each violations.now)) }
 {
     for violation in violations {
         push_violation(to, violation)?;
@@ -150,8 +180,11 @@ fn push_each(to: &mut Vec<u8>, violations: &[Violation]) -> Result<(), NoMemory>
     Ok(())
 }
 
-fn push_count(to: &mut Vec<u8>, count: usize) -> Result<(), NoMemory>
-    ensures { OnOk result (to.new.items ≡ to.old.items ++ codes "violations: " ++ decimal count ++ codes "\n") }
+#[tactic(auto, unfolding(crate::specs::Written::last_line))]
+pub(crate) fn push_count(to: &mut Vec<u8>, count: usize) -> Result<(), NoMemory>
+    ensures grown { OnOk result (to.new.items ≡ to.old.items ++ last_line count) }
+    ensures capacity { vec_capacity to.old ≤ vec_capacity to.new }
+    ensures full { OnErr result (LacksRoom to.old (last_line count)) }
 {
     to.extend_from_slice(b"violations: ")?;
     push_number(to, count)?;
@@ -162,7 +195,6 @@ fn push_count(to: &mut Vec<u8>, count: usize) -> Result<(), NoMemory>
 /// Prints reports, one after the other, and then their count. The bytes are UTF-8. The error is want of memory.
 ///
 /// Places are bytes of the text, counted from 0.
-#[tactic(auto, unfolding(crate::specs::Printed::printed))]
 pub fn print_violations(alloc: Global, v: &[Violation]) -> Result<Vec<u8>, NoMemory>
     ensures { IfOk result (λ bytes. bytes.items ≡ spec.printed v.now) }
 {
