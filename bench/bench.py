@@ -7,8 +7,8 @@ PROGRAM is crates/squawk_main/out/squawk_main unless it is given (./squawk build
 the size in bytes, the user and system time in milliseconds, MB (10^6 bytes) a second of processor time, and the peak
 memory in bytes per byte of text (of a short text mostly this script's own, some 10 MB). A text that is refused counts as
 well: what is refused is read to its end. Each run is made three times, and the fastest is printed. Time is to grow in
-proportion to the text on every shape. The program gets its memory in large pages, as ./squawk runs it, or as the system
-gives it by itself (--small-pages).
+proportion to the text on every shape. The program gets its memory as ./squawk asks for it, in large pages, or as the C library
+and the system give it by themselves (--small-pages).
 """
 import argparse
 import os
@@ -101,7 +101,7 @@ def main():
         sys.exit(f"{given.program} isn't built: run ./squawk once")
     environment = dict(os.environ)
     if not given.small_pages:
-        tunables = [environment.get("GLIBC_TUNABLES"), "glibc.malloc.hugetlb=1"]
+        tunables = [environment.get("GLIBC_TUNABLES"), "glibc.malloc.hugetlb=1", "glibc.malloc.mxfast=0"]
         environment["GLIBC_TUNABLES"] = ":".join(filter(None, tunables))
     print(f"{'shape':14} {'bytes':>9} status {'user ms':>8} {'sys ms':>7} {'MB/s':>6} {'memory':>6}")
     for shape in given.shapes.split(","):
