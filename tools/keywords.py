@@ -5,7 +5,7 @@ Run it at the top of the repository after an edit of WORDS, VERBS or OBJECTS, an
 
     python3 tools/keywords.py && (cd crates/sql_keyword && rt fmt && rt check)
 
-It writes src/words.rt, src/slots.rt, specs/Texts.antt, proofs/Found.antt and
+It writes src/words.rt, src/slots.rt, specs/Texts.antt, proofs/Found.antt, proofs/Listed.antt and
 must-fail/number_off_by_one.edit of crates/sql_keyword, and nothing else. The same words give the
 same files. With --check it writes nothing, and ends with 1 where a file says something else than
 the words do; how a file is laid out doesn't matter.
@@ -224,9 +224,9 @@ pub const SLOT_COUNT: usize = {SLOTS};
 pub const TEXTS: &[u8] =
     b"{text}";
 
-/// Where the text of the one keyword that may stand in each slot begins.
+/// Where the text of the one keyword that may be in each slot begins.
 {array("STARTS", "u16", column(lambda word: starts[word], 0))}
-/// How many letters it has, or 0 where no keyword may stand.
+/// How many letters it has, or 0 where no keyword may be.
 {array("LENGTHS", "u8", column(len, 0))}
 /// The keyword.
 {array("KEYWORDS", "Option<Keyword>", column(lambda word: f"Some(Keyword::{word})", "None"))}"""
@@ -234,8 +234,9 @@ pub const TEXTS: &[u8] =
 
 def texts_antt():
     lines = "".join(f'text {cited(word)} = codes "{word}"\n' for word in WORDS)
-    return f"""-- The texts of the keywords.
-{MADE_ANTT}use Rattle.std.specs.Prelude.{{ℕ, List, codes}}
+    listed = "".join(f"    {cited(word)} ∷\n" for word in WORDS)
+    return f"""-- The keywords and their texts.
+{MADE_ANTT}use Rattle.std.specs.Prelude.{{ℕ, List, [], ◌∷◌, codes}}
 use Rattle.sql_keyword.specs.declared.words.Keyword.{{Keyword}}
 use Rattle.sql_keyword.specs.declared.words.Keyword.TheVariants as k
 use Rattle.sql_keyword.specs.declared.words.Verb.TheVariants as verbs
@@ -243,6 +244,28 @@ use Rattle.sql_keyword.specs.declared.words.Object.TheVariants as objects
 use Rattle.sql_keyword.specs.declared.words.Other.TheVariants as others
 
 unfoldable pub text : Keyword → List ℕ
+{lines}
+-- all keywords
+unfoldable pub all_keywords : List Keyword
+all_keywords =
+{listed}    []
+"""
+
+
+def listed_antt():
+    lines = "".join(f"listed {cited(word)} = ({i}, (lit< tt, refl))\n" for i, word in enumerate(WORDS))
+    return f"""-- Each keyword is one of all.
+{MADE_ANTT}use Rattle.std.proofs.Common.{{refl, lit<}}
+use Rattle.std.specs.List.{{IsAmong}}
+use Rattle.sql_keyword.specs.declared.words.Keyword.{{Keyword}}
+use Rattle.sql_keyword.specs.declared.words.Keyword.TheVariants as k
+use Rattle.sql_keyword.specs.declared.words.Verb.TheVariants as verbs
+use Rattle.sql_keyword.specs.declared.words.Object.TheVariants as objects
+use Rattle.sql_keyword.specs.declared.words.Other.TheVariants as others
+use Rattle.sql_keyword.specs.Texts.{{all_keywords}}
+
+pub listed : (k : Keyword) → IsAmong all_keywords k
+unfolding all_keywords
 {lines}"""
 
 
@@ -256,10 +279,10 @@ use Rattle.sql_keyword.specs.declared.words.Verb.TheVariants as verbs
 use Rattle.sql_keyword.specs.declared.words.Object.TheVariants as objects
 use Rattle.sql_keyword.specs.declared.words.Other.TheVariants as others
 use Rattle.sql_keyword.specs.Texts.{{text}}
-use Rattle.sql_keyword.specs.Slots.{{slot, start_of, length_of, keyword_in, text_at, keyword_of}}
+use Rattle.sql_keyword.specs.Slots.{{slot, start_of, length_of, keyword_in, text_at, look_up}}
 
-pub found : (k : Keyword) → keyword_of (text k) ≡ Some k
-unfolding text slot start_of length_of keyword_in text_at keyword_of
+pub found : (k : Keyword) → look_up (text k) ≡ Some k
+unfolding text slot start_of length_of keyword_in text_at look_up
 {lines}"""
 
 
@@ -284,6 +307,7 @@ def main():
         "src/slots.rt": slots,
         "specs/Texts.antt": texts_antt(),
         "proofs/Found.antt": found_antt(),
+        "proofs/Listed.antt": listed_antt(),
         "must-fail/number_off_by_one.edit": off_by_one_edit(slots),
     }
     if sys.argv[1:] == ["--check"]:

@@ -1,4 +1,6 @@
 pub mod Among
+pub mod RuleChoice
+pub mod RuleFacts
 pub mod RuleNames
-pub mod RuleNumbers
 pub mod RuleSets
+pub mod RuleSlots

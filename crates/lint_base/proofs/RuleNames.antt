@@ -19,7 +19,7 @@ found_by_each rule.PreferTimestampTz = (refl, (refl, tt))
 found_by_each r = (refl, tt)
 
 -- what is found passes the test
-find-passes : {X : Type 0} (p : X → Bool) (xs : List X) (x : X) → find p xs ≡ Some x → p x ≡ true
+pub find-passes : {X : Type 0} (p : X → Bool) (xs : List X) (x : X) → find p xs ≡ Some x → p x ≡ true
 find-passes p [] x h = cc
 find-passes p (y ∷ ys) x h =
     elim (cases_Bool (p y)) [

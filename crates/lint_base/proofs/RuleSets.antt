@@ -1,5 +1,9 @@
 -- What is in a set of rules after a change.
-use Rattle.std.proofs.Common.{◌≡◌, ◌≢◌, ◌==◌, ◌||◌, max, ℕ, ◌^◌, ◌*◌, ◌%◌, ◌<◌, true, false, List, Some, None, slice_get, refl, ap, bit_and, bit_or, arith, lit<, not, filter, take, get_or, length, [], ◌∷◌, ◌+◌, ◌-◌, zero, suc, drop}
+use Rattle.std.proofs.Common.{◌∙◌, sym, Bool, ◌≤◌, ◌≡◌, ◌≢◌, ◌==◌, ◌&&◌, ◌||◌, max, min, ℕ, ◌^◌, ◌*◌, ◌%◌, ◌<◌, true, false, List, Some, None, slice_get, refl, ap, bit_and, bit_or, arith, lit<, not, filter, inl, inr, take, get_or, length, [], ◌∷◌, ◌+◌, ◌-◌, zero, suc, drop}
+use Rattle.std.specs.List.{list_any}
+use Rattle.std.proofs.lemmas.Bool.{agree_below_at, cases_Bool, cases_eq, cases_lt, eqb-true}
+use Rattle.std.proofs.lemmas.Bool.Decides.{nat_tests}
+use Rattle.std.proofs.lemmas.List.Folds.{list_any_at}
 use Rattle.std.proofs.lemmas.Option.{slice_get_within}
 use Rattle.std.proofs.lemmas.List.{append-nil}
 use Rattle.std.proofs.Math.Nat.{mod-eq_of_lt}
@@ -7,178 +11,26 @@ use Rattle.std.proofs.Math.Pow.{pow-lt}
 use Rattle.std.proofs.lemmas.List.Elements.{filter_more}
 use Rattle.std.proofs.lemmas.Grind.{common_steps, fold-append}
 use Rattle.std.specs.Int.{bit_at, bit_not, w128}
-use Rattle.std.proofs.lemmas.Nat.Bits.{bit_at_set_same, bit_at_set_other, bit_at_clear_same, bit_at_clear_other, bit_at-zero, bit_at-lt, bit_at_or}
+use Rattle.std.proofs.lemmas.Nat.Bits.{bit_at_set_same, bit_at_set_other, bit_at_clear_same, bit_at_clear_other, bit_at-zero, bit_at-lt, bit_at_or, bit_at_and, bit_at_ones, bit_at_ones_above, same_from_bits}
 use Rattle.lint_base.specs.declared.rule.Rule.{Rule}
 use Rattle.lint_base.specs.declared.rule.Rule.TheVariants as rule
 use Rattle.lint_base.specs.Rules.{all_rules, facts_of, is_opt_in, number_of}
 use Rattle.lint_base.specs.RuleSets.{Rules, has, no_rules, both_rules, with_rule, without_rule, default_rules, rules_in, rules_from}
 
 -- the rule at a rule's number
-rule_at-number_of : (r : Rule) → slice_get all_rules (number_of r) ≡ Some r
+pub rule_at-number_of : (r : Rule) → slice_get all_rules (number_of r) ≡ Some r
 unfolding all_rules number_of
-rule_at-number_of rule.RequireConcurrentIndexCreation = refl
-rule_at-number_of rule.RequireConcurrentIndexDeletion = refl
-rule_at-number_of rule.ConstraintMissingNotValid = refl
-rule_at-number_of rule.AddingFieldWithDefault = refl
-rule_at-number_of rule.AddingForeignKeyConstraint = refl
-rule_at-number_of rule.ChangingColumnType = refl
-rule_at-number_of rule.AddingNotNullableField = refl
-rule_at-number_of rule.AddingSerialPrimaryKeyField = refl
-rule_at-number_of rule.RenamingColumn = refl
-rule_at-number_of rule.RenamingTable = refl
-rule_at-number_of rule.DisallowedUniqueConstraint = refl
-rule_at-number_of rule.BanDropDatabase = refl
-rule_at-number_of rule.PreferBigintOverInt = refl
-rule_at-number_of rule.PreferBigintOverSmallint = refl
-rule_at-number_of rule.PreferIdentity = refl
-rule_at-number_of rule.PreferRepack = refl
-rule_at-number_of rule.PreferRobustStmts = refl
-rule_at-number_of rule.PreferTextField = refl
-rule_at-number_of rule.PreferTimestampTz = refl
-rule_at-number_of rule.BanCharField = refl
-rule_at-number_of rule.BanDropColumn = refl
-rule_at-number_of rule.BanDropTable = refl
-rule_at-number_of rule.BanDropNotNull = refl
-rule_at-number_of rule.TransactionNesting = refl
-rule_at-number_of rule.AddingRequiredField = refl
-rule_at-number_of rule.BanConcurrentIndexCreationInTransaction = refl
-rule_at-number_of rule.UnusedIgnore = refl
-rule_at-number_of rule.BanCreateDomainWithConstraint = refl
-rule_at-number_of rule.BanAlterDomainWithAddConstraint = refl
-rule_at-number_of rule.BanTruncateCascade = refl
 rule_at-number_of rule.RequireTimeoutSettings = refl
-rule_at-number_of rule.BanUncommittedTransaction = refl
-rule_at-number_of rule.RequireEnumValueOrdering = refl
-rule_at-number_of rule.RequireTableSchema = refl
-rule_at-number_of rule.IdentifierTooLong = refl
-rule_at-number_of rule.RequireConcurrentPartitionDetach = refl
-rule_at-number_of rule.RequireConcurrentReindex = refl
-rule_at-number_of rule.RequireLockTimeout = refl
-rule_at-number_of rule.RequireStatementTimeout = refl
-rule_at-number_of rule.BanDuplicateColumnAssignments = refl
-rule_at-number_of rule.BanDropView = refl
-rule_at-number_of rule.BanDropFunction = refl
-rule_at-number_of rule.BanDropType = refl
-rule_at-number_of rule.BanDropDefault = refl
-rule_at-number_of rule.BanDropTrigger = refl
-rule_at-number_of rule.BanDropSchema = refl
-rule_at-number_of rule.BanDropSequence = refl
-rule_at-number_of rule.BanDropDomain = refl
-rule_at-number_of rule.BanDropConstraint = refl
-rule_at-number_of rule.BanDropGeneratedExpression = refl
-rule_at-number_of rule.RenamingObject = refl
-rule_at-number_of rule.BanSetSchema = refl
-rule_at-number_of rule.BanAlterIdentity = refl
-rule_at-number_of rule.BanDropExtension = refl
-rule_at-number_of rule.BanAlterGeneratedExpression = refl
-rule_at-number_of rule.BanDropIndex = refl
-rule_at-number_of rule.BanSetDefault = refl
-rule_at-number_of rule.BanDisableTrigger = refl
-rule_at-number_of rule.BanReplicaIdentity = refl
-rule_at-number_of rule.BanDropPolicy = refl
-rule_at-number_of rule.BanRevoke = refl
-rule_at-number_of rule.BanReplaceViewFunction = refl
-rule_at-number_of rule.BanAlterPolicyCondition = refl
-rule_at-number_of rule.BanAlterPolicyRoles = refl
-rule_at-number_of rule.BanCreatePolicy = refl
-rule_at-number_of rule.BanAlterFunctionOptions = refl
-rule_at-number_of rule.BanAlterViewOptions = refl
-rule_at-number_of rule.BanAlterRoleOptions = refl
-rule_at-number_of rule.BanAlterDatabaseOptions = refl
-rule_at-number_of rule.BanAlterRowLevelSecurity = refl
-rule_at-number_of rule.BanNewWriteRestriction = refl
-rule_at-number_of rule.BanAddEnumValue = refl
-rule_at-number_of rule.BanAddCompositeAttribute = refl
-rule_at-number_of rule.BanAddColumn = refl
-rule_at-number_of rule.BanDetachInheritance = refl
-rule_at-number_of rule.BanAlterSequenceValues = refl
-rule_at-number_of rule.BanAlterSystemOptions = refl
-rule_at-number_of rule.BanAlterExtension = refl
+rule_at-number_of r = refl
 
 -- a rule's number is below 78
-number_of-lt : (r : Rule) → number_of r < 78
+pub number_of-lt : (r : Rule) → number_of r < 78
 unfolding number_of
-number_of-lt rule.RequireConcurrentIndexCreation = lit< tt
-number_of-lt rule.RequireConcurrentIndexDeletion = lit< tt
-number_of-lt rule.ConstraintMissingNotValid = lit< tt
-number_of-lt rule.AddingFieldWithDefault = lit< tt
-number_of-lt rule.AddingForeignKeyConstraint = lit< tt
-number_of-lt rule.ChangingColumnType = lit< tt
-number_of-lt rule.AddingNotNullableField = lit< tt
-number_of-lt rule.AddingSerialPrimaryKeyField = lit< tt
-number_of-lt rule.RenamingColumn = lit< tt
-number_of-lt rule.RenamingTable = lit< tt
-number_of-lt rule.DisallowedUniqueConstraint = lit< tt
-number_of-lt rule.BanDropDatabase = lit< tt
-number_of-lt rule.PreferBigintOverInt = lit< tt
-number_of-lt rule.PreferBigintOverSmallint = lit< tt
-number_of-lt rule.PreferIdentity = lit< tt
-number_of-lt rule.PreferRepack = lit< tt
-number_of-lt rule.PreferRobustStmts = lit< tt
-number_of-lt rule.PreferTextField = lit< tt
-number_of-lt rule.PreferTimestampTz = lit< tt
-number_of-lt rule.BanCharField = lit< tt
-number_of-lt rule.BanDropColumn = lit< tt
-number_of-lt rule.BanDropTable = lit< tt
-number_of-lt rule.BanDropNotNull = lit< tt
-number_of-lt rule.TransactionNesting = lit< tt
-number_of-lt rule.AddingRequiredField = lit< tt
-number_of-lt rule.BanConcurrentIndexCreationInTransaction = lit< tt
-number_of-lt rule.UnusedIgnore = lit< tt
-number_of-lt rule.BanCreateDomainWithConstraint = lit< tt
-number_of-lt rule.BanAlterDomainWithAddConstraint = lit< tt
-number_of-lt rule.BanTruncateCascade = lit< tt
 number_of-lt rule.RequireTimeoutSettings = lit< tt
-number_of-lt rule.BanUncommittedTransaction = lit< tt
-number_of-lt rule.RequireEnumValueOrdering = lit< tt
-number_of-lt rule.RequireTableSchema = lit< tt
-number_of-lt rule.IdentifierTooLong = lit< tt
-number_of-lt rule.RequireConcurrentPartitionDetach = lit< tt
-number_of-lt rule.RequireConcurrentReindex = lit< tt
-number_of-lt rule.RequireLockTimeout = lit< tt
-number_of-lt rule.RequireStatementTimeout = lit< tt
-number_of-lt rule.BanDuplicateColumnAssignments = lit< tt
-number_of-lt rule.BanDropView = lit< tt
-number_of-lt rule.BanDropFunction = lit< tt
-number_of-lt rule.BanDropType = lit< tt
-number_of-lt rule.BanDropDefault = lit< tt
-number_of-lt rule.BanDropTrigger = lit< tt
-number_of-lt rule.BanDropSchema = lit< tt
-number_of-lt rule.BanDropSequence = lit< tt
-number_of-lt rule.BanDropDomain = lit< tt
-number_of-lt rule.BanDropConstraint = lit< tt
-number_of-lt rule.BanDropGeneratedExpression = lit< tt
-number_of-lt rule.RenamingObject = lit< tt
-number_of-lt rule.BanSetSchema = lit< tt
-number_of-lt rule.BanAlterIdentity = lit< tt
-number_of-lt rule.BanDropExtension = lit< tt
-number_of-lt rule.BanAlterGeneratedExpression = lit< tt
-number_of-lt rule.BanDropIndex = lit< tt
-number_of-lt rule.BanSetDefault = lit< tt
-number_of-lt rule.BanDisableTrigger = lit< tt
-number_of-lt rule.BanReplicaIdentity = lit< tt
-number_of-lt rule.BanDropPolicy = lit< tt
-number_of-lt rule.BanRevoke = lit< tt
-number_of-lt rule.BanReplaceViewFunction = lit< tt
-number_of-lt rule.BanAlterPolicyCondition = lit< tt
-number_of-lt rule.BanAlterPolicyRoles = lit< tt
-number_of-lt rule.BanCreatePolicy = lit< tt
-number_of-lt rule.BanAlterFunctionOptions = lit< tt
-number_of-lt rule.BanAlterViewOptions = lit< tt
-number_of-lt rule.BanAlterRoleOptions = lit< tt
-number_of-lt rule.BanAlterDatabaseOptions = lit< tt
-number_of-lt rule.BanAlterRowLevelSecurity = lit< tt
-number_of-lt rule.BanNewWriteRestriction = lit< tt
-number_of-lt rule.BanAddEnumValue = lit< tt
-number_of-lt rule.BanAddCompositeAttribute = lit< tt
-number_of-lt rule.BanAddColumn = lit< tt
-number_of-lt rule.BanDetachInheritance = lit< tt
-number_of-lt rule.BanAlterSequenceValues = lit< tt
-number_of-lt rule.BanAlterSystemOptions = lit< tt
-number_of-lt rule.BanAlterExtension = lit< tt
+number_of-lt r = lit< tt
 
 -- rules with one number are one rule
-rule_from_number : (q r : Rule) → number_of q ≡ number_of r → q ≡ r
+pub rule_from_number : (q r : Rule) → number_of q ≡ number_of r → q ≡ r
 rule_from_number q r e =
     let at_q : slice_get all_rules (number_of q) ≡ Some q = rule_at-number_of q in
     let at_r : slice_get all_rules (number_of r) ≡ Some r = rule_at-number_of r in
@@ -237,84 +89,8 @@ has-without_rule_other set q r d =
 -- the default set has the rules that are not opt-in
 pub has_default_rules : (q : Rule) → has default_rules q ≡ not (is_opt_in q)
 unfolding has with_rule number_of all_rules facts_of
-has_default_rules rule.RequireConcurrentIndexCreation = refl
-has_default_rules rule.RequireConcurrentIndexDeletion = refl
-has_default_rules rule.ConstraintMissingNotValid = refl
-has_default_rules rule.AddingFieldWithDefault = refl
-has_default_rules rule.AddingForeignKeyConstraint = refl
-has_default_rules rule.ChangingColumnType = refl
-has_default_rules rule.AddingNotNullableField = refl
-has_default_rules rule.AddingSerialPrimaryKeyField = refl
-has_default_rules rule.RenamingColumn = refl
-has_default_rules rule.RenamingTable = refl
-has_default_rules rule.DisallowedUniqueConstraint = refl
-has_default_rules rule.BanDropDatabase = refl
-has_default_rules rule.PreferBigintOverInt = refl
-has_default_rules rule.PreferBigintOverSmallint = refl
-has_default_rules rule.PreferIdentity = refl
-has_default_rules rule.PreferRepack = refl
-has_default_rules rule.PreferRobustStmts = refl
-has_default_rules rule.PreferTextField = refl
-has_default_rules rule.PreferTimestampTz = refl
-has_default_rules rule.BanCharField = refl
-has_default_rules rule.BanDropColumn = refl
-has_default_rules rule.BanDropTable = refl
-has_default_rules rule.BanDropNotNull = refl
-has_default_rules rule.TransactionNesting = refl
-has_default_rules rule.AddingRequiredField = refl
-has_default_rules rule.BanConcurrentIndexCreationInTransaction = refl
-has_default_rules rule.UnusedIgnore = refl
-has_default_rules rule.BanCreateDomainWithConstraint = refl
-has_default_rules rule.BanAlterDomainWithAddConstraint = refl
-has_default_rules rule.BanTruncateCascade = refl
 has_default_rules rule.RequireTimeoutSettings = refl
-has_default_rules rule.BanUncommittedTransaction = refl
-has_default_rules rule.RequireEnumValueOrdering = refl
-has_default_rules rule.RequireTableSchema = refl
-has_default_rules rule.IdentifierTooLong = refl
-has_default_rules rule.RequireConcurrentPartitionDetach = refl
-has_default_rules rule.RequireConcurrentReindex = refl
-has_default_rules rule.RequireLockTimeout = refl
-has_default_rules rule.RequireStatementTimeout = refl
-has_default_rules rule.BanDuplicateColumnAssignments = refl
-has_default_rules rule.BanDropView = refl
-has_default_rules rule.BanDropFunction = refl
-has_default_rules rule.BanDropType = refl
-has_default_rules rule.BanDropDefault = refl
-has_default_rules rule.BanDropTrigger = refl
-has_default_rules rule.BanDropSchema = refl
-has_default_rules rule.BanDropSequence = refl
-has_default_rules rule.BanDropDomain = refl
-has_default_rules rule.BanDropConstraint = refl
-has_default_rules rule.BanDropGeneratedExpression = refl
-has_default_rules rule.RenamingObject = refl
-has_default_rules rule.BanSetSchema = refl
-has_default_rules rule.BanAlterIdentity = refl
-has_default_rules rule.BanDropExtension = refl
-has_default_rules rule.BanAlterGeneratedExpression = refl
-has_default_rules rule.BanDropIndex = refl
-has_default_rules rule.BanSetDefault = refl
-has_default_rules rule.BanDisableTrigger = refl
-has_default_rules rule.BanReplicaIdentity = refl
-has_default_rules rule.BanDropPolicy = refl
-has_default_rules rule.BanRevoke = refl
-has_default_rules rule.BanReplaceViewFunction = refl
-has_default_rules rule.BanAlterPolicyCondition = refl
-has_default_rules rule.BanAlterPolicyRoles = refl
-has_default_rules rule.BanCreatePolicy = refl
-has_default_rules rule.BanAlterFunctionOptions = refl
-has_default_rules rule.BanAlterViewOptions = refl
-has_default_rules rule.BanAlterRoleOptions = refl
-has_default_rules rule.BanAlterDatabaseOptions = refl
-has_default_rules rule.BanAlterRowLevelSecurity = refl
-has_default_rules rule.BanNewWriteRestriction = refl
-has_default_rules rule.BanAddEnumValue = refl
-has_default_rules rule.BanAddCompositeAttribute = refl
-has_default_rules rule.BanAddColumn = refl
-has_default_rules rule.BanDetachInheritance = refl
-has_default_rules rule.BanAlterSequenceValues = refl
-has_default_rules rule.BanAlterSystemOptions = refl
-has_default_rules rule.BanAlterExtension = refl
+has_default_rules r = refl
 
 -- one more rule of a list, which is not opt-in
 pub rules_in-more : (rules : List Rule) (i : ℕ) (d : Rule) → i < length rules → is_opt_in (get_or rules i d) ≡ false → rules_in (filter (λ r. not (is_opt_in r)) (take (i + 1) rules)) ≡ with_rule (rules_in (filter (λ r. not (is_opt_in r)) (take i rules))) (get_or rules i d)
@@ -346,7 +122,7 @@ rules_from-in set n r h e = rw (drop-at all_rules n r h, e) refl
 pub rules_from-out : (set : Rules) (n : ℕ) (r : Rule) → slice_get all_rules n ≡ Some r → has set r ≡ false → rules_from set n ≡ rules_from set (n + 1)
 rules_from-out set n r h e = rw (drop-at all_rules n r h, e) refl
 
--- behind the last rule none is left
+-- after the last rule none is left
 pub rules_from-end : (set : Rules) (n : ℕ) → slice_get all_rules n ≡ None → rules_from set n ≡ []
 rules_from-end set n h = rw (drop-past all_rules n h) refl
 
@@ -377,3 +153,83 @@ has-both_rules a b q =
 pub both_rules-bits : (a b : Rules) → record { bits = bit_or a.bits b.bits } ≡ both_rules a b
 unfolding both_rules
 both_rules-bits a b = refl
+
+-- ---- rules in both sets
+
+-- the number of the rule at a place is the place
+pub number_of-at : (i : ℕ) (d : Rule) → i < 78 → number_of (get_or all_rules i d) ≡ i
+unfolding all_rules number_of
+number_of-at i d l = eqb-true _ _ (agree_below_at (λ k. number_of (get_or all_rules k d) == k) (λ k. true) 78 i refl l)
+
+-- the lesser of two bits
+min_is_one : (x y : ℕ) → x < 2 → y < 2 → (min (min x y) 1 == 1) ≡ (x == 1 && y == 1)
+min_is_one zero zero l m = refl
+min_is_one zero (suc zero) l m = refl
+min_is_one (suc zero) zero l m = refl
+min_is_one (suc zero) (suc zero) l m = refl
+min_is_one (suc (suc x)) y l m = absurd (omega arith)
+min_is_one x (suc (suc y)) l m = absurd (omega arith)
+
+-- the bits that two sets have in common, of rules alone
+abbrev common_bits : Rules → Rules → ℕ
+common_bits a b = bit_and (bit_and a.bits b.bits) (2 ^ 78 - 1)
+
+common_bits-at : (a b : Rules) (i : ℕ) → i < 78 → (bit_at (common_bits a b) i == 1) ≡ (bit_at a.bits i == 1 && bit_at b.bits i == 1)
+common_bits-at a b i l =
+    rw (bit_at_and (bit_and a.bits b.bits) (2 ^ 78 - 1) i, bit_at_and a.bits b.bits i, bit_at_ones 78 i l) (min_is_one _ _ (bit_at-lt a.bits i) (bit_at-lt b.bits i))
+
+common_bits-above : (a b : Rules) (i : ℕ) → 78 ≤ i → bit_at (common_bits a b) i ≡ 0
+common_bits-above a b i l =
+    rw (bit_at_and (bit_and a.bits b.bits) (2 ^ 78 - 1) i, bit_at_ones_above 78 i l) (omega arith)
+
+no_bit : (x : ℕ) → x < 2 → (x == 1) ≡ false → x ≡ 0
+no_bit zero l h = refl
+no_bit (suc zero) l h = absurd (cc)
+no_bit (suc (suc x)) l h = absurd (omega arith)
+
+none_of : (p : Rule → Bool) (rules : List Rule) → ((r : Rule) → p r ≡ false) → list_any p rules ≡ false
+none_of p [] h = refl
+none_of p (r ∷ rules) h = rw (h r) (none_of p rules h)
+
+-- no rule is in both sets where they have no bit in common
+common_bits-none : (a b : Rules) → common_bits a b ≡ 0 → list_any (λ r. has a r && has b r) all_rules ≡ false
+unfolding has
+common_bits-none a b e =
+    none_of (λ r. has a r && has b r) all_rules (λ r. sym (common_bits-at a b (number_of r) (number_of-lt r)) ∙ (rw (e, bit_at-zero (number_of r)) refl))
+
+-- they have none in common where no rule is in both
+common_bits-zero : (a b : Rules) → list_any (λ r. has a r && has b r) all_rules ≡ false → common_bits a b ≡ 0
+unfolding has all_rules
+common_bits-zero a b none = same_from_bits (common_bits a b) 0 (λ i. each i)
+  where
+    at_rule : (i : ℕ) (d : Rule) → i < 78 → (bit_at (common_bits a b) i == 1) ≡ true → ⊥
+    at_rule i d l h =
+        let n : number_of (get_or all_rules i d) ≡ i = number_of-at i d l in
+        let both : (has a (get_or all_rules i d) && has b (get_or all_rules i d)) ≡ true = rw n (sym (common_bits-at a b i l) ∙ h) in
+        let some : list_any (λ r. has a r && has b r) all_rules ≡ true = list_any_at (λ r. has a r && has b r) all_rules i d l both in
+        absurd (cc)
+
+    each : (i : ℕ) → bit_at (common_bits a b) i ≡ bit_at 0 i
+    each i =
+        rw (bit_at-zero i) (elim (cases_lt i 78) [
+          | inl l ↦ elim (cases_Bool (bit_at (common_bits a b) i == 1)) [
+            | inl holds ↦ absurd (at_rule i rule.UnusedIgnore l holds)
+            | inr fails ↦ no_bit _ (bit_at-lt (common_bits a b) i) fails
+          ]
+          | inr l ↦ common_bits-above a b i l
+        ])
+
+-- what the code computes to tell whether some rule is in both
+pub intersects-bits : (a b : Rules) → not (bit_and (bit_and a.bits b.bits) (2 ^ 78 - 1) == 0) ≡ list_any (λ r. has a r && has b r) all_rules
+intersects-bits a b =
+    elim (cases_Bool (list_any (λ r. has a r && has b r) all_rules)) [
+      | inl holds ↦ rw holds (some holds)
+      | inr fails ↦ rw (fails, common_bits-zero a b fails) refl
+    ]
+  where
+    some : list_any (λ r. has a r && has b r) all_rules ≡ true → not (common_bits a b == 0) ≡ true
+    some holds =
+        elim (cases_eq (common_bits a b) 0) [
+          | inl e ↦ let no : list_any (λ r. has a r && has b r) all_rules ≡ false = common_bits-none a b e in absurd (cc)
+          | inr e ↦ grind (arith, nat_tests)
+        ]

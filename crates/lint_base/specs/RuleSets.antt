@@ -4,7 +4,7 @@ use Rattle.std.specs.Int.{bit_at, bit_not, w128}
 use Rattle.lint_base.specs.declared.rule.Rule.{Rule}
 use Rattle.lint_base.specs.Rules.{all_rules, is_opt_in, number_of}
 
--- a set of rules: the bit at a rule's number tells whether the rule is in it
+-- a set of rules: the bit at a rule's number says whether the rule is in it
 pub record Rules : Type 0 where
   pub bits : ℕ
 

@@ -1,7 +1,10 @@
 -- The rules: their order, and what is known of each.
 use Rattle.std.specs.Prelude.{ℕ, Bool, true, false, List, [], ◌∷◌, codes}
+use denote.Enum.Declared.{tag_of}
+use Rattle.lint_base.specs.contracts.rule.Rule.{the_type}
 use Rattle.lint_base.specs.declared.rule.Rule.{Rule}
 use Rattle.lint_base.specs.declared.rule.Rule.TheVariants as rule
+use Rattle.lint_base.specs.declared.rule.TheConstants.Rule.{ALL}
 
 -- what is known of a rule
 pub record Facts : Type 0 where
@@ -9,7 +12,7 @@ pub record Facts : Type 0 where
   pub name : List ℕ
   -- whether it is left out of the default set
   pub opt_in : Bool
-  -- what it stands for, where it is an alias
+  -- the rules that it expands to, where it is an alias
   pub expansion : List Rule
 
 -- a rule of the default set
@@ -113,118 +116,14 @@ name_of r = (facts_of r).name
 abbrev pub is_opt_in : Rule → Bool
 is_opt_in r = (facts_of r).opt_in
 
--- the rules that a rule stands for
+-- the rules that a rule expands to
 abbrev pub expansion_of : Rule → List Rule
 expansion_of r = (facts_of r).expansion
 
 -- every rule, in declaration order
 unfoldable pub all_rules : List Rule
-all_rules =
-    rule.RequireConcurrentIndexCreation ∷ rule.RequireConcurrentIndexDeletion ∷ rule.ConstraintMissingNotValid ∷
-    rule.AddingFieldWithDefault ∷ rule.AddingForeignKeyConstraint ∷ rule.ChangingColumnType ∷
-    rule.AddingNotNullableField ∷ rule.AddingSerialPrimaryKeyField ∷ rule.RenamingColumn ∷
-    rule.RenamingTable ∷ rule.DisallowedUniqueConstraint ∷ rule.BanDropDatabase ∷
-    rule.PreferBigintOverInt ∷ rule.PreferBigintOverSmallint ∷ rule.PreferIdentity ∷
-    rule.PreferRepack ∷ rule.PreferRobustStmts ∷ rule.PreferTextField ∷
-    rule.PreferTimestampTz ∷ rule.BanCharField ∷ rule.BanDropColumn ∷
-    rule.BanDropTable ∷ rule.BanDropNotNull ∷ rule.TransactionNesting ∷
-    rule.AddingRequiredField ∷ rule.BanConcurrentIndexCreationInTransaction ∷ rule.UnusedIgnore ∷
-    rule.BanCreateDomainWithConstraint ∷ rule.BanAlterDomainWithAddConstraint ∷ rule.BanTruncateCascade ∷
-    rule.RequireTimeoutSettings ∷ rule.BanUncommittedTransaction ∷ rule.RequireEnumValueOrdering ∷
-    rule.RequireTableSchema ∷ rule.IdentifierTooLong ∷ rule.RequireConcurrentPartitionDetach ∷
-    rule.RequireConcurrentReindex ∷ rule.RequireLockTimeout ∷ rule.RequireStatementTimeout ∷
-    rule.BanDuplicateColumnAssignments ∷ rule.BanDropView ∷ rule.BanDropFunction ∷
-    rule.BanDropType ∷ rule.BanDropDefault ∷ rule.BanDropTrigger ∷
-    rule.BanDropSchema ∷ rule.BanDropSequence ∷ rule.BanDropDomain ∷
-    rule.BanDropConstraint ∷ rule.BanDropGeneratedExpression ∷ rule.RenamingObject ∷
-    rule.BanSetSchema ∷ rule.BanAlterIdentity ∷ rule.BanDropExtension ∷
-    rule.BanAlterGeneratedExpression ∷ rule.BanDropIndex ∷ rule.BanSetDefault ∷
-    rule.BanDisableTrigger ∷ rule.BanReplicaIdentity ∷ rule.BanDropPolicy ∷
-    rule.BanRevoke ∷ rule.BanReplaceViewFunction ∷ rule.BanAlterPolicyCondition ∷
-    rule.BanAlterPolicyRoles ∷ rule.BanCreatePolicy ∷ rule.BanAlterFunctionOptions ∷
-    rule.BanAlterViewOptions ∷ rule.BanAlterRoleOptions ∷ rule.BanAlterDatabaseOptions ∷
-    rule.BanAlterRowLevelSecurity ∷ rule.BanNewWriteRestriction ∷ rule.BanAddEnumValue ∷
-    rule.BanAddCompositeAttribute ∷ rule.BanAddColumn ∷ rule.BanDetachInheritance ∷
-    rule.BanAlterSequenceValues ∷ rule.BanAlterSystemOptions ∷ rule.BanAlterExtension ∷
-    []
+all_rules = ALL
 
 -- a rule's place in declaration order, from 0
 unfoldable pub number_of : Rule → ℕ
-number_of rule.RequireConcurrentIndexCreation = 0
-number_of rule.RequireConcurrentIndexDeletion = 1
-number_of rule.ConstraintMissingNotValid = 2
-number_of rule.AddingFieldWithDefault = 3
-number_of rule.AddingForeignKeyConstraint = 4
-number_of rule.ChangingColumnType = 5
-number_of rule.AddingNotNullableField = 6
-number_of rule.AddingSerialPrimaryKeyField = 7
-number_of rule.RenamingColumn = 8
-number_of rule.RenamingTable = 9
-number_of rule.DisallowedUniqueConstraint = 10
-number_of rule.BanDropDatabase = 11
-number_of rule.PreferBigintOverInt = 12
-number_of rule.PreferBigintOverSmallint = 13
-number_of rule.PreferIdentity = 14
-number_of rule.PreferRepack = 15
-number_of rule.PreferRobustStmts = 16
-number_of rule.PreferTextField = 17
-number_of rule.PreferTimestampTz = 18
-number_of rule.BanCharField = 19
-number_of rule.BanDropColumn = 20
-number_of rule.BanDropTable = 21
-number_of rule.BanDropNotNull = 22
-number_of rule.TransactionNesting = 23
-number_of rule.AddingRequiredField = 24
-number_of rule.BanConcurrentIndexCreationInTransaction = 25
-number_of rule.UnusedIgnore = 26
-number_of rule.BanCreateDomainWithConstraint = 27
-number_of rule.BanAlterDomainWithAddConstraint = 28
-number_of rule.BanTruncateCascade = 29
-number_of rule.RequireTimeoutSettings = 30
-number_of rule.BanUncommittedTransaction = 31
-number_of rule.RequireEnumValueOrdering = 32
-number_of rule.RequireTableSchema = 33
-number_of rule.IdentifierTooLong = 34
-number_of rule.RequireConcurrentPartitionDetach = 35
-number_of rule.RequireConcurrentReindex = 36
-number_of rule.RequireLockTimeout = 37
-number_of rule.RequireStatementTimeout = 38
-number_of rule.BanDuplicateColumnAssignments = 39
-number_of rule.BanDropView = 40
-number_of rule.BanDropFunction = 41
-number_of rule.BanDropType = 42
-number_of rule.BanDropDefault = 43
-number_of rule.BanDropTrigger = 44
-number_of rule.BanDropSchema = 45
-number_of rule.BanDropSequence = 46
-number_of rule.BanDropDomain = 47
-number_of rule.BanDropConstraint = 48
-number_of rule.BanDropGeneratedExpression = 49
-number_of rule.RenamingObject = 50
-number_of rule.BanSetSchema = 51
-number_of rule.BanAlterIdentity = 52
-number_of rule.BanDropExtension = 53
-number_of rule.BanAlterGeneratedExpression = 54
-number_of rule.BanDropIndex = 55
-number_of rule.BanSetDefault = 56
-number_of rule.BanDisableTrigger = 57
-number_of rule.BanReplicaIdentity = 58
-number_of rule.BanDropPolicy = 59
-number_of rule.BanRevoke = 60
-number_of rule.BanReplaceViewFunction = 61
-number_of rule.BanAlterPolicyCondition = 62
-number_of rule.BanAlterPolicyRoles = 63
-number_of rule.BanCreatePolicy = 64
-number_of rule.BanAlterFunctionOptions = 65
-number_of rule.BanAlterViewOptions = 66
-number_of rule.BanAlterRoleOptions = 67
-number_of rule.BanAlterDatabaseOptions = 68
-number_of rule.BanAlterRowLevelSecurity = 69
-number_of rule.BanNewWriteRestriction = 70
-number_of rule.BanAddEnumValue = 71
-number_of rule.BanAddCompositeAttribute = 72
-number_of rule.BanAddColumn = 73
-number_of rule.BanDetachInheritance = 74
-number_of rule.BanAlterSequenceValues = 75
-number_of rule.BanAlterSystemOptions = 76
-number_of rule.BanAlterExtension = 77
+number_of r = tag_of the_type r

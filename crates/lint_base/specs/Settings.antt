@@ -1,4 +1,4 @@
--- What a linter is told.
+-- The settings of a linter.
 use Rattle.std.specs.Prelude.{ℕ, List, [], ◌∷◌, codes}
 
 -- functions that are not volatile

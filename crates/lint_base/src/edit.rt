@@ -10,7 +10,7 @@ use text_pos::{TextRange, TextSize};
 pub struct Edit {
     /// The bytes that are replaced; an empty range for an insertion.
     pub text_range: TextRange,
-    /// What stands in their place; `None` for a deletion.
+    /// What is in their place; `None` for a deletion.
     pub text: Option<Text>,
 }
 

@@ -1,8 +1,8 @@
-//! The rules, what a linter reports, and what it is told.
+//! The rules, what a linter reports, and its settings.
 //!
 //! `specs/` says what each call means: `Rules` has the table of what is known of each rule,
-//! `RuleNames` the texts that name a rule, `RuleSets` sets of rules, and `Grown` what a list of
-//! reports holds after a refusal.
+//! `RuleNames` the texts that name a rule, `RuleSets` sets of rules, `RuleChoice` which rules lists
+//! choose, and `Grown` what a list of reports holds after a refusal.
 #![tactic(auto)]
 
 mod edit;
@@ -10,8 +10,10 @@ mod fix;
 mod names;
 mod reports;
 mod rule;
+mod rule_choice;
 mod rule_name;
 mod rule_set;
+mod rule_slots;
 mod settings;
 mod text;
 mod violation;

@@ -36,7 +36,7 @@ impl Names {
 
     /// The functions of PostgreSQL that are not volatile and that a default may well call: `now`,
     /// `transaction_timestamp`, `statement_timestamp`, `current_database`, `current_schema`,
-    /// `version` and `pi`. The error is want of memory.
+    /// `version` and `pi`. The error comes when memory runs out.
     pub fn standard(alloc: Global) -> Result<Names, NoMemory>
         ensures { IfOk result (λ names. names ≡ standard_names) }
     {
@@ -51,7 +51,7 @@ impl Names {
         Ok(names)
     }
 
-    /// Adds a name. The error is want of memory.
+    /// Adds a name. The error comes when memory runs out.
     pub fn push(&mut self, s: &str) -> Result<(), NoMemory>
         ensures ok { OnOk result (self.new ≡ self.old ++ s.now ∷ []) }
         ensures err { OnErr result (self.new ≡ self.old) }

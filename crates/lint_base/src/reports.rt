@@ -32,7 +32,7 @@ impl Reports {
         }
     }
 
-    /// Adds a report. The error is want of memory.
+    /// Adds a report. The error comes when memory runs out.
     pub fn push(&mut self, v: Violation) -> Result<(), NoMemory>
         ensures ok { OnOk result (self.new ≡ self.old ++ v ∷ []) }
         ensures err { OnErr result (self.new ≡ self.old) }
@@ -41,7 +41,7 @@ impl Reports {
         Ok(())
     }
 
-    /// Adds the reports of another list, in their order. The error is want of memory; then a first
+    /// Adds the reports of another list, in their order. The error comes when memory runs out; then a first
     /// part of them has been added. To an empty list it takes no memory.
     pub fn append(&mut self, other: Reports) -> Result<(), NoMemory>
         ensures ok { OnOk result (self.new ≡ self.old ++ other) }

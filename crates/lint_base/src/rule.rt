@@ -1,8 +1,9 @@
 //! The rules, and what is known of each.
-ghost use Rattle.std.specs.Prelude.{◌≡◌, ◌<◌, slice_get};
-ghost use Rattle.lint_base.specs.Rules.{alias_rule, all_rules, default_rule, expansion_of, facts_of, is_opt_in, name_of, number_of, opt_in_rule};
+ghost use Rattle.std.specs.Prelude.{◌≡◌, ◌<◌, Some, map, slice_get};
 ghost use Rattle.lint_base.specs.RuleFacts.{facts};
+ghost use Rattle.lint_base.specs.Rules.{all_rules, expansion_of, facts_of, is_opt_in, name_of, number_of};
 
+use Enabled::{AliasOf, ByDefault, ByName};
 use std::fmt;
 
 /// A rule, by which reports are named, enabled and ignored.
@@ -166,144 +167,118 @@ pub enum Rule {
     BanAlterExtension,
 }
 
-/// What is known of a rule.
+/// How a rule comes into a set of rules.
 #[derive(Clone, Copy)]
-struct Facts {
-    /// The printed name.
-    name: &'static str,
-    /// Whether the rule is left out of the default set.
-    is_opt_in: bool,
-    /// The rules that it stands for.
-    expands_to: &'static [Rule],
+enum Enabled {
+    /// It is in the default set.
+    ByDefault,
+    /// Only its own name puts it in.
+    ByName,
+    /// It is another name for these rules, and only that name puts them in.
+    AliasOf(&'static [Rule]),
 }
 
-// The facts of a rule of the default set.
-fn default_rule(name: &'static str) -> Facts
-    ensures { facts result ≡ default_rule name.entry.now }
-{
-    Facts {
-        name,
-        is_opt_in: false,
-        expands_to: &[],
-    }
-}
+/// What is known of a rule: its printed name, and how it is enabled.
+type Facts = (&'static str, Enabled);
 
-// The facts of a rule that is enabled by name alone.
-fn opt_in_rule(name: &'static str) -> Facts
-    ensures { facts result ≡ opt_in_rule name.entry.now }
-{
-    Facts {
-        name,
-        is_opt_in: true,
-        expands_to: &[],
-    }
-}
-
-// The facts of an alias.
-fn alias_rule(name: &'static str, expands_to: &'static [Rule]) -> Facts
-    ensures { facts result ≡ alias_rule name.entry.now expands_to.entry.now }
-{
-    Facts {
-        name,
-        is_opt_in: true,
-        expands_to,
-    }
-}
+/// The facts of each rule, in declaration order.
+static FACTS: [Facts; 78] = [
+    ("require-concurrent-index-creation", ByDefault),
+    ("require-concurrent-index-deletion", ByDefault),
+    ("constraint-missing-not-valid", ByDefault),
+    ("adding-field-with-default", ByDefault),
+    ("adding-foreign-key-constraint", ByDefault),
+    ("changing-column-type", ByDefault),
+    ("adding-not-nullable-field", ByDefault),
+    ("adding-serial-primary-key-field", ByDefault),
+    ("renaming-column", ByDefault),
+    ("renaming-table", ByDefault),
+    ("disallowed-unique-constraint", ByDefault),
+    ("ban-drop-database", ByDefault),
+    ("prefer-bigint-over-int", ByDefault),
+    ("prefer-bigint-over-smallint", ByDefault),
+    ("prefer-identity", ByDefault),
+    ("prefer-repack", ByDefault),
+    ("prefer-robust-stmts", ByDefault),
+    ("prefer-text-field", ByDefault),
+    ("prefer-timestamp-tz", ByDefault),
+    ("ban-char-field", ByDefault),
+    ("ban-drop-column", ByDefault),
+    ("ban-drop-table", ByDefault),
+    ("ban-drop-not-null", ByDefault),
+    ("transaction-nesting", ByDefault),
+    ("adding-required-field", ByDefault),
+    ("ban-concurrent-index-creation-in-transaction", ByDefault),
+    ("unused-ignore", ByDefault),
+    ("ban-create-domain-with-constraint", ByDefault),
+    ("ban-alter-domain-with-add-constraint", ByDefault),
+    ("ban-truncate-cascade", ByDefault),
+    (
+        "require-timeout-settings",
+        AliasOf(&[Rule::RequireLockTimeout, Rule::RequireStatementTimeout]),
+    ),
+    ("ban-uncommitted-transaction", ByDefault),
+    ("require-enum-value-ordering", ByDefault),
+    ("require-table-schema", ByName),
+    ("identifier-too-long", ByDefault),
+    ("require-concurrent-partition-detach", ByDefault),
+    ("require-concurrent-reindex", ByDefault),
+    ("require-lock-timeout", ByDefault),
+    ("require-statement-timeout", ByDefault),
+    ("ban-duplicate-column-assignments", ByDefault),
+    ("ban-drop-view", ByDefault),
+    ("ban-drop-function", ByDefault),
+    ("ban-drop-type", ByDefault),
+    ("ban-drop-default", ByDefault),
+    ("ban-drop-trigger", ByName),
+    ("ban-drop-schema", ByDefault),
+    ("ban-drop-sequence", ByDefault),
+    ("ban-drop-domain", ByDefault),
+    ("ban-drop-constraint", ByDefault),
+    ("ban-drop-generated-expression", ByDefault),
+    ("renaming-object", ByDefault),
+    ("ban-set-schema", ByDefault),
+    ("ban-alter-identity", ByDefault),
+    ("ban-drop-extension", ByDefault),
+    ("ban-alter-generated-expression", ByName),
+    ("ban-drop-index", ByName),
+    ("ban-set-default", ByName),
+    ("ban-disable-trigger", ByName),
+    ("ban-replica-identity", ByName),
+    ("ban-drop-policy", ByName),
+    ("ban-revoke", ByName),
+    ("ban-replace-view-function", ByName),
+    ("ban-alter-policy-condition", ByName),
+    ("ban-alter-policy-roles", ByName),
+    ("ban-create-policy", ByName),
+    ("ban-alter-function-options", ByName),
+    ("ban-alter-view-options", ByName),
+    ("ban-alter-role-options", ByName),
+    ("ban-alter-database-options", ByName),
+    ("ban-alter-row-level-security", ByName),
+    ("ban-new-write-restriction", ByName),
+    ("ban-add-enum-value", ByName),
+    ("ban-add-composite-attribute", ByName),
+    ("ban-add-column", ByName),
+    ("ban-detach-inheritance", ByName),
+    ("ban-alter-sequence-values", ByName),
+    ("ban-alter-system-options", ByName),
+    ("ban-alter-extension", ByName),
+];
 
 // What is known of a rule.
-#[tactic(auto, unfolding(crate::specs::Rules::facts_of))]
-fn facts_of(rule: Rule) -> Facts
-    ensures { facts result ≡ facts_of rule }
+fn facts_of(rule: Rule) -> &'static Facts
+    ensures { facts result.now ≡ facts_of rule }
 {
-    match rule {
-        Rule::RequireConcurrentIndexCreation => default_rule("require-concurrent-index-creation"),
-        Rule::RequireConcurrentIndexDeletion => default_rule("require-concurrent-index-deletion"),
-        Rule::ConstraintMissingNotValid => default_rule("constraint-missing-not-valid"),
-        Rule::AddingFieldWithDefault => default_rule("adding-field-with-default"),
-        Rule::AddingForeignKeyConstraint => default_rule("adding-foreign-key-constraint"),
-        Rule::ChangingColumnType => default_rule("changing-column-type"),
-        Rule::AddingNotNullableField => default_rule("adding-not-nullable-field"),
-        Rule::AddingSerialPrimaryKeyField => default_rule("adding-serial-primary-key-field"),
-        Rule::RenamingColumn => default_rule("renaming-column"),
-        Rule::RenamingTable => default_rule("renaming-table"),
-        Rule::DisallowedUniqueConstraint => default_rule("disallowed-unique-constraint"),
-        Rule::BanDropDatabase => default_rule("ban-drop-database"),
-        Rule::PreferBigintOverInt => default_rule("prefer-bigint-over-int"),
-        Rule::PreferBigintOverSmallint => default_rule("prefer-bigint-over-smallint"),
-        Rule::PreferIdentity => default_rule("prefer-identity"),
-        Rule::PreferRepack => default_rule("prefer-repack"),
-        Rule::PreferRobustStmts => default_rule("prefer-robust-stmts"),
-        Rule::PreferTextField => default_rule("prefer-text-field"),
-        Rule::PreferTimestampTz => default_rule("prefer-timestamp-tz"),
-        Rule::BanCharField => default_rule("ban-char-field"),
-        Rule::BanDropColumn => default_rule("ban-drop-column"),
-        Rule::BanDropTable => default_rule("ban-drop-table"),
-        Rule::BanDropNotNull => default_rule("ban-drop-not-null"),
-        Rule::TransactionNesting => default_rule("transaction-nesting"),
-        Rule::AddingRequiredField => default_rule("adding-required-field"),
-        Rule::BanConcurrentIndexCreationInTransaction => {
-            default_rule("ban-concurrent-index-creation-in-transaction")
-        }
-        Rule::UnusedIgnore => default_rule("unused-ignore"),
-        Rule::BanCreateDomainWithConstraint => default_rule("ban-create-domain-with-constraint"),
-        Rule::BanAlterDomainWithAddConstraint => {
-            default_rule("ban-alter-domain-with-add-constraint")
-        }
-        Rule::BanTruncateCascade => default_rule("ban-truncate-cascade"),
-        Rule::RequireTimeoutSettings => alias_rule(
-            "require-timeout-settings",
-            &[Rule::RequireLockTimeout, Rule::RequireStatementTimeout],
-        ),
-        Rule::BanUncommittedTransaction => default_rule("ban-uncommitted-transaction"),
-        Rule::RequireEnumValueOrdering => default_rule("require-enum-value-ordering"),
-        Rule::RequireTableSchema => opt_in_rule("require-table-schema"),
-        Rule::IdentifierTooLong => default_rule("identifier-too-long"),
-        Rule::RequireConcurrentPartitionDetach => {
-            default_rule("require-concurrent-partition-detach")
-        }
-        Rule::RequireConcurrentReindex => default_rule("require-concurrent-reindex"),
-        Rule::RequireLockTimeout => default_rule("require-lock-timeout"),
-        Rule::RequireStatementTimeout => default_rule("require-statement-timeout"),
-        Rule::BanDuplicateColumnAssignments => default_rule("ban-duplicate-column-assignments"),
-        Rule::BanDropView => default_rule("ban-drop-view"),
-        Rule::BanDropFunction => default_rule("ban-drop-function"),
-        Rule::BanDropType => default_rule("ban-drop-type"),
-        Rule::BanDropDefault => default_rule("ban-drop-default"),
-        Rule::BanDropTrigger => opt_in_rule("ban-drop-trigger"),
-        Rule::BanDropSchema => default_rule("ban-drop-schema"),
-        Rule::BanDropSequence => default_rule("ban-drop-sequence"),
-        Rule::BanDropDomain => default_rule("ban-drop-domain"),
-        Rule::BanDropConstraint => default_rule("ban-drop-constraint"),
-        Rule::BanDropGeneratedExpression => default_rule("ban-drop-generated-expression"),
-        Rule::RenamingObject => default_rule("renaming-object"),
-        Rule::BanSetSchema => default_rule("ban-set-schema"),
-        Rule::BanAlterIdentity => default_rule("ban-alter-identity"),
-        Rule::BanDropExtension => default_rule("ban-drop-extension"),
-        Rule::BanAlterGeneratedExpression => opt_in_rule("ban-alter-generated-expression"),
-        Rule::BanDropIndex => opt_in_rule("ban-drop-index"),
-        Rule::BanSetDefault => opt_in_rule("ban-set-default"),
-        Rule::BanDisableTrigger => opt_in_rule("ban-disable-trigger"),
-        Rule::BanReplicaIdentity => opt_in_rule("ban-replica-identity"),
-        Rule::BanDropPolicy => opt_in_rule("ban-drop-policy"),
-        Rule::BanRevoke => opt_in_rule("ban-revoke"),
-        Rule::BanReplaceViewFunction => opt_in_rule("ban-replace-view-function"),
-        Rule::BanAlterPolicyCondition => opt_in_rule("ban-alter-policy-condition"),
-        Rule::BanAlterPolicyRoles => opt_in_rule("ban-alter-policy-roles"),
-        Rule::BanCreatePolicy => opt_in_rule("ban-create-policy"),
-        Rule::BanAlterFunctionOptions => opt_in_rule("ban-alter-function-options"),
-        Rule::BanAlterViewOptions => opt_in_rule("ban-alter-view-options"),
-        Rule::BanAlterRoleOptions => opt_in_rule("ban-alter-role-options"),
-        Rule::BanAlterDatabaseOptions => opt_in_rule("ban-alter-database-options"),
-        Rule::BanAlterRowLevelSecurity => opt_in_rule("ban-alter-row-level-security"),
-        Rule::BanNewWriteRestriction => opt_in_rule("ban-new-write-restriction"),
-        Rule::BanAddEnumValue => opt_in_rule("ban-add-enum-value"),
-        Rule::BanAddCompositeAttribute => opt_in_rule("ban-add-composite-attribute"),
-        Rule::BanAddColumn => opt_in_rule("ban-add-column"),
-        Rule::BanDetachInheritance => opt_in_rule("ban-detach-inheritance"),
-        Rule::BanAlterSequenceValues => opt_in_rule("ban-alter-sequence-values"),
-        Rule::BanAlterSystemOptions => opt_in_rule("ban-alter-system-options"),
-        Rule::BanAlterExtension => opt_in_rule("ban-alter-extension"),
-    }
+    facts_in(&FACTS, rule)
+}
+
+// What a table of all rules says of one.
+fn facts_in(table: &'static [Facts], rule: Rule) -> &'static Facts
+    requires { map facts table.now ≡ map facts_of all_rules }
+    ensures { facts result.now ≡ facts_of rule }
+{
+    &table[rule.number()]
 }
 
 impl Rule {
@@ -392,6 +367,7 @@ impl Rule {
     /// The rule's place in declaration order, from 0.
     pub(crate) fn number(self) -> usize
         ensures value { result ≡ number_of self }
+        ensures place { slice_get all_rules result ≡ Some self }
         ensures within { result < 78 }
     {
         self as usize
@@ -409,21 +385,27 @@ impl Rule {
     pub fn name(&self) -> &'static str
         ensures { result.now ≡ name_of self.now }
     {
-        facts_of(*self).name
+        let (name, _) = facts_of(*self);
+        name
     }
 
     /// Whether the rule is left out of the default set.
     pub fn is_opt_in(&self) -> bool
         ensures { result ≡ is_opt_in self.now }
     {
-        facts_of(*self).is_opt_in
+        let (_, enabled) = facts_of(*self);
+        !matches!(enabled, ByDefault)
     }
 
-    /// The rules that an alias stands for, in declaration order; none for any other rule.
+    /// The rules that an alias expands to, in declaration order; empty for any other rule.
     pub fn expands_to(&self) -> &'static [Rule]
         ensures { result.now ≡ expansion_of self.now }
     {
-        facts_of(*self).expands_to
+        let (_, enabled) = facts_of(*self);
+        match enabled {
+            AliasOf(rules) => rules,
+            ByDefault | ByName => &[],
+        }
     }
 }
 

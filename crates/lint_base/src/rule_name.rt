@@ -6,6 +6,7 @@ ghost use Rattle.lint_base.specs.RuleNames.{accepted_names, is_printed_name, rul
 ghost use Rattle.lint_base.specs.Rules.{all_rules};
 
 use crate::rule::Rule;
+use crate::rule_slots::{SHORTEST_NAME, number_named};
 use crate::text::Text;
 use std::alloc::{AllocError, Global};
 use std::marker::Model;
@@ -23,24 +24,29 @@ fn is_printed_name(text: &str, rule: Rule) -> bool
 }
 
 // The rule that a text names.
-#[tactic(auto, unfolding(crate::specs::RuleNames::rule_named, crate::specs::Rules::all_rules))]
+#[tactic(auto, unfolding(crate::specs::RuleNames::rule_named))]
 fn rule_named(text: &str) -> Option<Rule>
     ensures { result ≡ rule_named text.now }
 {
     if text == SECOND_SPELLING {
         return Some(Rule::PreferTimestampTz);
     }
-    rule_with_name(&Rule::ALL, text)
+    rule_with_name(text)
 }
 
-// The first of some rules of which a text is the printed name, and names it.
-fn rule_with_name(rules: &[Rule], text: &str) -> Option<Rule>
-    ensures { result ≡ find (is_printed_name text.now) rules.now }
+// The rule of which a text is the printed name, and names it.
+fn rule_with_name(text: &str) -> Option<Rule>
+    ensures { result ≡ find (is_printed_name text.now) all_rules }
 {
-    rules
-        .iter()
-        .copied()
-        .find(|rule| is_printed_name(text, *rule))
+    if text.len() < SHORTEST_NAME {
+        return None;
+    }
+    let rule = Rule::with_number(number_named(text.as_bytes()))?;
+    if is_printed_name(text, rule) {
+        Some(rule)
+    } else {
+        None
+    }
 }
 
 /// A text names no rule.

@@ -1,12 +1,16 @@
 //! Sets of rules.
-ghost use Rattle.std.specs.Prelude.{◌≡◌, ◌≢◌, ◌||◌, false, true, filter, not};
+ghost use Rattle.std.specs.Prelude.{◌≡◌, ◌≢◌, ◌&&◌, ◌||◌, false, true, filter, not};
+ghost use Rattle.std.specs.List.{list_any};
 ghost use Rattle.lint_base.specs.declared.rule.Rule.{Rule};
 ghost use Rattle.lint_base.specs.RuleSets.{both_rules, default_rules, has, no_rules, rules_in, rules_of, with_rule, without_rule};
-ghost use Rattle.lint_base.specs.Rules.{is_opt_in};
+ghost use Rattle.lint_base.specs.Rules.{all_rules, is_opt_in};
 ghost use Rattle.std.specs.Iterator.{YieldsFirst, item_count};
 
 use crate::rule::Rule;
 use std::marker::Model;
+
+/// The bits of all rules.
+const RULE_BITS: u128 = 0x3fff_ffff_ffff_ffff_ffff;
 
 /// A set of rules.
 #[derive(Clone, Copy, Debug, PartialEq, Eq)]
@@ -81,6 +85,13 @@ impl RuleSet {
         RuleSet {
             bits: self.bits | other.bits,
         }
+    }
+
+    /// Whether some rule is in both sets.
+    pub fn intersects(self, other: RuleSet) -> bool
+        ensures { result ≡ list_any (λ r. has self r && has other r) all_rules }
+    {
+        self.bits & other.bits & RULE_BITS != 0
     }
 
     /// Whether a rule is in the set.

@@ -1,7 +1,7 @@
-//! What a linter is told.
+//! The settings of a linter.
 use crate::names::Names;
 
-/// What a linter is told of the database and of the functions that it may count on.
+/// What a linter knows of the database and of the functions that are called.
 #[derive(Debug, Drop)]
 pub struct LinterSettings {
     /// The version of PostgreSQL: major, minor, patch.

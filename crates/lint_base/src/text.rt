@@ -1,5 +1,7 @@
 //! The texts of reports.
-ghost use Rattle.std.specs.Prelude.{◌≡◌, List, ℕ, nat_eq, refl, Some};
+ghost use Rattle.std.specs.Prelude.{◌≡◌, List, ℕ, nat_eq, refl, Some, true};
+ghost use Rattle.std.specs.List.{list_all};
+ghost use Rattle.lint_base.specs.PlainBytes.{is_plain};
 ghost use Rattle.std.specs.Ordering.{nat_cmp};
 ghost use Rattle.std.specs.Hash as fed;
 ghost use Rattle.std.specs.Cmp.Lexicographic.{pointwise, slice_cmp, nat_list_eq_equiv, nat_list_cmp_total, texts_ties, texts_po};
@@ -8,7 +10,7 @@ ghost use Rattle.std.specs.Cmp.Rules.{hashing};
 ghost use Rattle.std.specs.String.{string_bytes};
 ghost use Rattle.std.proofs.Common.{rules};
 
-use static_text::StaticText;
+use bytes::ByteStr;
 use std::cmp::Ordering;
 use std::fmt;
 use std::hash::{Hash, Hasher};
@@ -18,7 +20,9 @@ use std::marker::Model;
 #[derive(Drop)]
 enum Source {
     /// In the program.
-    Fixed(StaticText),
+    Fixed(ByteStr),
+    /// In the program, and each byte stands for itself on a printed line.
+    Plain(ByteStr),
     /// In memory that was taken for it.
     Made(String),
 }
@@ -36,9 +40,11 @@ impl Model for Text {
 
     ghost Value = { List ℕ };
 
-    ghost use Rattle.lint_base.specs.TextBytes.{source_bytes};
+    ghost use Rattle.lint_base.specs.TextBytes.{IsKept, source_bytes};
 
     ghost view = { λ text. source_bytes text.source };
+
+    ghost invariant = { λ text. IsKept text.source };
 }
 
 impl Text {
@@ -47,7 +53,17 @@ impl Text {
         ensures { result ≡ s.entry.now }
     {
         Text {
-            source: Source::Fixed(StaticText::new(s)),
+            source: Source::Fixed(ByteStr::from_static(s)),
+        }
+    }
+
+    /// A text of the program on one line, without backslashes and quotes, so that it is printed as it is. It takes no memory.
+    pub fn plain(s: &'static str) -> Text
+        requires { list_all is_plain s.now ≡ true }
+        ensures { result ≡ s.entry.now }
+    {
+        Text {
+            source: Source::Plain(ByteStr::from_static(s)),
         }
     }
 
@@ -60,12 +76,19 @@ impl Text {
         }
     }
 
+    /// Whether the text is known to be on one line, without backslashes and quotes: one made by [`Text::plain`] is.
+    pub fn is_plain(&self) -> bool
+        ensures { result ≡ true → list_all is_plain self.now ≡ true }
+    {
+        matches!(&self.source, Source::Plain(_))
+    }
+
     /// The text itself.
     pub fn as_str(&self) -> &str
         ensures { result.now ≡ self.now }
     {
         match &self.source {
-            Source::Fixed(s) => s.as_str(),
+            Source::Fixed(s) | Source::Plain(s) => s.as_str(),
             Source::Made(s) => s.as_str(),
         }
     }

@@ -13,7 +13,7 @@ pub struct Violation {
     pub code: Rule,
     /// What is wrong.
     pub message: Text,
-    /// Where it stands, in bytes of the text.
+    /// Where it is there, in bytes of the text.
     pub text_range: TextRange,
     /// What else is to be known.
     pub note: Option<Text>,

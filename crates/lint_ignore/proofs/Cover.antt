@@ -4,19 +4,19 @@ use Rattle.std.proofs.Math.Bool.{or-true}
 use Rattle.std.proofs.lemmas.Bool.Decides.{nat_tests}
 use Rattle.std.proofs.lemmas.List.{take_more}
 use Rattle.std.proofs.lemmas.List.Folds.{list_any-append}
-use Rattle.std.specs.BTreeMap.{get}
 use Rattle.std.specs.List.{list_any}
-use Rattle.std.specs.Ordering.{nat_cmp}
 use Rattle.std.specs.Prelude.{◌==◌, ◌&&◌, ◌||◌, not, nat_lt}
 use Rattle.sql_token.specs.Token.{Text}
+use Rattle.text_pos.specs.Line.{line_feeds}
 use Rattle.lint_base.specs.declared.rule.Rule.{Rule}
-use Rattle.lint_base.specs.RuleSets.{has}
+use Rattle.lint_base.specs.RuleSets.{Rules, has}
 use Rattle.lint_ignore.specs.declared.ignore.Ignore.{Ignore}
 use Rattle.lint_ignore.specs.declared.ignore.IgnoreKind.{IgnoreKind}
 use Rattle.lint_ignore.specs.declared.ignore.IgnoreKind.TheVariants.{File, Line}
 use Rattle.lint_ignore.specs.declared.index.IgnoreIndex.{IgnoreIndex}
 use Rattle.lint_ignore.specs.Covered.{line_of_ignore, covers_by, covers}
-use Rattle.lint_ignore.specs.Index.{AddsIgnore, IsIndexOf, is_file, is_among, is_bare_file, file_names, names, line_names, knows}
+use Rattle.lint_ignore.specs.Index.{AddsIgnore, IsIndexOf, is_file, is_bare_file, file_names, names, line_names, knows}
+use Rattle.lint_ignore.specs.Lines.{at_line, is_among}
 
 -- ---- one more ignore comment
 
@@ -36,7 +36,7 @@ index_more old new text gs g h adds = record {
   bare = grow is_bare_file gs g old.covers_all new.covers_all h.bare adds.bare;
   file = λ rule. grow (file_names rule) gs g (has old.file rule) (has new.file rule) (h.file rule) (adds.file rule);
   by_line =
-      λ line rule. grow (line_names text line rule) gs g (is_among (get nat_cmp old.by_line line) rule) (is_among (get nat_cmp new.by_line line) rule) (h.by_line line rule) (adds.by_line text h.lines line rule);
+      λ line rule. grow (line_names text line rule) gs g (is_among (at_line old.by_line line) rule) (is_among (at_line new.by_line line) rule) (h.by_line line rule) (adds.by_line text h.lines line rule);
 }
 
 pub index_goes_on : (old new : IgnoreIndex) (text : Text) (gs : List Ignore) (i : ℕ) (g : Ignore) → IsIndexOf old text (take i gs) → i < length gs → g ≡ get_or gs i g → AddsIgnore old new g → IsIndexOf new text (take (i + 1) gs)
@@ -44,6 +44,28 @@ index_goes_on old new text gs i g h lt is adds =
     let P : List Ignore → Type 0 = λ xs. IsIndexOf new text xs in
     let Q : Ignore → Type 0 = λ x. AddsIgnore old new x in
     subst P (sym (take_more gs i g lt)) (index_more old new text (take i gs) (get_or gs i g) h (subst Q is adds))
+
+and_turned : (a b : Bool) → (a && b) ≡ (b && a)
+and_turned true true = refl
+and_turned true false = refl
+and_turned false true = refl
+and_turned false false = refl
+
+-- a line ignore
+pub line_added : (old new : IgnoreIndex) (g : Ignore) (l : ℕ) (rules : Rules) → is_file g.kind ≡ false → new.lines ≡ old.lines → new.covers_all ≡ old.covers_all → new.file ≡ old.file
+    → ((text : Text) → old.lines ≡ line_feeds text → l ≡ line_of_ignore text g)
+    → ((rule : Rule) → has rules rule ≡ names g rule)
+    → ((line : ℕ) (rule : Rule) → is_among (at_line new.by_line line) rule ≡ (is_among (at_line old.by_line line) rule || (l == line && has rules rule)))
+    → AddsIgnore old new g
+line_added old new g l rules kind lines all file place named added = record {
+  lines = lines;
+  bare = all ∙ (sym (or-false old.covers_all) ∙ ap (λ (b : Bool). old.covers_all || (b && g.ignore_all)) (sym kind));
+  file = λ rule. ap (λ (s : Rules). has s rule) file ∙ (sym (or-false (has old.file rule)) ∙ ap (λ (b : Bool). has old.file rule || (b && has g.violation_names rule)) (sym kind));
+  by_line =
+      λ text h line rule. added line rule
+      ∙ (ap (λ (b : Bool). is_among (at_line old.by_line line) rule || b) (and_turned (l == line) (has rules rule))
+      ∙ (λ i. is_among (at_line old.by_line line) rule || (not (sym kind i) && named rule i && place text h i == line)));
+}
 
 -- ---- what it knows
 

@@ -1,5 +1,6 @@
 pub mod Cover
 pub mod Growth
+pub mod LineSets
 pub mod Marks
 pub mod Parts
 pub mod Places

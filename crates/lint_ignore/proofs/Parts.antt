@@ -45,7 +45,7 @@ without_dashes [] lacks = refl
 without_dashes (b ∷ bs) lacks =
     step_no b bs (no_dashes b bs (lacks 0 (omega arith))) ∙ ap (λ (xs : List ℕ). b ∷ xs) (without_dashes bs (λ i le. lacks (suc i) (omega arith)))
 
--- the first `--` stands at i
+-- the first `--` is at i
 pub up_to_dashes : (s rest : List ℕ) (i : ℕ) → ((k : ℕ) → k < i → LacksTextAt (45 ∷ 45 ∷ []) s k) → drop i s ≡ 45 ∷ 45 ∷ rest → before_dashes s ≡ take i s
 up_to_dashes [] rest zero lacks at = refl
 up_to_dashes [] rest (suc i) lacks at = refl
@@ -75,7 +75,7 @@ pieces_plain at (x ∷ xs) h =
     step_comma at x xs (no_comma x (h 0 (omega arith)))
     ∙ ap (λ (ps : List Part). with_front at x ps) (pieces_plain (at + 1) xs (λ i lt. h (suc i) (omega arith)))
 
--- the first comma stands between xs and ys
+-- the first comma is between xs and ys
 pub pieces_comma : (at : ℕ) (xs ys : List ℕ) → ((i : ℕ) → i < length xs → get_or xs i 0 ≢ 44) → pieces_from at (xs ++ 44 ∷ ys) ≡ record { at = at; bytes = xs } ∷ pieces_from (at + length xs + 1) ys
 pieces_comma at [] ys h =
     let same : at + 1 ≡ at + 0 + 1 = omega arith in

@@ -1,4 +1,4 @@
--- The names in a text's ignore comments stand in the text, between its characters.
+-- The names in a text's ignore comments are in the text, between its characters.
 use Rattle.std.proofs.Common.{◌≡◌, ℕ, suc, ◌+◌, ◌-◌, ◌<◌, ◌≤◌, inl, inr, Bool, true, false, cond, List, [], ◌∷◌, ◌++◌, length, get_or, take, drop, length-append, length-drop, add-zero, append_assoc, sym, refl, ap, ◌∙◌, subst, lit<, arith, Option, Some, None, IfSome}
 use Rattle.std.proofs.lemmas.Bool.{cases_Bool, cases_lt}
 use Rattle.std.proofs.lemmas.Bool.Decides.{nat_tests}
@@ -35,7 +35,7 @@ use Rattle.lint_ignore.proofs.Parts.{step_no, step_yes, step_comma}
 
 -- ---- parts of parts
 
--- the second part stands in the first, between characters
+-- the second part is in the first, between characters
 pub record IsPartOf (whole p : Part) : Type 0 where
   pub front : List ℕ
   pub back : List ℕ
@@ -80,8 +80,8 @@ part_in_front p n utf8 cut = record {
   back_utf8 = IsUtf8-drop p.bytes n utf8 cut;
 }
 
-part_behind : (p : Part) (n : ℕ) → IsUtf8 p.bytes → IsCharBoundary p.bytes n → IsPartOf p (part_after n p)
-part_behind p n utf8 cut = record {
+front_dropped : (p : Part) (n : ℕ) → IsUtf8 p.bytes → IsCharBoundary p.bytes n → IsPartOf p (part_after n p)
+front_dropped p n utf8 cut = record {
   front = take n p.bytes;
   back = [];
   is = sym (take-append-drop n p.bytes) ∙ ap (λ (xs : List ℕ). take n p.bytes ++ xs) (sym (append-nil (drop n p.bytes)));
@@ -206,8 +206,8 @@ prefix_cut s n k utf8 begins size low =
 
 -- ---- pieces between commas
 
--- The first of some pieces, which begins at `at`, goes on with what stands between `start` and there, and each of them
--- stands in the whole.
+-- The first of some pieces, which begins at `at`, goes on with what is between `start` and there, and each of them
+-- is in the whole.
 abbrev Stand : Part → ℕ → ℕ → List ℕ → List Part → Type 0
 Stand whole start at u [] = ⊥
 Stand whole start at u (p ∷ ps) = (p.at ≡ at) × IsPartOf whole (record { at = start; bytes = u ++ p.bytes }) × All (IsPartOf whole) ps
@@ -218,9 +218,9 @@ longer whole start at b u (p ∷ ps) h =
     let P : List ℕ → Type 0 = λ bytes. IsPartOf whole (record { at = start; bytes = bytes }) in
     (refl, subst P (append_assoc u (b ∷ []) p.bytes) h.1, h.2)
 
-behind_comma : (whole : Part) (at : ℕ) (ps : List Part) → Stand whole at at [] ps → All (IsPartOf whole) ps
-behind_comma whole at [] h = absurd h
-behind_comma whole at (p ∷ ps) h =
+after_comma : (whole : Part) (at : ℕ) (ps : List Part) → Stand whole at at [] ps → All (IsPartOf whole) ps
+after_comma whole at [] h = absurd h
+after_comma whole at (p ∷ ps) h =
     let P : ℕ → Type 0 = λ place. IsPartOf whole (record { at = place; bytes = p.bytes }) in
     All-cons (IsPartOf whole) p ps (subst P (sym h.0) h.1) h.2
 
@@ -231,7 +231,7 @@ comma_utf8 = (44 ∷ [], (refl, refl))
 is_comma : (b : ℕ) → (b == 44) ≡ true → b ≡ 44
 is_comma b e = grind (arith, nat_tests)
 
--- a text is cut before and behind a comma
+-- a text is cut before and after a comma
 comma_parts : (u bs : List ℕ) → IsUtf8 (u ++ 44 ∷ bs) → IsUtf8 u × IsUtf8 (44 ∷ bs) × IsUtf8 bs
 comma_parts u bs utf8 =
     let at : get_or (u ++ 44 ∷ bs) (length u) 0 ≡ 44 = get_or_at u 44 bs 0 (length u) refl in
@@ -239,7 +239,7 @@ comma_parts u bs utf8 =
     let back : IsUtf8 (44 ∷ bs) = subst IsUtf8 (drop_at u (44 ∷ bs) (length u) refl) (IsUtf8-drop (u ++ 44 ∷ bs) (length u) utf8 cut) in
     (subst IsUtf8 (take_at u (44 ∷ bs) (length u) refl) (IsUtf8-take (u ++ 44 ∷ bs) (length u) utf8 cut), back, IsUtf8-drop (44 ∷ bs) 1 back (IsCharBoundary-after_ascii (44 ∷ bs) 0 back (omega arith) (omega arith)))
 
--- the parts before a comma and behind it
+-- the parts before a comma and after it
 abbrev up_to_comma : List ℕ → List ℕ → List ℕ
 up_to_comma front u = front ++ (u ++ 44 ∷ [])
 
@@ -260,7 +260,7 @@ at_comma whole front u bs at is place before utf8 rest =
         utf8 = subst IsUtf8 none parts.0;
         back_utf8 = parts.1;
       },
-      behind_comma whole (at + 1) (pieces_from (at + 1) bs) (subst P next rest),
+      after_comma whole (at + 1) (pieces_from (at + 1) bs) (subst P next rest),
     )
 
 pieces_stand : (whole : Part) (front u bs : List ℕ) (at : ℕ) → whole.bytes ≡ front ++ (u ++ bs) → at ≡ whole.at + length front + length u → IsUtf8 front → IsUtf8 (u ++ bs) → Stand whole (whole.at + length front) at u (pieces_from at bs)
@@ -303,7 +303,7 @@ parts_between_commas : (p : Part) → IsUtf8 p.bytes → All (IsPartOf p) (comma
 parts_between_commas p utf8 =
     let place : p.at ≡ p.at + 0 + 0 = omega arith in
     let P : ℕ → Type 0 = λ n. Stand p n p.at [] (comma_pieces p) in
-    behind_comma p p.at (comma_pieces p) (subst P (add-zero p.at) (pieces_stand p [] [] p.bytes p.at refl place IsUtf8-nil utf8))
+    after_comma p p.at (comma_pieces p) (subst P (add-zero p.at) (pieces_stand p [] [] p.bytes p.at refl place IsUtf8-nil utf8))
 
 -- the names of a part
 parts_named : (whole p : Part) → IsPartOf whole p → All (IsPartOf whole) (names_in p)
@@ -339,19 +339,19 @@ token_stands tree i is utf8 within =
       back_utf8 = IsUtf8-drop t tok.end utf8 between.1;
     }
 
-behind_mark : (z : List ℕ) (n : ℕ) → IsCharBoundary z (2 + n) → IsCharBoundary (drop 2 z) n
-behind_mark z n cut =
+after_mark : (z : List ℕ) (n : ℕ) → IsCharBoundary z (2 + n) → IsCharBoundary (drop 2 z) n
+after_mark z n cut =
     let size = length-drop 2 z in
     (omega (arith, cut.0, size), λ lt high. let at = get_or-drop 2 z n 0 in let low = cut.1 (omega arith) in omega (arith, low (omega arith)))
 
 stands_inside : (whole p : Part) (k : TokKind) → IsPartOf whole p → CanCutMarks k p.bytes → IfSome (inside k p) (IsPartOf whole)
-stands_inside whole p LineComment h cut = part_of_part whole p (part_after 2 p) h (part_behind p 2 h.utf8 cut)
+stands_inside whole p LineComment h cut = part_of_part whole p (part_after 2 p) h (front_dropped p 2 h.utf8 cut)
 stands_inside whole p BlockComment h cut =
     let (long, first, last) = cut in
-    let rest = part_behind p 2 h.utf8 first in
+    let rest = front_dropped p 2 h.utf8 first in
     let place : length p.bytes - 2 ≡ 2 + (length p.bytes - 4) = omega arith in
     let at : IsCharBoundary p.bytes (2 + (length p.bytes - 4)) = subst (λ (n : ℕ). IsCharBoundary p.bytes n) place last in
-    part_of_part whole (part_after 2 p) (part_before (length p.bytes - 4) (part_after 2 p)) (part_of_part whole p (part_after 2 p) h rest) (part_in_front (part_after 2 p) (length p.bytes - 4) rest.utf8 (behind_mark p.bytes (length p.bytes - 4) at))
+    part_of_part whole (part_after 2 p) (part_before (length p.bytes - 4) (part_after 2 p)) (part_of_part whole p (part_after 2 p) h rest) (part_in_front (part_after 2 p) (length p.bytes - 4) rest.utf8 (after_mark p.bytes (length p.bytes - 4) at))
 stands_inside whole p _ h cut = tt
 
 stands_body : (whole : Part) (o : Option Part) → IfSome o (IsPartOf whole) → IfSome (option_and_then (λ p. Some (body_of p)) o) (IsPartOf whole)
@@ -369,19 +369,19 @@ begun : (whole body : Part) → IsPartOf whole body → IfSome (ignore_in body) 
 begun whole body h = by_file (starts_with nat_eq body.bytes file_text) refl
   where
     by_line : (b : Bool) → starts_with nat_eq body.bytes line_text ≡ b → IfSome (if b then Some (part_after (length line_text) body, Line) else None) (StandsAt whole)
-    by_line true e = part_of_part whole body (part_after (length line_text) body) h (part_behind body (length line_text) h.utf8 (prefix_cut body.bytes line_text 12 h.utf8 e refl (lit< tt)))
+    by_line true e = part_of_part whole body (part_after (length line_text) body) h (front_dropped body (length line_text) h.utf8 (prefix_cut body.bytes line_text 12 h.utf8 e refl (lit< tt)))
     by_line false e = tt
 
     by_file : (b : Bool) → starts_with nat_eq body.bytes file_text ≡ b
         → IfSome (if b then Some (part_after (length file_text) body, File) else (if starts_with nat_eq body.bytes line_text then Some (part_after (length line_text) body, Line) else None)) (StandsAt whole)
-    by_file true e = part_of_part whole body (part_after (length file_text) body) h (part_behind body (length file_text) h.utf8 (prefix_cut body.bytes file_text 17 h.utf8 e refl (lit< tt)))
+    by_file true e = part_of_part whole body (part_after (length file_text) body) h (front_dropped body (length file_text) h.utf8 (prefix_cut body.bytes file_text 17 h.utf8 e refl (lit< tt)))
     by_file false e = by_line (starts_with nat_eq body.bytes line_text) refl
 
 stands_ignored : (whole : Part) (o : Option Part) → IfSome o (IsPartOf whole) → IfSome (option_and_then ignore_in o) (StandsAt whole)
 stands_ignored whole None h = tt
 stands_ignored whole (Some body) h = begun whole body h
 
--- the body of a comment stands in its text
+-- the body of a comment is in its text
 pub body_stands : (tree : Tree) (i : ℕ) → IsTree tree → IsUtf8 tree.text → i < length tree.toks → IfSome (comment_body tree.text (token_at tree.toks i)) (IsPartOf (all_of tree.text))
 body_stands tree i is utf8 within =
     let tok : Tok = token_at tree.toks i in
@@ -389,7 +389,7 @@ body_stands tree i is utf8 within =
     let marks : CanCutMarks tok.kind (text_of tree.text tok) = marks_of tree i (text_of tree.text tok) is within here.utf8 refl in
     stands_body (all_of tree.text) (inside tok.kind (token_part tree.text tok)) (stands_inside (all_of tree.text) (token_part tree.text tok) tok.kind here marks)
 
--- an ignore comment stands in its text
+-- an ignore comment is in its text
 comment_stands : (tree : Tree) (i : ℕ) → IsTree tree → IsUtf8 tree.text → i < length tree.toks → IfSome (ignore_in_token tree.text (token_at tree.toks i)) (StandsAt (all_of tree.text))
 comment_stands tree i is utf8 within = stands_ignored (all_of tree.text) (comment_body tree.text (token_at tree.toks i)) (body_stands tree i is utf8 within)
 
@@ -408,8 +408,8 @@ comments_stand tree is utf8 =
 
 -- ---- the names of a text
 
-boundary_behind : (a b : List ℕ) → IsUtf8 b → IsCharBoundary (a ++ b) (length a)
-boundary_behind a b utf8 =
+boundary_after : (a b : List ℕ) → IsUtf8 b → IsCharBoundary (a ++ b) (length a)
+boundary_after a b utf8 =
     let start = IsCharBoundary-start b utf8 in
     let size = length-append a b in
     let none : length a + 0 ≡ length a = add-zero (length a) in
@@ -420,8 +420,8 @@ boundary_behind a b utf8 =
 place_of : (t : Text) (p : Part) → IsPartOf (all_of t) p → IsPlace t (range_of p)
 place_of t p h =
     let regroup : h.front ++ (p.bytes ++ h.back) ≡ (h.front ++ p.bytes) ++ h.back = sym (append_assoc h.front p.bytes h.back) in
-    let first : IsCharBoundary (h.front ++ (p.bytes ++ h.back)) (length h.front) = boundary_behind h.front (p.bytes ++ h.back) (IsUtf8-append p.bytes h.back h.utf8 h.back_utf8) in
-    let last : IsCharBoundary ((h.front ++ p.bytes) ++ h.back) (length (h.front ++ p.bytes)) = boundary_behind (h.front ++ p.bytes) h.back h.back_utf8 in
+    let first : IsCharBoundary (h.front ++ (p.bytes ++ h.back)) (length h.front) = boundary_after h.front (p.bytes ++ h.back) (IsUtf8-append p.bytes h.back h.utf8 h.back_utf8) in
+    let last : IsCharBoundary ((h.front ++ p.bytes) ++ h.back) (length (h.front ++ p.bytes)) = boundary_after (h.front ++ p.bytes) h.back h.back_utf8 in
     let start : length h.front ≡ p.at = omega (arith, h.place) in
     let end : length (h.front ++ p.bytes) ≡ p.at + length p.bytes = length-append h.front p.bytes ∙ ap (λ (n : ℕ). n + length p.bytes) start in
     record {
@@ -430,7 +430,7 @@ place_of t p h =
       end = subst (λ (xs : List ℕ). IsCharBoundary xs (p.at + length p.bytes)) (sym (h.is ∙ regroup)) (subst (λ (n : ℕ). IsCharBoundary ((h.front ++ p.bytes) ++ h.back) n) end last);
     }
 
--- a name that is known: its ignore comment is among the first `count`, and it stands in the text
+-- a name that is known: its ignore comment is among the first `count`, and it is in the text
 pub record IsKnown (text : Text) (count : ℕ) (piece : IgnorePiece) : Type 0 where
   pub ignore : piece.ignore < count
   pub place : IsPlace text piece.range

@@ -30,7 +30,7 @@ begun_by s words begins = sym (same_text words (take (length words) s) (sym begi
 begun_size : (s words : List ℕ) → take (length words) s ≡ words → length words ≤ length s
 begun_size s words front = let size : length (take (length words) s) ≡ length words = ap length front in omega (arith, size, length-take (length words) s)
 
--- what a part of a text begins with stands in the text
+-- what a part of a text begins with is in the text
 occurs_in_whole : (whole front s back words : List ℕ) → whole ≡ front ++ (s ++ back) → starts_with nat_eq s words ≡ true → OccursAt whole words (length front)
 occurs_in_whole whole front s back words is begins =
     let cut : take (length words) s ≡ words = begun_by s words begins in

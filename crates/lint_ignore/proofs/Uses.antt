@@ -4,9 +4,7 @@ use Rattle.std.proofs.lemmas.Bool.{cases_Bool}
 use Rattle.std.proofs.lemmas.Bool.Decides.{nat_tests}
 use Rattle.std.proofs.lemmas.List.{take_more}
 use Rattle.std.proofs.lemmas.List.Folds.{list_any-append}
-use Rattle.std.specs.BTreeMap.{get}
 use Rattle.std.specs.List.{list_any}
-use Rattle.std.specs.Ordering.{nat_cmp}
 use Rattle.std.specs.Prelude.{◌==◌, ◌&&◌, ◌||◌}
 use Rattle.text_pos.specs.Line.{line_of}
 use Rattle.sql_token.specs.Token.{Text}
@@ -18,10 +16,11 @@ use Rattle.lint_ignore.specs.declared.ignore.Ignore.{Ignore}
 use Rattle.lint_ignore.specs.declared.ignore.IgnoreKind.TheVariants.{File, Line}
 use Rattle.lint_ignore.specs.declared.reported.ReportIndex.{ReportIndex}
 use Rattle.lint_ignore.specs.Covered.{line_of_ignore}
-use Rattle.lint_ignore.specs.Index.{is_among}
+use Rattle.lint_ignore.specs.Lines.{at_line, is_among}
 use Rattle.lint_ignore.specs.Reported.{AddsReport, IsReportIndex, anywhere, reports_rule, starts_on}
 use Rattle.lint_ignore.specs.Unused.{is_used, meets, reaches_by}
-use Rattle.lint_ignore.proofs.RuleNumbers.{in_all_rules, same_number}
+use Rattle.lint_base.proofs.RuleSets.{rule_from_number}
+use Rattle.lint_ignore.proofs.RuleNumbers.{in_all_rules}
 
 -- ---- one more report
 
@@ -40,7 +39,7 @@ report_more old new text vs v h adds = record {
   lines = adds.lines ∙ h.lines;
   rules = λ rule. grow (reports_rule anywhere rule) vs v (has old.rules rule) (has new.rules rule) (h.rules rule) (adds.rules rule);
   by_line =
-      λ line rule. grow (reports_rule (starts_on text line) rule) vs v (is_among (get nat_cmp old.by_line line) rule) (is_among (get nat_cmp new.by_line line) rule) (h.by_line line rule) (adds.by_line text h.lines line rule);
+      λ line rule. grow (reports_rule (starts_on text line) rule) vs v (is_among (at_line old.by_line line) rule) (is_among (at_line new.by_line line) rule) (h.by_line line rule) (adds.by_line text h.lines line rule);
 }
 
 pub index_goes_on : (old new : ReportIndex) (text : Text) (vs : List Violation) (i : ℕ) (v : Violation) → IsReportIndex old text (take i vs) → i < length vs → v ≡ get_or vs i v → AddsReport old new v → IsReportIndex new text (take (i + 1) vs)
@@ -98,7 +97,7 @@ one_rule set b q r = elim (cases_Bool (number_of q == number_of r)) [ inl e ↦ 
 
     same : (number_of q == number_of r) ≡ true → (has set r && (b && number_of r == number_of q)) ≡ ((b && has set q) && number_of q == number_of r)
     same e =
-        let is : q ≡ r = same_number q r (equal (number_of q) (number_of r) e) in
+        let is : q ≡ r = rule_from_number q r (equal (number_of q) (number_of r) e) in
         let first : (number_of r == number_of q) ≡ true = turned (number_of r) (number_of q) ∙ e in
         (λ i. has set r && (b && first i))
         ∙ (ap (λ (x : Rule). has set x && (b && true)) (sym is) ∙ (swapped (has set q) b ∙ ap (λ (c : Bool). (b && has set q) && c) (sym e)))
@@ -157,8 +156,8 @@ used_by_file index text g set vs kind h =
 
 -- a line ignore
 pub used_by_line : (index : ReportIndex) (text : Text) (g : Ignore) (set here next : Rules) (vs : List Violation) (line : ℕ) → g.kind ≡ Line → IsReportIndex index text vs → line ≡ line_of_ignore text g
-    → ((r : Rule) → has here r ≡ is_among (get nat_cmp index.by_line line) r)
-    → ((r : Rule) → has next r ≡ is_among (get nat_cmp index.by_line (line + 1)) r)
+    → ((r : Rule) → has here r ≡ is_among (at_line index.by_line line) r)
+    → ((r : Rule) → has next r ≡ is_among (at_line index.by_line (line + 1)) r)
     → (meets set here || meets set next) ≡ is_used text g set vs
 used_by_line index text g set here next vs line kind h place first second =
     (λ i. meets_reported set here (starts_on text line) vs (λ r. first r ∙ h.by_line line r) i || meets_reported set next (starts_on text (line + 1)) vs (λ r. second r ∙ h.by_line (line + 1) r) i)

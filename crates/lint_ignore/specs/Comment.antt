@@ -16,7 +16,7 @@ use Rattle.lint_ignore.specs.Part.{Part, range_of, part_after, part_before, trim
 
 -- ---- the body of a comment
 
--- what follows `--`, or stands between `/*` and `*/`
+-- what follows `--`, or is between `/*` and `*/`
 abbrev pub inside : TokKind → Part → Option Part
 inside LineComment p = Some (part_after 2 p)
 inside BlockComment p = Some (part_before (length p.bytes - 4) (part_after 2 p))
@@ -49,7 +49,7 @@ file_text = codes "squawk-ignore-file"
 abbrev pub disable_text : List ℕ
 disable_text = codes "squawk-disable-assume-in-transaction"
 
--- the rest behind the text that makes a body an ignore comment, and what it makes it
+-- the rest after the text that makes a body an ignore comment, and what it makes it
 abbrev pub ignore_in : Part → Option (Part × IgnoreKind)
 ignore_in body =
     if starts_with nat_eq body.bytes file_text then Some (part_after (length file_text) body, File)
@@ -79,7 +79,7 @@ has_disable_comment tree = list_any (is_disable_comment tree.text) tree.toks
 
 -- ---- where a comment is cut
 
--- a text of this kind may be cut behind its first mark, and before its last one if it has one
+-- a text of this kind may be cut after its first mark, and before its last one if it has one
 abbrev pub CanCutMarks : TokKind → List ℕ → Type 0
 CanCutMarks LineComment z = IsCharBoundary z 2
 CanCutMarks BlockComment z = (4 ≤ length z) × IsCharBoundary z 2 × IsCharBoundary z (length z - 2)

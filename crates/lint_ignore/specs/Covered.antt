@@ -10,7 +10,7 @@ use Rattle.lint_ignore.specs.declared.ignore.Ignore.{Ignore}
 use Rattle.lint_ignore.specs.declared.ignore.IgnoreKind.{IgnoreKind}
 use Rattle.lint_ignore.specs.declared.ignore.IgnoreKind.TheVariants.{File, Line}
 
--- the line on which an ignore comment stands: that of its range's start
+-- the line on which an ignore comment is there: that of its range's start
 abbrev pub line_of_ignore : Text → Ignore → ℕ
 line_of_ignore text g = line_of text g.range.start
 

@@ -3,6 +3,7 @@ pub mod Comment
 pub mod Names
 pub mod Found
 pub mod Covered
+pub mod Lines
 pub mod Index
 pub mod Unused
 pub mod Reported

@@ -4,7 +4,7 @@ use Rattle.std.specs.Str.{trim, trim_start, trim_end}
 use Rattle.text_pos.specs.Range.{Range}
 use Rattle.lint_ignore.specs.declared.part.Part.{Part as Kept}
 
--- the bytes of a part of a text, the first of which stands at `at`
+-- the bytes of a part of a text, the first of which is at `at`
 pub record Part : Type 0 where
   pub at : ℕ
   pub bytes : List ℕ
@@ -45,7 +45,7 @@ abbrev pub with_front : ℕ → ℕ → List Part → List Part
 with_front at b [] = []
 with_front at b (p ∷ ps) = record { at = at; bytes = b ∷ p.bytes } ∷ ps
 
--- the pieces between the commas of some bytes, the first of which stands at `at`
+-- the pieces between the commas of some bytes, the first of which is at `at`
 abbrev pub pieces_from : ℕ → List ℕ → List Part
 pieces_from at [] = record { at = at; bytes = [] } ∷ []
 pieces_from at (b ∷ bs) =

@@ -1,4 +1,4 @@
--- Where the names in ignore comments stand.
+-- Where the names in ignore comments are there.
 use Rattle.std.specs.Prelude.{◌≤◌, All}
 use Rattle.std.specs.Str.{IsCharBoundary, IsUtf8}
 use Rattle.sql_token.specs.Token.{Text}
@@ -12,7 +12,7 @@ pub record IsPlace (text : Text) (range : Range) : Type 0 where
   pub start : IsCharBoundary text range.start
   pub end : IsCharBoundary text range.end
 
--- Each name in the ignore comments of a UTF-8 text stands in the text, whether it is known or not.
+-- Each name in the ignore comments of a UTF-8 text is in the text, whether it is known or not.
 pub record NamesStand (tree : Tree) : Type 0 where
   pub unknown : All (λ v. IsPlace tree.text v.text_range) (found_in tree).reports
   pub known : All (λ piece. IsPlace tree.text piece.range) (found_in tree).pieces

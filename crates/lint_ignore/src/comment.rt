@@ -98,7 +98,7 @@ pub(crate) fn ignore_of<'t>(p: &Parse<'t>, i: usize) -> Option<(Part<'t>, Ignore
 }
 
 /// What token `i` says as an ignore comment: what follows [`IGNORE_LINE_TEXT`] or
-/// [`IGNORE_FILE_TEXT`] in its body, where that stands in the text, and its kind.
+/// [`IGNORE_FILE_TEXT`] in its body, where that is present in the text, and its kind.
 ///
 /// `None` comes exactly where the token is no ignore comment. It takes no memory.
 pub fn ignore_rule_info<'t>(p: &Parse<'t>, i: usize) -> Option<(&'t str, TextRange, IgnoreKind)>
@@ -111,7 +111,7 @@ pub fn ignore_rule_info<'t>(p: &Parse<'t>, i: usize) -> Option<(&'t str, TextRan
     }
 }
 
-// Whether the body of some comment may begin with these words: whether they stand anywhere in the
+// Whether the body of some comment may begin with these words: whether they are there anywhere in the
 // text. Most texts lack them, and a text is searched much faster than its tokens, which take several
 // times its memory.
 pub(crate) fn may_begin_body(p: &Parse, words: &str) -> bool

@@ -67,7 +67,7 @@ fn unknown_message(alloc: Global, name: &str) -> Result<Text, NoMemory>
 }
 
 // Keeps a name of an ignore comment: what it names, or a report that it names nothing. After the
-// error, which is want of memory, nothing has changed.
+// error, which comes when memory runs out, nothing has changed.
 fn read_name(
     alloc: Global,
     name: Part<'_>,
@@ -99,7 +99,7 @@ fn read_name(
 }
 
 // Keeps a piece between commas, without white space at its ends, and puts the rules that it names
-// into `names`; a piece without bytes is no name. After the error, which is want of memory, nothing
+// into `names`; a piece without bytes is no name. After the error, which comes when memory runs out, nothing
 // has been kept.
 fn read_piece(
     alloc: Global,
@@ -122,7 +122,7 @@ fn read_piece(
 }
 
 // Keeps the names in what follows the prefix of an ignore comment, and answers the rules that they
-// name. After the error, which is want of memory, each list has grown by a front of what it was
+// name. After the error, which comes when memory runs out, each list has grown by a front of what it was
 // to grow by.
 fn read_names(
     alloc: Global,
@@ -144,7 +144,7 @@ fn read_names(
     Ok(names)
 }
 
-// Keeps an ignore comment whose body goes on with `rest`. After the error, which is want of memory,
+// Keeps an ignore comment whose body goes on with `rest`. After the error, which comes when memory runs out,
 // each list has grown by a front of what it was to grow by.
 fn add_ignore(
     alloc: Global,
@@ -170,7 +170,7 @@ fn add_ignore(
 /// Finds the ignore comments of a text, in order, and adds them, the names in them that name a
 /// rule, and reports of those that name none, to what is found already.
 ///
-/// The error is want of memory; then each list is the old one followed by a front of what it was to
+/// The error comes when memory runs out; then each list is the old one followed by a front of what it was to
 /// grow by.
 pub fn find_ignores(alloc: Global, p: &Parse, found: &mut Found) -> Result<(), NoMemory>
     ensures ok { OnOk result (lists_of found.new ≡ followed_by (lists_of found.old) (found_from (length found.old.ignores.items) p.now)) }

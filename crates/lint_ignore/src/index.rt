@@ -1,16 +1,15 @@
 //! Looking up which reports the ignore comments cover.
 ghost use Rattle.std.specs.Prelude.{◌≡◌, ◌||◌, true, false, ◌<◌, ◌^◌, [], List, length, IfOk, OnOk};
-ghost use Rattle.std.specs.BTreeMap.{get};
-ghost use Rattle.std.specs.Ordering.{nat_cmp};
 ghost use Rattle.sql_token.specs.Token.{Text};
 ghost use Rattle.lint_base.specs.declared.rule.Rule.{Rule};
 ghost use Rattle.lint_base.specs.RuleSets.{has};
 ghost use Rattle.lint_ignore.specs.declared.ignore.Ignore.{Ignore};
+ghost use Rattle.lint_ignore.specs.Index.{names};
 
 use crate::ignore::{Ignore, IgnoreKind};
+use crate::lines::LineRules;
 use lint_base::{Rule, RuleSet};
 use std::alloc::Global;
-use std::collections::BTreeMap;
 use std::fmt;
 use std::fmt::Write;
 use text_pos::{LineIndex, NoMemory, TextRange};
@@ -24,14 +23,24 @@ pub struct IgnoreIndex {
     lines: LineIndex,
     covers_all: bool,
     file: RuleSet,
-    by_line: BTreeMap<u32, RuleSet>,
+    by_line: LineRules,
+}
+
+// The rules that an ignore comment names: none where it is bare.
+fn named_rules(ignore: &Ignore) -> RuleSet
+    ensures { (rule : Rule) → has result rule ≡ names ignore.now rule }
+{
+    if ignore.ignore_all {
+        return RuleSet::empty();
+    }
+    ignore.violation_names
 }
 
 impl IgnoreIndex {
     ghost use Rattle.lint_ignore.specs.Covered.{is_covered};
-    ghost use Rattle.lint_ignore.specs.Index.{AddsIgnore, IsIndexOf, is_among, is_file, knows, names};
+    ghost use Rattle.lint_ignore.specs.Index.{AddsIgnore, IsIndexOf, is_file, knows};
 
-    /// The index of the ignore comments of a text. The error is want of memory.
+    /// The index of the ignore comments of a text. The error comes when memory runs out.
     pub fn new(alloc: Global, text: &str, ignores: &[Ignore]) -> Result<IgnoreIndex, NoMemory>
         requires { length text.now < 2 ^ 32 }
         ensures { IfOk result (λ index. IsIndexOf index text.now ignores.now) }
@@ -52,7 +61,7 @@ impl IgnoreIndex {
             lines: LineIndex::new(alloc, text)?,
             covers_all: false,
             file: RuleSet::empty(),
-            by_line: BTreeMap::new(alloc),
+            by_line: LineRules::new(alloc),
         })
     }
 
@@ -84,47 +93,25 @@ impl IgnoreIndex {
         ensures { OnOk result (AddsIgnore self.old self.new ignore.now) }
     {
         let line = self.lines.line(ignore.range.start());
-        let rules = self.rules_with(line, ignore);
-        self.by_line.insert(line, rules)?;
+        self.by_line.add(line as usize, named_rules(ignore))?;
         Ok(())
     }
 
-    // The rules that the line ignores of a line name, and those that one more of them names.
-    fn rules_with(&self, line: u32, ignore: &Ignore) -> RuleSet
-        ensures { (rule : Rule) → has result rule ≡ (is_among (get nat_cmp self.now.by_line line) rule || names ignore.now rule) }
-    {
-        let rules = self.rules_on(line);
-        if ignore.ignore_all {
-            return rules;
-        }
-        rules.union(ignore.violation_names)
-    }
-
-    // The rules that the line ignores of a line name.
-    fn rules_on(&self, line: u32) -> RuleSet
-        ensures { (rule : Rule) → has result rule ≡ is_among (get nat_cmp self.now.by_line line) rule }
-    {
-        match self.by_line.get(&line) {
-            Some(rules) => *rules,
-            None => RuleSet::empty(),
-        }
-    }
-
     // Whether the ignore comments cover a report of a rule on a line.
-    fn covers(&self, line: u32, rule: Rule) -> bool
+    fn covers(&self, line: usize, rule: Rule) -> bool
         ensures { result ≡ knows self.now line rule }
     {
         self.covers_all
             || self.file.contains(rule)
-            || self.rules_on(line).contains(rule)
-            || (line > 0 && self.rules_on(line - 1).contains(rule))
+            || self.by_line.on(line).contains(rule)
+            || (line > 0 && self.by_line.on(line - 1).contains(rule))
     }
 
     /// Whether the ignore comments cover a report of a rule on a range of the text.
     pub fn contains(&self, range: TextRange, rule: Rule) -> bool
         ensures { (text : Text) (ignores : List Ignore) → IsIndexOf self.now text ignores → result ≡ is_covered text ignores range rule }
     {
-        self.covers(self.lines.line(range.start()), rule)
+        self.covers(self.lines.line(range.start()) as usize, rule)
     }
 }
 
@@ -144,10 +131,12 @@ fn write_rules<W: fmt::Write>(f: &mut fmt::Formatter<W>, rules: RuleSet) -> fmt:
 impl fmt::Debug for IgnoreIndex {
     fn fmt<W: fmt::Write>(&self, f: &mut fmt::Formatter<W>) -> fmt::Result {
         f.write_str("IgnoreIndex:\n")?;
-        for (line, rules) in self.by_line.iter() {
-            write!(f, "  {line}: {{")?;
-            write_rules(f, *rules)?;
-            f.write_str("}\n")?;
+        for (line, set) in self.by_line.sets().iter().enumerate() {
+            if let Some(rules) = set {
+                write!(f, "  {line}: {{")?;
+                write_rules(f, *rules)?;
+                f.write_str("}\n")?;
+            }
         }
         Ok(())
     }

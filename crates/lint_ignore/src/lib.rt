@@ -11,6 +11,7 @@ mod found;
 mod ignore;
 mod index;
 pub mod laws;
+mod lines;
 mod part;
 mod reported;
 mod sets;

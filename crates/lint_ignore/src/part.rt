@@ -44,7 +44,7 @@ impl<'t> Part<'t> {
         Part { at, text }.trimmed_end()
     }
 
-    /// What stands before the first `--`, or all of it.
+    /// What comes before the first `--`, or all of it.
     pub(crate) fn before_dashes(self) -> Part<'t>
         ensures { part_of result ≡ part_before_dashes (part_of self.entry) }
     {

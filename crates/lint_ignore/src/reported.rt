@@ -1,17 +1,15 @@
 //! Looking up which rules some reports have, and on which lines.
 ghost use Rattle.std.specs.Prelude.{◌≡◌, ◌<◌, ◌^◌, [], List, length, IfOk, OnOk};
-ghost use Rattle.std.specs.BTreeMap.{get};
-ghost use Rattle.std.specs.Ordering.{nat_cmp};
 ghost use Rattle.sql_token.specs.Token.{Text};
 ghost use Rattle.lint_base.specs.declared.rule.Rule.{Rule};
 ghost use Rattle.lint_base.specs.declared.violation.Violation.{Violation};
 ghost use Rattle.lint_base.specs.RuleSets.{has};
 
 use crate::ignore::{Ignore, IgnoreKind};
-use crate::sets::{meets, with_rule};
+use crate::lines::LineRules;
+use crate::sets::with_rule;
 use lint_base::{RuleSet, Violation};
 use std::alloc::Global;
-use std::collections::BTreeMap;
 use text_pos::{LineIndex, NoMemory, TextRange};
 
 /// The rules of some reports of a text, and those on each of its lines.
@@ -22,17 +20,16 @@ use text_pos::{LineIndex, NoMemory, TextRange};
 pub(crate) struct ReportIndex {
     lines: LineIndex,
     rules: RuleSet,
-    by_line: BTreeMap<u64, RuleSet>,
+    by_line: LineRules,
 }
 
 impl ReportIndex {
-    ghost use Rattle.lint_ignore.specs.Index.{is_among};
     ghost use Rattle.lint_ignore.specs.Reported.{AddsReport, IsReportIndex};
     ghost use Rattle.lint_ignore.specs.Unused.{is_used};
     ghost use Rattle.std.specs.Prelude.{◌+◌};
     ghost use Rattle.text_pos.specs.Line.{line_feeds, line_of};
 
-    /// The index of some reports of a text. The error is want of memory.
+    /// The index of some reports of a text. The error comes when memory runs out.
     pub(crate) fn new(alloc: Global, text: &str, all: &[Violation]) -> Result<ReportIndex, NoMemory>
         requires { length text.now < 2 ^ 32 }
         ensures { IfOk result (λ index. IsReportIndex index text.now all.now) }
@@ -52,7 +49,7 @@ impl ReportIndex {
         Ok(ReportIndex {
             lines: LineIndex::new(alloc, text)?,
             rules: RuleSet::empty(),
-            by_line: BTreeMap::new(alloc),
+            by_line: LineRules::new(alloc),
         })
     }
 
@@ -61,28 +58,18 @@ impl ReportIndex {
         ensures { OnOk result (AddsReport self.old self.new report.now) }
     {
         let line = self.line(report.text_range);
-        let rules = with_rule(self.rules_on(line), report.code);
-        self.by_line.insert(line, rules)?;
+        self.by_line
+            .add(line, with_rule(RuleSet::empty(), report.code))?;
         self.rules = with_rule(self.rules, report.code);
         Ok(())
     }
 
     // The line on which a range starts.
-    fn line(&self, range: TextRange) -> u64
+    fn line(&self, range: TextRange) -> usize
         ensures line { (text : Text) → self.now.lines ≡ line_feeds text → result ≡ line_of text range.start }
         ensures small { result < 2 ^ 32 }
     {
-        u64::from(self.lines.line(range.start()))
-    }
-
-    // The rules that are reported on a line.
-    fn rules_on(&self, line: u64) -> RuleSet
-        ensures { (rule : Rule) → has result rule ≡ is_among (get nat_cmp self.now.by_line line) rule }
-    {
-        match self.by_line.get(&line) {
-            Some(rules) => *rules,
-            None => RuleSet::empty(),
-        }
+        self.lines.line(range.start()) as usize
     }
 
     /// Whether a report has one of some rules and starts on a line that an ignore comment reaches.
@@ -90,11 +77,11 @@ impl ReportIndex {
         ensures { (text : Text) (all : List Violation) → IsReportIndex self.now text all → result ≡ is_used text ignore.now rules all }
     {
         match ignore.kind {
-            IgnoreKind::File => meets(rules, self.rules),
+            IgnoreKind::File => rules.intersects(self.rules),
             IgnoreKind::Line => {
                 let line = self.line(ignore.range);
-                let here = meets(rules, self.rules_on(line));
-                let next = meets(rules, self.rules_on(line + 1));
+                let here = rules.intersects(self.by_line.on(line));
+                let next = rules.intersects(self.by_line.on(line + 1));
                 here || next
             }
         }

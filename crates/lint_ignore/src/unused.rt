@@ -10,7 +10,6 @@ ghost use Rattle.lint_ignore.specs.Unused.{bytes_in, is_unused, unused_message, 
 
 use crate::ignore::{Ignore, IgnorePiece};
 use crate::reported::ReportIndex;
-use crate::sets::meets;
 use lint_base::{Reports, Rule, RuleSet, Text, Violation};
 use sql_tree::Parse;
 use std::alloc::Global;
@@ -32,7 +31,7 @@ fn unused_message(alloc: Global, name: &str) -> Result<Text, NoMemory>
     Ok(Text::made(format!(in alloc; "unused ignore `{name}`")?))
 }
 
-// Reports a name. After the error, which is want of memory, nothing has been reported.
+// Reports a name. After the error, which comes when memory runs out, nothing has been reported.
 fn report_unused(
     alloc: Global,
     text: &str,
@@ -54,7 +53,7 @@ fn is_unused(index: &ReportIndex, ignores: &[Ignore], enabled: RuleSet, piece: &
     ensures { (text : Text) (all : List Violation) → IsReportIndex index.now text all
         → result ≡ is_unused text ignores.now all enabled piece.now }
 {
-    meets(piece.rules, enabled) && !index.is_used(&ignores[piece.ignore], piece.rules)
+    piece.rules.intersects(enabled) && !index.is_used(&ignores[piece.ignore], piece.rules)
 }
 
 /// Reports the names that [`find_ignores`](crate::find_ignores) found in the ignore comments of a
@@ -65,7 +64,7 @@ fn is_unused(index: &ReportIndex, ignores: &[Ignore], enabled: RuleSet, piece: &
 /// before; `all` are the reports before any is left out. For n names and reports it takes time
 /// n log n.
 ///
-/// The error is want of memory; then a first part of the reports has been added.
+/// The error comes when memory runs out; then a first part of the reports has been added.
 pub fn unused_pieces(
     alloc: Global,
     p: &Parse<'_>,

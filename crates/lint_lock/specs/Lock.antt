@@ -1,5 +1,5 @@
 -- The lock that a statement takes on its table (PostgreSQL manual, section 13.3.1 and the statements' pages).
-use Rattle.std.specs.Prelude.{ℕ, nat_lt, Bool, true, false, if◌then◌else◌, List, [], ◌∷◌, fold, Option, Some, None, is_some, codes}
+use Rattle.std.specs.Prelude.{ℕ, max, Bool, true, false, if◌then◌else◌, List, [], ◌∷◌, fold, map, slice_index_or, Option, Some, None, is_some, codes}
 use Rattle.sql_tree.specs.declared.kinds.ActionKind.{ActionKind}
 use Rattle.sql_tree.specs.declared.kinds.ActionKind.TheVariants as action
 use Rattle.sql_tree.specs.declared.kinds.PieceKind.{PieceKind}
@@ -101,13 +101,17 @@ lock_by_action _ a = AccessExclusive
 abbrev pub lock_of_action : Action → LockKind
 lock_of_action a = lock_by_action a.kind a
 
-abbrev pub stronger : LockKind → LockKind → LockKind
-stronger a b = if nat_lt (strength a) (strength b) then b else a
+-- the locks by their strength
+abbrev pub all_locks : List LockKind
+all_locks = Unknown ∷ AccessShare ∷ RowShare ∷ RowExclusive ∷ ShareUpdateExclusive ∷ Share ∷ ShareRowExclusive ∷ Exclusive ∷ AccessExclusive ∷ []
 
--- the strongest lock of the actions, or this one
-abbrev pub strongest : LockKind → List Action → LockKind
-strongest lock [] = lock
-strongest lock (a ∷ others) = strongest (stronger lock (lock_of_action a)) others
+-- the greatest strength of the actions' locks, or 0 where there is no action
+abbrev pub greatest_strength : List Action → ℕ
+greatest_strength actions = fold max 0 (map (λ a. strength (lock_of_action a)) actions)
+
+-- the strongest lock of the actions, or Unknown where there is no action
+abbrev pub strongest : List Action → LockKind
+strongest actions = slice_index_or all_locks (greatest_strength actions) Unknown
 
 -- ---- statements
 
@@ -115,7 +119,7 @@ abbrev pub actions_by : Body → List Action
 actions_by (body.Alter path actions) = actions
 actions_by _ = []
 
--- CONCURRENTLY stands
+-- CONCURRENTLY is there
 abbrev pub is_concurrent : Body → Bool
 is_concurrent (body.Index word unique concurrently guarded name path) = is_some concurrently
 is_concurrent (body.Drop word concurrently guarded paths) = concurrently
@@ -136,7 +140,7 @@ is_full (body.Vacuum full tables) = full
 is_full _ = false
 
 abbrev pub lock_by : StmtKind → Body → LockKind
-lock_by stmt.AlterTable b = strongest Unknown (actions_by b)
+lock_by stmt.AlterTable b = strongest (actions_by b)
 lock_by stmt.Cluster b = AccessExclusive
 lock_by stmt.DropTable b = AccessExclusive
 lock_by stmt.DropView b = AccessExclusive

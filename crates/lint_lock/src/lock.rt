@@ -1,8 +1,7 @@
 //! The lock that a statement takes on its table (PostgreSQL manual, section 13.3.1).
 
-ghost use Rattle.std.specs.Prelude.{◌≡◌, if◌then◌else◌};
+ghost use Rattle.std.specs.Prelude.{◌≡◌, max, if◌then◌else◌};
 ghost use Rattle.lint_lock.specs.Lock as spec;
-ghost use Rattle.lint_lock.specs.declared.lock.LockKind.TheVariants as kind;
 
 use sql_tree::{
     Action, ActionKind, Body, ConKind, LockMode, Parse, Piece, PieceKind, Stmt, StmtKind,
@@ -83,8 +82,9 @@ fn of_action(a: &Action) -> LockKind
     }
 }
 
+/// The lock of the greater strength.
 fn stronger(lock: LockKind, other: LockKind) -> LockKind
-    ensures { result ≡ spec.stronger lock other }
+    ensures { spec.strength result ≡ max (spec.strength lock) (spec.strength other) }
 {
     if lock.strength() < other.strength() {
         other
@@ -94,13 +94,11 @@ fn stronger(lock: LockKind, other: LockKind) -> LockKind
 }
 
 fn strongest(actions: &[Action]) -> LockKind
-    ensures { result ≡ spec.strongest kind.Unknown actions.now }
+    ensures { result ≡ spec.strongest actions.now }
 {
     let mut lock = LockKind::Unknown;
-    let mut left = actions;
-    while let [first, rest @ ..] = left {
-        lock = stronger(lock, of_action(first));
-        left = rest;
+    for action in actions {
+        lock = stronger(lock, of_action(action));
     }
     lock
 }
@@ -108,7 +106,7 @@ fn strongest(actions: &[Action]) -> LockKind
 // ---- statements
 
 fn of_alter(body: &Body) -> LockKind
-    ensures { result ≡ spec.strongest kind.Unknown (spec.actions_by body.now) }
+    ensures { result ≡ spec.strongest (spec.actions_by body.now) }
 {
     match body {
         Body::Alter { actions, .. } => strongest(actions.as_slice()),
@@ -116,7 +114,7 @@ fn of_alter(body: &Body) -> LockKind
     }
 }
 
-/// Whether CONCURRENTLY stands.
+/// Whether CONCURRENTLY is there.
 fn is_concurrent(body: &Body) -> bool
     ensures { result ≡ spec.is_concurrent body.now }
 {
@@ -147,7 +145,7 @@ fn is_full(body: &Body) -> bool
     }
 }
 
-/// The lock where CONCURRENTLY stands, or the other one.
+/// The lock where CONCURRENTLY is there, or the other one.
 fn if_concurrent(body: &Body, lock: LockKind, other: LockKind) -> LockKind
     ensures { result ≡ (if spec.is_concurrent body.now then lock else other) }
 {

@@ -1,18 +1,17 @@
 -- How the blocks that are found go on from statement to statement.
-use Rattle.std.proofs.Common.{◌≡◌, refl, sym, ◌∙◌, ap, subst, ℕ, zero, suc, ◌+◌, ◌<◌, Bool, true, false, ◌&&◌, ◌||◌, not, cond, nat_lt, List, [], ◌∷◌, ◌++◌, map, add-one, Option, Some, None, arith}
-use Rattle.std.proofs.lemmas.Bool.{lt-ltb}
+use Rattle.std.proofs.Common.{◌≡◌, refl, sym, ◌∙◌, ap, subst, ℕ, zero, suc, ◌+◌, ◌<◌, Bool, true, false, ◌&&◌, ◌||◌, not, cond, List, [], ◌∷◌, ◌++◌, map, add-one, Option, Some, None, arith}
 use Rattle.std.proofs.lemmas.List.{map-append}
 use Rattle.std.proofs.lemmas.Grind.{flat_map-append}
 use Rattle.std.specs.List.{flat_map}
 use Rattle.std.specs.Option.{option_map, option_to_list}
 use Rattle.sql_tree.specs.declared.nodes.Stmt.{Stmt}
 use Rattle.sql_tree.specs.Statement.{Tree}
-use Rattle.lint_track.specs.Earlier.{any_between, pieces_below}
-use Rattle.lint_track.specs.Transaction.{is_begin_kind, stmt_at}
-use Rattle.lint_track.proofs.EarlierLaws.{any_between-next, any_between-suc}
+use Rattle.lint_transaction.specs.Earlier.{any_between, pieces_below}
+use Rattle.lint_transaction.specs.Transaction.{stmt_at}
+use Rattle.lint_transaction.proofs.EarlierLaws.{any_between-next, any_between-suc}
 use Rattle.lint_pass.specs.declared.blocks.Block.{Block}
 use Rattle.lint_pass.specs.declared.blocks.Opening.{Opening}
-use Rattle.lint_pass.specs.Blocks.{is_end_kind, is_stamp, begins_at, ends_at, bounds_at, stamps_at, leads_to, block_of, block_to}
+use Rattle.lint_pass.specs.Blocks.{begins_at, ends_at, bounds_at, stamps_at, leads_to, block_of, block_to}
 use Rattle.lint_pass.specs.BlockWalk.{opening_at, openings, stamped, opening_after, block_from, block_by}
 use Rattle.lint_pass.specs.Pieces.{no_piece}
 
@@ -80,7 +79,7 @@ after_by i false true stamp o = refl
 after_by i false false stamp None = refl
 after_by i false false stamp (Some o) = refl
 
--- what is known behind one more statement
+-- what is known after one more statement
 pub opening_next : (tree : Tree) (i : ℕ) (s : Stmt) (old new : Option Opening) → s ≡ stmt_at tree i → new ≡ opening_after tree s i old → option_to_list old ≡ openings tree i → option_to_list new ≡ openings tree (i + 1)
 opening_next tree i s old new e n h =
     let now : option_to_list new ≡ openings tree (suc i) =

@@ -4,8 +4,8 @@ use Rattle.std.specs.List.{flat_map}
 use Rattle.std.specs.Option.{option_map, option_to_list}
 use Rattle.sql_tree.specs.declared.nodes.Stmt.{Stmt}
 use Rattle.sql_tree.specs.Statement.{Tree}
-use Rattle.lint_track.specs.Earlier.{any_between, pieces_below}
-use Rattle.lint_track.specs.Transaction.{is_begin_kind}
+use Rattle.lint_transaction.specs.Earlier.{any_between, pieces_below}
+use Rattle.lint_transaction.specs.Transaction.{is_begin_kind}
 use Rattle.lint_pass.specs.declared.blocks.Block.{Block}
 use Rattle.lint_pass.specs.declared.blocks.Opening.{Opening}
 use Rattle.lint_pass.specs.Blocks.{is_end_kind, is_stamp, leads_to, stamps_at}
@@ -21,7 +21,7 @@ openings tree i = pieces_below (opening_at tree i) i
 abbrev pub stamped : Bool → Opening → Opening
 stamped stamp o = record o { is_stamped = o.is_stamped || stamp }
 
--- the one behind s, which is statement i
+-- the one after s, which is statement i
 abbrev pub opening_after : Tree → Stmt → ℕ → Option Opening → Option Opening
 opening_after tree s i o =
     if is_begin_kind s.kind then Some (record { begin = i; is_stamped = false })

@@ -1,5 +1,5 @@
 -- The blocks that Alembic writes around a migration: from a BEGIN to the next COMMIT or ROLLBACK of any form, both
--- included, where an UPDATE of its version table stands between them.
+-- included, where an UPDATE of its version table is between them.
 use Rattle.std.specs.Prelude.{ℕ, Bool, true, false, ◌&&◌, ◌||◌, not, List, [], ◌∷◌, length, codes, if◌then◌else◌, Option, Some, None}
 use Rattle.std.specs.Str.{str_eq_ignore_ascii_case}
 use Rattle.sql_token.specs.declared.token.Span.{Span}
@@ -9,9 +9,9 @@ use Rattle.sql_tree.specs.declared.nodes.Body.{Body}
 use Rattle.sql_tree.specs.declared.nodes.Body.TheVariants as body
 use Rattle.sql_tree.specs.declared.nodes.Stmt.{Stmt}
 use Rattle.sql_tree.specs.Statement.{Tree}
-use Rattle.lint_track.specs.Earlier.{any_between, pieces_below}
-use Rattle.lint_track.specs.Names.{name_at}
-use Rattle.lint_track.specs.Transaction.{is_begin_kind, stmt_at}
+use Rattle.lint_transaction.specs.Earlier.{any_between, pieces_below}
+use Rattle.lint_transaction.specs.Names.{name_at}
+use Rattle.lint_transaction.specs.Transaction.{is_begin_kind, stmt_at}
 use Rattle.lint_pass.specs.declared.blocks.Block.{Block}
 
 -- ---- one statement
@@ -53,7 +53,7 @@ bounds_at tree i = begins_at tree i || ends_at tree i
 abbrev pub stamps_at : Tree → ℕ → Bool
 stamps_at tree i = is_stamp tree (stmt_at tree i)
 
--- statement b is a BEGIN, and no BEGIN, COMMIT or ROLLBACK stands between it and statement e
+-- statement b is a BEGIN, and no BEGIN, COMMIT or ROLLBACK is between it and statement e
 abbrev pub leads_to : Tree → ℕ → ℕ → Bool
 leads_to tree b e = begins_at tree b && not (any_between (bounds_at tree) b e)
 

@@ -1,5 +1,5 @@
 -- Reports whose ranges lie in the text of a tree.
-use Rattle.std.specs.Prelude.{◌≤◌, ℕ, List, length, All}
+use Rattle.std.specs.Prelude.{◌≤◌, List, length, All}
 use Rattle.text_pos.specs.Range.{Range}
 use Rattle.lint_base.specs.declared.violation.Violation.{Violation}
 use Rattle.sql_tree.specs.Statement.{Tree}

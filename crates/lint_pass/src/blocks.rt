@@ -9,7 +9,7 @@ ghost use Rattle.lint_pass.specs.BlockWalk.{stamped, opening_after, block_from, 
 
 use crate::cursor::Cursor;
 use crate::steps::Steps;
-use lint_track::name_at;
+use lint_transaction::name_at;
 use sql_token::Span;
 use sql_tree::{Body, Parse, Stmt, StmtKind};
 use std::alloc::Global;
@@ -27,7 +27,7 @@ pub struct Block {
     pub last: u32,
 }
 
-/// A BEGIN behind which no other one and no end stands yet, and whether the version table was written behind it.
+/// A BEGIN after which no other one and no end is there yet, and whether the version table was written after it.
 #[derive(Clone, Copy)]
 struct Opening {
     begin: u32,
@@ -98,7 +98,7 @@ fn push_block(blocks: &mut Vec<Block>, i: u32, opening: Option<Opening>) -> Resu
     }
 }
 
-/// The same BEGIN behind an UPDATE, which may write the version that a database is at.
+/// The same BEGIN after an UPDATE, which may write the version that a database is at.
 fn stamped(
     alloc: Global,
     p: &Parse<'_>,
@@ -116,9 +116,9 @@ fn stamped(
     }
 }
 
-/// Goes behind statement `i`: what is known of the block that may have begun, and the blocks that have ended.
+/// Goes after statement `i`: what is known of the block that may have begun, and the blocks that have ended.
 #[tactic(auto, using(crate::proofs::BlockLaws::not_stamped))]
-fn go_behind(
+fn go_after(
     alloc: Global,
     p: &Parse<'_>,
     s: &Stmt,
@@ -143,7 +143,7 @@ fn go_behind(
     Ok(())
 }
 
-/// The blocks of the cursor's tree, by place. The cursor stands before the first statement, and goes over all of them.
+/// The blocks of the cursor's tree, by place. The cursor comes before the first statement, and goes over all of them.
 pub fn find_blocks<L: Ledger>(
     alloc: Global,
     cursor: &mut Cursor<'_, '_>,
@@ -158,7 +158,7 @@ pub fn find_blocks<L: Ledger>(
     let mut blocks = Vec::new(alloc);
     let mut opening = None;
     while let Some((i, s)) = cursor.next(steps) {
-        go_behind(alloc, p, s, i, &mut opening, &mut blocks)?;
+        go_after(alloc, p, s, i, &mut opening, &mut blocks)?;
     }
     Ok(blocks)
 }

@@ -2,7 +2,7 @@
 
 ghost use Rattle.std.specs.Prelude.{◌≡◌, ◌+◌, ◌<◌, ◌^◌, length, IfSome, IfNone, is_some, if◌then◌else◌};
 ghost use Rattle.sql_tree.specs.Statement.{IsTree};
-ghost use Rattle.lint_track.specs.Transaction.{stmt_at};
+ghost use Rattle.lint_transaction.specs.Transaction.{stmt_at};
 
 use crate::steps::Steps;
 use sql_tree::{Parse, Stmt};
@@ -48,7 +48,7 @@ impl<'a, 't> Cursor<'a, 't> {
         self.file
     }
 
-    /// The next statement with its number, counted from 0, which is one step; `None` behind the last one, which is
+    /// The next statement with its number, counted from 0, which is one step; `None` after the last one, which is
     /// none.
     pub fn next<L: Ledger>(&mut self, steps: &mut Steps<L>) -> Option<(u32, &'a Stmt)>
         ensures tree { self.new.tree ≡ self.old.tree }

@@ -1,10 +1,11 @@
 //! The walk that feeds a step pass.
 
-ghost use Rattle.std.specs.Prelude.{◌≡◌, ◌+◌, ◌*◌, ◌<◌, ◌≤◌, ◌++◌, length, OnOk, OnErr};
+ghost use Rattle.std.specs.Prelude.{◌≡◌, ◌+◌, ◌*◌, ◌<◌, ◌≤◌, ◌++◌, length, true, OnOk, OnErr, IfOk};
+ghost use Rattle.lint_pass.specs.Blocks.{blocks_of};
 ghost use Rattle.lint_base.specs.Grown.{GrownBy};
 ghost use Rattle.lint_pass.specs.Cleared.{IsCleared};
 
-use crate::blocks::find_blocks;
+use crate::blocks::{Block, find_blocks};
 use crate::cursor::Cursor;
 use crate::step::StepPass;
 use crate::steps::Steps;
@@ -15,8 +16,28 @@ use std::marker::Brand;
 use std::sync::ledger::{Blank, Ledger};
 use text_pos::NoMemory;
 
-/// Feeds a pass with the statements of a tree, in order, and adds its reports. It goes over the statements twice: once for
-/// the blocks, and once for the pass. The error is want of memory; then a first part of the reports has been added.
+/// The blocks of the cursor's tree, where the pass looks at them, and none where it does not.
+fn wanted_blocks<P: StepPass, L: Ledger>(
+    alloc: Global,
+    pass: &P,
+    rules: &RuleSet,
+    cursor: &mut Cursor<'_, '_>,
+    steps: &mut Steps<L>,
+) -> Result<Vec<Block>, NoMemory>
+    requires { cursor.old.next ≡ 0 }
+    ensures tree { cursor.new.tree ≡ cursor.old.tree }
+    ensures blocks { IfOk result (λ blocks. P.wants pass.now rules.now ≡ true → blocks.items ≡ blocks_of cursor.old.tree) }
+    ensures steps { steps.new ≤ steps.old + length cursor.old.tree.stmts }
+{
+    if pass.wants_blocks(rules) {
+        find_blocks(alloc, cursor, steps)
+    } else {
+        Ok(Vec::new(alloc))
+    }
+}
+
+/// Feeds a pass with the statements of a tree, in order, and adds its reports. It goes over the statements once, and once
+/// before for the blocks, where the pass looks at them. The error comes when memory runs out; then a first part of the reports has been added.
 pub fn drive<P: StepPass, L: Ledger>(
     alloc: Global,
     pass: &P,
@@ -32,7 +53,7 @@ pub fn drive<P: StepPass, L: Ledger>(
     ensures steps { steps.new ≤ steps.old + 2 * length p.now.stmts }
 {
     let mut cursor = Cursor::new(p);
-    let blocks = find_blocks(alloc, &mut cursor, steps)?;
+    let blocks = wanted_blocks(alloc, pass, rules, &mut cursor, steps)?;
     cursor.rewind();
     let mut state = pass.start(alloc, set)?;
     while let Some((i, s)) = cursor.next(steps) {

@@ -5,20 +5,30 @@
 //! the blocks of statements that a migration tool wrote, and `Walk` what a cursor shows.
 #![tactic(auto)]
 
+mod bans;
 mod blocks;
 mod cursor;
 mod feed;
+mod nodes;
 mod nothing;
 mod pair;
 mod pass;
+mod rule_pass;
+mod ruled;
+mod statement_pass;
 mod step;
 mod steps;
 
+pub use bans::{BanPass, BanRows, Spot};
 pub use blocks::{Block, find_blocks};
 pub use cursor::Cursor;
 pub use feed::{drive, walk};
+pub use nodes::{Node, NodeReader, report_nodes};
 pub use nothing::NoPass;
 pub use pair::{Pair, PairState};
 pub use pass::Pass;
+pub use rule_pass::RulePass;
+pub use ruled::{RuledRows, report_ruled};
+pub use statement_pass::StatementPass;
 pub use step::StepPass;
 pub use steps::Steps;

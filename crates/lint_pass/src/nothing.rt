@@ -12,8 +12,10 @@ use text_pos::NoMemory;
 pub struct NoPass;
 
 impl StepPass for NoPass {
-    ghost use Rattle.std.specs.Prelude.{[], length};
+    ghost use Rattle.std.specs.Prelude.{[], false, length, refl};
+    ghost use Rattle.std.proofs.lemmas.List.Elements.{All-nil};
     ghost use Rattle.lint_base.specs.RuleSets.{no_rules};
+    ghost use Rattle.lint_pass.specs.Laws.{IsOf, StandsIn};
     ghost use Rattle.lint_pass.specs.Pieces.{no_pieces};
 
     type State = ();
@@ -22,14 +24,28 @@ impl StepPass for NoPass {
 
     ghost at = { λ _ _ _ _ _ _. Unit {0} };
 
+    ghost wants = { λ _ _. false };
+
     ghost piece = { λ _ _ _ _ _. [] };
 
     ghost tail = { λ _ _ _ _. [] };
 
     ghost table = { λ _ _ _ _. [] };
 
+    ghost whole = { λ _ tree _ _. no_pieces [] (length tree.stmts) };
+
+    ghost coded = { λ _ _ r _. All-nil (IsOf no_rules r) };
+
+    ghost placed = { λ _ tree _ _ _. All-nil (StandsIn tree) };
+
+    ghost apart = { λ _ _ _ _ _ _ _. refl };
+
     fn rules(&self) -> RuleSet {
         RuleSet::empty()
+    }
+
+    fn wants_blocks(&self, _rules: &RuleSet) -> bool {
+        false
     }
 
     fn start(&self, _alloc: Global, _set: &LinterSettings) -> Result<(), NoMemory> {
@@ -61,6 +77,4 @@ impl StepPass for NoPass {
     ) -> Result<(), NoMemory> {
         Ok(())
     }
-
-    ghost whole = { λ _ tree _ _. no_pieces [] (length tree.stmts) };
 }

@@ -30,7 +30,7 @@ pub trait Pass {
         ensures { result ≡ own self.now };
 
     /// Adds its reports for a tree, those of enabled rules alone. The settings assume no transaction where a comment of
-    /// the text says so (`lint_ignore::has_disable_assume_in_transaction`). The error is want of memory; then a first
+    /// the text says so (`lint_ignore::has_disable_assume_in_transaction`). The error comes when memory runs out; then a first
     /// part of the reports has been added.
     fn run(
         &self,

@@ -1,8 +1,8 @@
 //! Passes that are told one statement after another.
 
-ghost use Rattle.std.specs.Prelude.{◌≡◌, ◌+◌, ◌<◌, ◌++◌, length, OnOk, OnErr, IfOk};
+ghost use Rattle.std.specs.Prelude.{◌≡◌, ◌+◌, ◌<◌, ◌++◌, length, true, OnOk, OnErr, IfOk};
 ghost use Rattle.lint_base.specs.Grown.{GrownBy};
-ghost use Rattle.lint_track.specs.Transaction.{stmt_at};
+ghost use Rattle.lint_transaction.specs.Transaction.{stmt_at};
 ghost use Rattle.lint_pass.specs.Cleared.{IsCleared};
 
 use crate::blocks::Block;
@@ -17,13 +17,15 @@ use text_pos::NoMemory;
 /// A state belongs to one walk: the pass, tree, rules and settings of all its calls are the same. It holds no text of the
 /// tree, which is at hand in each call.
 pub trait StepPass {
-    ghost use Rattle.std.specs.Prelude.{ℕ, List};
+    ghost use Rattle.std.specs.Prelude.{ℕ, Bool, List, All};
     ghost use Rattle.sql_tree.specs.Statement.{Tree};
-    ghost use Rattle.lint_base.specs.RuleSets.{Rules};
+    ghost use Rattle.lint_base.specs.RuleSets.{Rules, has};
+    ghost use Rattle.lint_base.specs.declared.rule.Rule.{Rule};
     ghost use Rattle.lint_base.specs.declared.settings.LinterSettings.{LinterSettings};
     ghost use Rattle.lint_base.specs.declared.violation.Violation.{Violation};
-    ghost use Rattle.lint_track.specs.Earlier.{pieces_below};
+    ghost use Rattle.lint_transaction.specs.Earlier.{pieces_below};
     ghost use Rattle.lint_pass.specs.Blocks.{blocks_of};
+    ghost use Rattle.lint_pass.specs.Laws.{IsOf, IsRead, StandsIn, reports_by};
 
     /// The rules that it reports.
     ghost own: { Self → Rules };
@@ -31,23 +33,42 @@ pub trait StepPass {
     /// What the pass remembers of the statements that it was told.
     type State: Drop;
 
-    /// A state is the one behind the first statements of a tree, under rules and settings; the number says how many.
+    /// A state is the one after the first statements of a tree, under rules and settings; the number says how many.
     ghost at: { Self → Self.State → Tree → Rules → LinterSettings → ℕ → Type 0 };
+
+    /// Whether it looks at the blocks of a text, under these rules.
+    ghost wants: { Self → Rules → Bool };
 
     /// The reports on the statement of this number.
     ghost piece: { Self → Tree → Rules → LinterSettings → ℕ → List Violation };
 
-    /// The reports behind the last statement.
+    /// The reports after the last statement.
     ghost tail: { Self → Tree → Rules → LinterSettings → List Violation };
 
     /// All reports for a tree, rules and settings.
     ghost table: { Self → Tree → Rules → LinterSettings → List Violation };
 
+    /// The pieces in order, and then the tail, are the table.
+    ghost whole: { (x : Self) (tree : Tree) (r : Rules) (s : LinterSettings) → pieces_below (piece x tree r s) (length tree.stmts) ++ tail x tree r s ≡ table x tree r s };
+
+    /// Each report is of a rule of its own that is enabled.
+    ghost coded: { (x : Self) (tree : Tree) (r : Rules) (s : LinterSettings) → All (IsOf (own x) r) (table x tree r s) };
+
+    /// Each report is in the text.
+    ghost placed: { (x : Self) (tree : Tree) (r : Rules) (s : LinterSettings) → IsRead tree → All (StandsIn tree) (table x tree r s) };
+
+    /// A rule's reports are the same whichever other rules are enabled.
+    ghost apart: { (x : Self) (tree : Tree) (s : LinterSettings) (q : Rule) (some others : Rules) → has some q ≡ has others q → reports_by q (table x tree some s) ≡ reports_by q (table x tree others s) };
+
     /// The rules that it reports.
     fn rules(&self) -> RuleSet
         ensures { result ≡ own self.now };
 
-    /// The state before the first statement of any text that the settings fit. The error is want of memory.
+    /// Whether it looks at the blocks of a text, under these rules. They are looked for only where some pass does.
+    fn wants_blocks(&self, rules: &RuleSet) -> bool
+        ensures { result ≡ wants self.now rules.now };
+
+    /// The state before the first statement of any text that the settings fit. The error comes when memory runs out.
     fn start(&self, alloc: Global, set: &LinterSettings) -> Result<Self::State, NoMemory>
         ensures { IfOk result (λ state. (tree : Tree) (r : Rules) → IsCleared tree set.now → at self.now state tree r set.now 0) };
 
@@ -68,12 +89,12 @@ pub trait StepPass {
         requires state { at self.now state.old p.now rules.now set.now i }
         requires within { i < length p.now.stmts }
         requires stmt { s.now ≡ stmt_at p.now i }
-        requires blocks { blocks.now ≡ blocks_of p.now }
+        requires blocks { wants self.now rules.now ≡ true → blocks.now ≡ blocks_of p.now }
         ensures state { OnOk result (at self.now state.new p.now rules.now set.now (i + 1)) }
         ensures ok { OnOk result (out.new ≡ out.old ++ piece self.now p.now rules.now set.now i) }
         ensures err { OnErr result (GrownBy out.old out.new (piece self.now p.now rules.now set.now i)) };
 
-    /// Takes the state behind the last statement, and adds the tail. The error is want of memory; then a first part of the
+    /// Takes the state after the last statement, and adds the tail. The error comes when memory runs out; then a first part of the
     /// tail has been added.
     fn finish(
         &self,
@@ -88,7 +109,4 @@ pub trait StepPass {
         requires state { at self.now state p.now rules.now set.now (length p.now.stmts) }
         ensures ok { OnOk result (out.new ≡ out.old ++ tail self.now p.now rules.now set.now) }
         ensures err { OnErr result (GrownBy out.old out.new (tail self.now p.now rules.now set.now)) };
-
-    /// The pieces in order, and then the tail, are the table.
-    ghost whole: { (x : Self) (tree : Tree) (r : Rules) (s : LinterSettings) → pieces_below (piece x tree r s) (length tree.stmts) ++ tail x tree r s ≡ table x tree r s };
 }

@@ -243,10 +243,10 @@ const ENDINGS: [(&str, LineEnding, &str); 7] = [
 ];
 
 #[test]
-fn line_endings_are_told(rt: HostRuntime) -> Result<(), Fail> {
+fn line_endings_are_found(rt: HostRuntime) -> Result<(), Fail> {
     for (text, ending, bytes) in &ENDINGS {
-        let told = line_ending(text);
-        assert!(rt; told == *ending && told.as_str() == *bytes);
+        let found = line_ending(text);
+        assert!(rt; found == *ending && found.as_str() == *bytes);
     }
     Ok(())
 }
@@ -297,7 +297,7 @@ fn other_texts_name_no_rule(rt: HostRuntime) -> Result<(), Fail> {
 }
 
 #[test]
-fn the_alias_stands_for_two(rt: HostRuntime) -> Result<(), Fail> {
+fn the_alias_expands_to_two(rt: HostRuntime) -> Result<(), Fail> {
     for rule in &Rule::ALL {
         let expansion = rule.expands_to();
         if *rule == Rule::RequireTimeoutSettings {

@@ -1,7 +1,6 @@
 //! Texts of the program.
 
 use lint_base::Text;
-use static_text::StaticText;
 use std::test::Fail;
 
 const TEXTS: [&str; 4] = [
@@ -10,14 +9,6 @@ const TEXTS: [&str; 4] = [
     "naïve \u{1f600}",
     "a text of more than thirty-two bytes",
 ];
-
-#[test]
-fn static_texts_are_as_written(rt: HostRuntime) -> Result<(), Fail> {
-    for text in &TEXTS {
-        assert_eq!(rt; StaticText::new(*text).as_str(), *text);
-    }
-    Ok(())
-}
 
 #[test]
 fn texts_are_compared_however_they_were_made(rt: HostRuntime) -> Result<(), Fail> {

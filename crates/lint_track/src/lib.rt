@@ -1,22 +1,16 @@
-//! What is known about a position in a text: the open transaction and the tables that it created.
-//!
-//! [`TablesCreatedInTransaction`] borrows from the text; [`CreatedTables`] does not, so a pass may keep it. Both say the
-//! same. What a statement does to the traffic on its table, [`LockKind`] and [`analyze`], stands in `lint_lock`. `specs/` says what each call means: `Transaction` has the conditions on earlier statements, `Tracking` and
-//! `Created` what a walk knows of them, `SpanSet` sets of names.
+//! What the passes of a linter are made of: the open transaction and the tables that it created, the locks of statements,
+//! ignore comments, and the machinery of passes. Each is a crate of its own, and all are reached here under one name.
 #![tactic(auto)]
 
-mod created_tables;
-mod name;
-mod names;
-mod open;
-mod span_set;
-mod statement;
-mod tables;
-
-pub use created_tables::CreatedTables;
+pub use lint_ignore::{
+    Found, IGNORE_FILE_TEXT, IGNORE_LINE_TEXT, Ignore, IgnoreIndex, IgnoreKind, IgnorePiece,
+    find_ignores, has_disable_assume_in_transaction, ignore_rule_info, unused_pieces,
+};
 pub use lint_lock::{LockKind, analyze};
-pub use name::name_at;
-pub use open::OpenTransaction;
-pub use span_set::{SpanKey, SpanSet};
-pub use statement::{begins, chains, created, ends};
-pub use tables::TablesCreatedInTransaction;
+pub use lint_pass::{
+    Block, Cursor, NoPass, Pair, PairState, Pass, StepPass, Steps, drive, find_blocks, walk,
+};
+pub use lint_transaction::{
+    CreatedTables, OpenTransaction, SpanKey, SpanSet, TablesCreatedInTransaction, begins, chains,
+    created, ends, name_at,
+};

@@ -1,14 +1,13 @@
 -- What the pass of these tests reports: each statement.
-use Rattle.std.specs.Prelude.{ℕ, List, [], ◌∷◌, length, codes, if◌then◌else◌, None}
+use Rattle.std.specs.Prelude.{refl, All, [], ◌∷◌, codes, None}
 use Rattle.sql_tree.specs.declared.nodes.Stmt.{Stmt}
 use Rattle.sql_tree.specs.Range.{stmt_range_of}
 use Rattle.sql_tree.specs.Statement.{Tree}
 use Rattle.lint_base.specs.declared.rule.Rule.TheVariants as rule
-use Rattle.lint_base.specs.declared.settings.LinterSettings.{LinterSettings}
 use Rattle.lint_base.specs.declared.violation.Violation.{Violation}
-use Rattle.lint_base.specs.RuleSets.{Rules, has}
-use Rattle.lint_track.specs.Earlier.{pieces_below}
-use Rattle.lint_track.specs.Transaction.{stmt_at}
+use Rattle.lint_pass.specs.Laws.{HasCode, IsRead, StandsIn}
+use Rattle.lint_pass.specs.PlaceLaws.{span_place}
+use Rattle.lint_pass.specs.RuleLaws.{one_all}
 
 unfoldable pub report : Tree → Stmt → Violation
 report tree s = record {
@@ -20,8 +19,18 @@ report tree s = record {
   fix = None;
 }
 
-abbrev pub reports_at : Tree → Rules → LinterSettings → ℕ → List Violation
-reports_at tree rules settings i = if has rules rule.BanDropTable then report tree (stmt_at tree i) ∷ [] else []
+-- ---- laws
 
-abbrev pub reports_of_mark : Tree → Rules → LinterSettings → List Violation
-reports_of_mark tree rules settings = pieces_below (reports_at tree rules settings) (length tree.stmts)
+report_coded : (tree : Tree) (s : Stmt) → HasCode rule.BanDropTable (report tree s)
+unfolding report
+report_coded tree s = refl
+
+report_placed : (tree : Tree) (s : Stmt) → IsRead tree → StandsIn tree (report tree s)
+unfolding report
+report_placed tree s read = record { range = span_place tree read s.first s.last; edits = tt }
+
+pub mark_coded : (tree : Tree) (s : Stmt) → All (HasCode rule.BanDropTable) (report tree s ∷ [])
+mark_coded tree s = one_all (HasCode rule.BanDropTable) (report tree s) (report_coded tree s)
+
+pub mark_placed : (tree : Tree) (s : Stmt) → IsRead tree → All (StandsIn tree) (report tree s ∷ [])
+mark_placed tree s read = one_all (StandsIn tree) (report tree s) (report_placed tree s read)

@@ -5,9 +5,10 @@ ghost use Rattle.std.specs.Prelude.{◌≡◌, ◌<◌};
 use crate::mark::Mark;
 use lint_base::{LinterSettings, Names, Rule, Violation};
 use lint_pass::{NoPass, Pair, Steps};
-use pass_drop::StatementBan;
+use pass_drop::BanDropDatabase;
 use sql_read::parse;
 use sql_tree::Parse;
+use squawk_linter::laws::placed;
 use squawk_linter::{Linter, lint_text};
 use std::alloc::Global;
 use std::marker::Brand;
@@ -17,12 +18,6 @@ use std::test::Fail;
 /// Whether a transaction is assumed, a text, and its reports: where each begins and ends, its rule, and whether a
 /// transaction is assumed afterwards.
 const ANSWERS: &[(bool, &str, &str)] = &[
-    (false, "", "false"),
-    (
-        false,
-        "BEGIN; CREATE TABLE t (id int); CREATE INDEX i ON t (id); COMMIT;",
-        "false",
-    ),
     (
         false,
         "CREATE INDEX ON t (a); ALTER TABLE t ADD UNIQUE (a);",
@@ -37,11 +32,6 @@ const ANSWERS: &[(bool, &str, &str)] = &[
         true,
         "CREATE TABLE t (id int); CREATE INDEX ON t (id); -- squawk-disable-assume-in-transaction",
         "25..48 require-concurrent-index-creation false",
-    ),
-    (
-        false,
-        "-- squawk-ignore foo\nCREATE INDEX ON t (a);",
-        "17..20 unused-ignore 21..43 require-concurrent-index-creation false",
     ),
 ];
 
@@ -100,20 +90,20 @@ fn of_no_pass(alloc: Global, text: &str) -> Result<String, Fail> {
 // The reports of a text by the pass that reports each statement, in place of the linter's own ones.
 fn of_marks(alloc: Global, linter: &mut Linter, p: &Parse<'_>) -> Result<String, Fail> {
     let mut out = String::new(alloc);
-    let _text = p.text();
+    placed(p, &Mark);
     let reports = linter.lint_with(alloc, p, &Mark)?;
     push_reports(alloc, &mut out, reports.as_slice())?;
     Ok(out)
 }
 
-// The reports of a text by the pass that reports each DROP DATABASE, and behind it the one that reports each statement.
+// The reports of a text by the pass that reports each DROP DATABASE, and after it the one that reports each statement.
 fn of_bans_and_marks(alloc: Global, linter: &mut Linter, p: &Parse<'_>) -> Result<String, Fail> {
     let mut out = String::new(alloc);
-    let _text = p.text();
     let both = Pair {
-        first: StatementBan::DropDatabase,
+        first: BanDropDatabase,
         second: Mark,
     };
+    placed(p, &both);
     let reports = linter.lint_with(alloc, p, &both)?;
     push_reports(alloc, &mut out, reports.as_slice())?;
     Ok(out)
@@ -122,11 +112,11 @@ fn of_bans_and_marks(alloc: Global, linter: &mut Linter, p: &Parse<'_>) -> Resul
 // The same by the same passes the other way round.
 fn of_marks_and_bans(alloc: Global, linter: &mut Linter, p: &Parse<'_>) -> Result<String, Fail> {
     let mut out = String::new(alloc);
-    let _text = p.text();
     let both = Pair {
         first: Mark,
-        second: StatementBan::DropDatabase,
+        second: BanDropDatabase,
     };
+    placed(p, &both);
     let reports = linter.lint_with(alloc, p, &both)?;
     push_reports(alloc, &mut out, reports.as_slice())?;
     Ok(out)
@@ -195,7 +185,7 @@ fn marks(rt: HostRuntime) -> Result<(), Fail> {
     Ok(())
 }
 
-// Reports at one place stand in the order of their passes, and all of them by their places.
+// Reports at one place are in the order of their passes, and all of them by their places.
 #[test]
 fn two_passes_at_one_place(rt: HostRuntime) -> Result<(), Fail> {
     let text = "DROP DATABASE d; SELECT 1; DROP DATABASE e;";

@@ -9,4 +9,4 @@ mod mark;
 #[cfg(test)]
 mod printed;
 #[cfg(test)]
-mod transactions;
+mod sets;

@@ -1,12 +1,10 @@
 //! A pass of these tests: it reports each statement.
 
 ghost use Rattle.std.specs.Prelude.{◌≡◌};
-ghost use Rattle.lint_base.specs.declared.rule.Rule.TheVariants as rule;
-ghost use Rattle.lint_base.specs.RuleSets.{no_rules, with_rule};
 ghost use Rattle.linter_rows.specs.Marks.{report};
 
-use lint_base::{LinterSettings, Reports, Rule, RuleSet, Text, Violation};
-use lint_pass::{Block, StepPass};
+use lint_base::{LinterSettings, Reports, Rule, Text, Violation};
+use lint_pass::StatementPass;
 use sql_tree::{Parse, Stmt};
 use std::alloc::Global;
 use text_pos::NoMemory;
@@ -31,70 +29,31 @@ fn report(p: &Parse<'_>, s: &Stmt) -> Violation
     }
 }
 
-fn only_ban_drop_table() -> RuleSet
-    ensures { result ≡ with_rule no_rules rule.BanDropTable }
-{
-    let mut rules = RuleSet::empty();
-    rules.insert(Rule::BanDropTable);
-    rules
-}
-
-impl StepPass for Mark {
-    ghost use Rattle.std.specs.Prelude.{[]};
-    ghost use Rattle.std.proofs.lemmas.List.{append-nil};
+impl StatementPass for Mark {
+    ghost use Rattle.std.specs.Prelude.{[], ◌∷◌};
     ghost use Rattle.lint_base.specs.declared.rule.Rule.TheVariants as rule;
-    ghost use Rattle.lint_base.specs.RuleSets.{no_rules, with_rule};
-    ghost use Rattle.linter_rows.specs.Marks.{reports_at, reports_of_mark};
+    ghost use Rattle.linter_rows.specs.Marks.{report, mark_coded, mark_placed};
 
-    type State = ();
+    ghost code = { λ _. rule.BanDropTable };
 
-    ghost own = { λ _. with_rule no_rules rule.BanDropTable };
+    ghost reports = { λ _ tree _ s. report tree s ∷ [] };
 
-    ghost at = { λ _ _ _ _ _ _. Unit {0} };
+    ghost coded = { λ _ tree _ s. mark_coded tree s };
 
-    ghost piece = { λ _. reports_at };
+    ghost placed = { λ _ tree _ s. mark_placed tree s };
 
-    ghost tail = { λ _ _ _ _. [] };
-
-    ghost table = { λ _. reports_of_mark };
-
-    fn rules(&self) -> RuleSet {
-        only_ban_drop_table()
+    fn code(&self) -> Rule {
+        Rule::BanDropTable
     }
 
-    fn start(&self, _alloc: Global, _set: &LinterSettings) -> Result<(), NoMemory> {
-        Ok(())
-    }
-
-    fn step(
+    fn report(
         &self,
-        _state: &mut (),
+        _alloc: Global,
         p: &Parse<'_>,
-        _i: u32,
         s: &Stmt,
-        _blocks: &[Block],
-        rules: &RuleSet,
         _set: &LinterSettings,
         out: &mut Reports,
     ) -> Result<(), NoMemory> {
-        if rules.contains(Rule::BanDropTable) {
-            out.push(report(p, s))
-        } else {
-            Ok(())
-        }
+        out.push(report(p, s))
     }
-
-    fn finish(
-        &self,
-        _alloc: Global,
-        _state: (),
-        _p: &Parse<'_>,
-        _rules: &RuleSet,
-        _set: &LinterSettings,
-        _out: &mut Reports,
-    ) -> Result<(), NoMemory> {
-        Ok(())
-    }
-
-    ghost whole = { λ _ tree r s. append-nil (reports_of_mark tree r s) };
 }

@@ -1,2 +1,2 @@
-pub mod SameKind
-pub mod StatementBan
+pub mod Objects
+pub mod Parts

@@ -1,9 +1,16 @@
 //! Passes that report what is dropped.
 //!
-//! A [`StatementBan`] is a pass for each rule that reports every statement of a kind: a row of three small tables. Another
-//! pass stands in a file of its own, with what it reports in the file of the same name in `specs/`.
+//! A pass is a table of rows: where it reports, with which message and which note. `specs/` has the rows once more, in the
+//! order in which they are read aloud.
 #![tactic(auto)]
 
-mod statement_ban;
+mod objects;
+mod parts;
 
-pub use statement_ban::StatementBan;
+pub use objects::{
+    BanDropDatabase, BanDropDomain, BanDropFunction, BanDropSchema, BanDropSequence, BanDropTable,
+    BanDropTrigger, BanDropType, BanDropView,
+};
+pub use parts::{
+    BanDropColumn, BanDropConstraint, BanDropDefault, BanDropGeneratedExpression, BanDropNotNull,
+};

@@ -2,17 +2,17 @@
 
 use lint_base::{LinterSettings, Reports, RuleSet};
 use lint_pass::{Block, StepPass};
-use pass_drop::StatementBan;
+use pass_drop::BanDropDatabase;
 use sql_tree::{Parse, Stmt};
 use std::alloc::Global;
 use text_pos::NoMemory;
 
 /// Its members, in order.
-type Members = StatementBan;
+type Members = BanDropDatabase;
 
-const MEMBERS: Members = StatementBan::DropDatabase;
+const MEMBERS: Members = BanDropDatabase;
 
-/// The passes from the first to the eighth of the linter's order, those that are built: [`StatementBan::DropDatabase`].
+/// The passes from the first to the eighth of the linter's order, those that are built: [`BanDropDatabase`].
 #[derive(Drop)]
 pub struct Group1;
 
@@ -23,9 +23,6 @@ pub struct Group1State {
 }
 
 impl StepPass for Group1 {
-    ghost use Rattle.std.proofs.lemmas.List.{append-nil};
-    ghost use Rattle.pass_drop.specs.declared.statement_ban.StatementBan.TheVariants as ban;
-    ghost use Rattle.pass_drop.specs.StatementBan.{reports_of_ban};
     ghost use Rattle.pass_groups.specs.declared.group1.TheConstants.{MEMBERS};
 
     type State = Group1State;
@@ -34,14 +31,28 @@ impl StepPass for Group1 {
 
     ghost at = { λ _ state tree r s i. ⟦<Members as StepPass>⟧.at MEMBERS state.members tree r s i };
 
+    ghost wants = { λ _. ⟦<Members as StepPass>⟧.wants MEMBERS };
+
     ghost piece = { λ _. ⟦<Members as StepPass>⟧.piece MEMBERS };
 
     ghost tail = { λ _. ⟦<Members as StepPass>⟧.tail MEMBERS };
 
     ghost table = { λ _. ⟦<Members as StepPass>⟧.table MEMBERS };
 
+    ghost whole = { λ _. ⟦<Members as StepPass>⟧.whole MEMBERS };
+
+    ghost coded = { λ _. ⟦<Members as StepPass>⟧.coded MEMBERS };
+
+    ghost placed = { λ _. ⟦<Members as StepPass>⟧.placed MEMBERS };
+
+    ghost apart = { λ _. ⟦<Members as StepPass>⟧.apart MEMBERS };
+
     fn rules(&self) -> RuleSet {
-        MEMBERS.rules()
+        StepPass::rules(&MEMBERS)
+    }
+
+    fn wants_blocks(&self, rules: &RuleSet) -> bool {
+        StepPass::wants_blocks(&MEMBERS, rules)
     }
 
     fn start(&self, alloc: Global, set: &LinterSettings) -> Result<Group1State, NoMemory> {
@@ -76,6 +87,4 @@ impl StepPass for Group1 {
         let Group1State { members } = state;
         MEMBERS.finish(alloc, members, p, rules, set, out)
     }
-
-    ghost whole = { λ _ tree r s. append-nil (reports_of_ban ban.DropDatabase tree r s) };
 }

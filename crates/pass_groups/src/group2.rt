@@ -1,18 +1,36 @@
 //! The passes from the ninth to the 16th of the linter's order.
 
 use lint_base::{LinterSettings, Reports, RuleSet};
-use lint_pass::{Block, StepPass};
+use lint_pass::{Block, Pair, StepPass};
+use pass_drop::{BanDropColumn, BanDropNotNull, BanDropTable};
 use pass_lock::ConstraintMissingNotValid;
+use pass_type::ChangingColumnType;
 use sql_tree::{Parse, Stmt};
 use std::alloc::Global;
 use text_pos::NoMemory;
 
 /// Its members, in order.
-type Members = ConstraintMissingNotValid;
+type Members = Pair<
+    Pair<Pair<BanDropColumn, BanDropNotNull>, Pair<BanDropTable, ChangingColumnType>>,
+    ConstraintMissingNotValid,
+>;
 
-const MEMBERS: Members = ConstraintMissingNotValid;
+const MEMBERS: Members = Pair {
+    first: Pair {
+        first: Pair {
+            first: BanDropColumn,
+            second: BanDropNotNull,
+        },
+        second: Pair {
+            first: BanDropTable,
+            second: ChangingColumnType,
+        },
+    },
+    second: ConstraintMissingNotValid,
+};
 
-/// The passes from the ninth to the 16th of the linter's order, those that are built: [`ConstraintMissingNotValid`].
+/// The passes from the ninth to the 16th of the linter's order, those that are built: [`BanDropColumn`],
+/// [`BanDropNotNull`], [`BanDropTable`], [`ChangingColumnType`], [`ConstraintMissingNotValid`].
 #[derive(Drop)]
 pub struct Group2;
 
@@ -23,7 +41,6 @@ pub struct Group2State {
 }
 
 impl StepPass for Group2 {
-    ghost use Rattle.std.specs.Prelude.{refl};
     ghost use Rattle.pass_groups.specs.declared.group2.TheConstants.{MEMBERS};
 
     type State = Group2State;
@@ -32,14 +49,28 @@ impl StepPass for Group2 {
 
     ghost at = { λ _ state tree r s i. ⟦<Members as StepPass>⟧.at MEMBERS state.members tree r s i };
 
+    ghost wants = { λ _. ⟦<Members as StepPass>⟧.wants MEMBERS };
+
     ghost piece = { λ _. ⟦<Members as StepPass>⟧.piece MEMBERS };
 
     ghost tail = { λ _. ⟦<Members as StepPass>⟧.tail MEMBERS };
 
     ghost table = { λ _. ⟦<Members as StepPass>⟧.table MEMBERS };
 
+    ghost whole = { λ _. ⟦<Members as StepPass>⟧.whole MEMBERS };
+
+    ghost coded = { λ _. ⟦<Members as StepPass>⟧.coded MEMBERS };
+
+    ghost placed = { λ _. ⟦<Members as StepPass>⟧.placed MEMBERS };
+
+    ghost apart = { λ _. ⟦<Members as StepPass>⟧.apart MEMBERS };
+
     fn rules(&self) -> RuleSet {
-        MEMBERS.rules()
+        StepPass::rules(&MEMBERS)
+    }
+
+    fn wants_blocks(&self, rules: &RuleSet) -> bool {
+        StepPass::wants_blocks(&MEMBERS, rules)
     }
 
     fn start(&self, alloc: Global, set: &LinterSettings) -> Result<Group2State, NoMemory> {
@@ -74,6 +105,4 @@ impl StepPass for Group2 {
         let Group2State { members } = state;
         MEMBERS.finish(alloc, members, p, rules, set, out)
     }
-
-    ghost whole = { λ _ tree r s. refl };
 }

@@ -1,18 +1,26 @@
 //! The passes from the 17th to the 24th of the linter's order.
 
 use lint_base::{LinterSettings, Reports, RuleSet};
-use lint_pass::{Block, StepPass};
+use lint_pass::{Block, Pair, StepPass};
+use pass_compat::{RenamingColumn, RenamingTable};
 use pass_lock::RequireConcurrentIndexCreation;
 use sql_tree::{Parse, Stmt};
 use std::alloc::Global;
 use text_pos::NoMemory;
 
 /// Its members, in order.
-type Members = RequireConcurrentIndexCreation;
+type Members = Pair<Pair<RenamingColumn, RenamingTable>, RequireConcurrentIndexCreation>;
 
-const MEMBERS: Members = RequireConcurrentIndexCreation;
+const MEMBERS: Members = Pair {
+    first: Pair {
+        first: RenamingColumn,
+        second: RenamingTable,
+    },
+    second: RequireConcurrentIndexCreation,
+};
 
-/// The passes from the 17th to the 24th of the linter's order, those that are built: [`RequireConcurrentIndexCreation`].
+/// The passes from the 17th to the 24th of the linter's order, those that are built: [`RenamingColumn`],
+/// [`RenamingTable`], [`RequireConcurrentIndexCreation`].
 #[derive(Drop)]
 pub struct Group3;
 
@@ -23,8 +31,6 @@ pub struct Group3State {
 }
 
 impl StepPass for Group3 {
-    ghost use Rattle.std.proofs.lemmas.List.{append-nil};
-    ghost use Rattle.pass_lock.specs.RequireConcurrentIndexCreation.{reports_of_require_concurrent_index_creation};
     ghost use Rattle.pass_groups.specs.declared.group3.TheConstants.{MEMBERS};
 
     type State = Group3State;
@@ -33,14 +39,28 @@ impl StepPass for Group3 {
 
     ghost at = { λ _ state tree r s i. ⟦<Members as StepPass>⟧.at MEMBERS state.members tree r s i };
 
+    ghost wants = { λ _. ⟦<Members as StepPass>⟧.wants MEMBERS };
+
     ghost piece = { λ _. ⟦<Members as StepPass>⟧.piece MEMBERS };
 
     ghost tail = { λ _. ⟦<Members as StepPass>⟧.tail MEMBERS };
 
     ghost table = { λ _. ⟦<Members as StepPass>⟧.table MEMBERS };
 
+    ghost whole = { λ _. ⟦<Members as StepPass>⟧.whole MEMBERS };
+
+    ghost coded = { λ _. ⟦<Members as StepPass>⟧.coded MEMBERS };
+
+    ghost placed = { λ _. ⟦<Members as StepPass>⟧.placed MEMBERS };
+
+    ghost apart = { λ _. ⟦<Members as StepPass>⟧.apart MEMBERS };
+
     fn rules(&self) -> RuleSet {
-        MEMBERS.rules()
+        StepPass::rules(&MEMBERS)
+    }
+
+    fn wants_blocks(&self, rules: &RuleSet) -> bool {
+        StepPass::wants_blocks(&MEMBERS, rules)
     }
 
     fn start(&self, alloc: Global, set: &LinterSettings) -> Result<Group3State, NoMemory> {
@@ -75,6 +95,4 @@ impl StepPass for Group3 {
         let Group3State { members } = state;
         MEMBERS.finish(alloc, members, p, rules, set, out)
     }
-
-    ghost whole = { λ _ tree r s. append-nil (reports_of_require_concurrent_index_creation tree r s) };
 }

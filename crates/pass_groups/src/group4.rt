@@ -1,17 +1,22 @@
 //! The passes from the 25th to the 32nd of the linter's order.
 
 use lint_base::{LinterSettings, Reports, RuleSet};
-use lint_pass::{Block, NoPass, StepPass};
+use lint_pass::{Block, Pair, StepPass};
+use pass_compat::{BanAlterDomainWithAddConstraint, BanCreateDomainWithConstraint};
 use sql_tree::{Parse, Stmt};
 use std::alloc::Global;
 use text_pos::NoMemory;
 
 /// Its members, in order.
-type Members = NoPass;
+type Members = Pair<BanCreateDomainWithConstraint, BanAlterDomainWithAddConstraint>;
 
-const MEMBERS: Members = NoPass;
+const MEMBERS: Members = Pair {
+    first: BanCreateDomainWithConstraint,
+    second: BanAlterDomainWithAddConstraint,
+};
 
-/// The passes from the 25th to the 32nd of the linter's order, those that are built: none so far.
+/// The passes from the 25th to the 32nd of the linter's order, those that are built: [`BanCreateDomainWithConstraint`],
+/// [`BanAlterDomainWithAddConstraint`].
 #[derive(Drop)]
 pub struct Group4;
 
@@ -22,8 +27,6 @@ pub struct Group4State {
 }
 
 impl StepPass for Group4 {
-    ghost use Rattle.std.specs.Prelude.{[], length};
-    ghost use Rattle.lint_pass.specs.Pieces.{no_pieces};
     ghost use Rattle.pass_groups.specs.declared.group4.TheConstants.{MEMBERS};
 
     type State = Group4State;
@@ -32,14 +35,28 @@ impl StepPass for Group4 {
 
     ghost at = { λ _ state tree r s i. ⟦<Members as StepPass>⟧.at MEMBERS state.members tree r s i };
 
+    ghost wants = { λ _. ⟦<Members as StepPass>⟧.wants MEMBERS };
+
     ghost piece = { λ _. ⟦<Members as StepPass>⟧.piece MEMBERS };
 
     ghost tail = { λ _. ⟦<Members as StepPass>⟧.tail MEMBERS };
 
     ghost table = { λ _. ⟦<Members as StepPass>⟧.table MEMBERS };
 
+    ghost whole = { λ _. ⟦<Members as StepPass>⟧.whole MEMBERS };
+
+    ghost coded = { λ _. ⟦<Members as StepPass>⟧.coded MEMBERS };
+
+    ghost placed = { λ _. ⟦<Members as StepPass>⟧.placed MEMBERS };
+
+    ghost apart = { λ _. ⟦<Members as StepPass>⟧.apart MEMBERS };
+
     fn rules(&self) -> RuleSet {
-        MEMBERS.rules()
+        StepPass::rules(&MEMBERS)
+    }
+
+    fn wants_blocks(&self, rules: &RuleSet) -> bool {
+        StepPass::wants_blocks(&MEMBERS, rules)
     }
 
     fn start(&self, alloc: Global, set: &LinterSettings) -> Result<Group4State, NoMemory> {
@@ -74,6 +91,4 @@ impl StepPass for Group4 {
         let Group4State { members } = state;
         MEMBERS.finish(alloc, members, p, rules, set, out)
     }
-
-    ghost whole = { λ _ tree _ _. no_pieces [] (length tree.stmts) };
 }

@@ -1,17 +1,29 @@
 //! The passes from the 33rd to the 40th of the linter's order.
 
 use lint_base::{LinterSettings, Reports, RuleSet};
-use lint_pass::{Block, NoPass, StepPass};
+use lint_pass::{Block, Pair, StepPass};
+use pass_compat::RequireTableSchema;
+use pass_drop::{BanDropFunction, BanDropType, BanDropView};
 use sql_tree::{Parse, Stmt};
 use std::alloc::Global;
 use text_pos::NoMemory;
 
 /// Its members, in order.
-type Members = NoPass;
+type Members = Pair<Pair<RequireTableSchema, BanDropView>, Pair<BanDropFunction, BanDropType>>;
 
-const MEMBERS: Members = NoPass;
+const MEMBERS: Members = Pair {
+    first: Pair {
+        first: RequireTableSchema,
+        second: BanDropView,
+    },
+    second: Pair {
+        first: BanDropFunction,
+        second: BanDropType,
+    },
+};
 
-/// The passes from the 33rd to the 40th of the linter's order, those that are built: none so far.
+/// The passes from the 33rd to the 40th of the linter's order, those that are built: [`RequireTableSchema`],
+/// [`BanDropView`], [`BanDropFunction`], [`BanDropType`].
 #[derive(Drop)]
 pub struct Group5;
 
@@ -22,8 +34,6 @@ pub struct Group5State {
 }
 
 impl StepPass for Group5 {
-    ghost use Rattle.std.specs.Prelude.{[], length};
-    ghost use Rattle.lint_pass.specs.Pieces.{no_pieces};
     ghost use Rattle.pass_groups.specs.declared.group5.TheConstants.{MEMBERS};
 
     type State = Group5State;
@@ -32,14 +42,28 @@ impl StepPass for Group5 {
 
     ghost at = { λ _ state tree r s i. ⟦<Members as StepPass>⟧.at MEMBERS state.members tree r s i };
 
+    ghost wants = { λ _. ⟦<Members as StepPass>⟧.wants MEMBERS };
+
     ghost piece = { λ _. ⟦<Members as StepPass>⟧.piece MEMBERS };
 
     ghost tail = { λ _. ⟦<Members as StepPass>⟧.tail MEMBERS };
 
     ghost table = { λ _. ⟦<Members as StepPass>⟧.table MEMBERS };
 
+    ghost whole = { λ _. ⟦<Members as StepPass>⟧.whole MEMBERS };
+
+    ghost coded = { λ _. ⟦<Members as StepPass>⟧.coded MEMBERS };
+
+    ghost placed = { λ _. ⟦<Members as StepPass>⟧.placed MEMBERS };
+
+    ghost apart = { λ _. ⟦<Members as StepPass>⟧.apart MEMBERS };
+
     fn rules(&self) -> RuleSet {
-        MEMBERS.rules()
+        StepPass::rules(&MEMBERS)
+    }
+
+    fn wants_blocks(&self, rules: &RuleSet) -> bool {
+        StepPass::wants_blocks(&MEMBERS, rules)
     }
 
     fn start(&self, alloc: Global, set: &LinterSettings) -> Result<Group5State, NoMemory> {
@@ -74,6 +98,4 @@ impl StepPass for Group5 {
         let Group5State { members } = state;
         MEMBERS.finish(alloc, members, p, rules, set, out)
     }
-
-    ghost whole = { λ _ tree _ _. no_pieces [] (length tree.stmts) };
 }

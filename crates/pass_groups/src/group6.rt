@@ -1,17 +1,48 @@
 //! The passes from the 41st to the 48th of the linter's order.
 
 use lint_base::{LinterSettings, Reports, RuleSet};
-use lint_pass::{Block, NoPass, StepPass};
+use lint_pass::{Block, Pair, StepPass};
+use pass_compat::RenamingObject;
+use pass_drop::{
+    BanDropConstraint, BanDropDefault, BanDropDomain, BanDropGeneratedExpression, BanDropSchema,
+    BanDropSequence, BanDropTrigger,
+};
 use sql_tree::{Parse, Stmt};
 use std::alloc::Global;
 use text_pos::NoMemory;
 
 /// Its members, in order.
-type Members = NoPass;
+type Members = Pair<
+    Pair<Pair<BanDropDefault, BanDropTrigger>, Pair<BanDropSchema, BanDropSequence>>,
+    Pair<Pair<BanDropDomain, BanDropConstraint>, Pair<BanDropGeneratedExpression, RenamingObject>>,
+>;
 
-const MEMBERS: Members = NoPass;
+const MEMBERS: Members = Pair {
+    first: Pair {
+        first: Pair {
+            first: BanDropDefault,
+            second: BanDropTrigger,
+        },
+        second: Pair {
+            first: BanDropSchema,
+            second: BanDropSequence,
+        },
+    },
+    second: Pair {
+        first: Pair {
+            first: BanDropDomain,
+            second: BanDropConstraint,
+        },
+        second: Pair {
+            first: BanDropGeneratedExpression,
+            second: RenamingObject,
+        },
+    },
+};
 
-/// The passes from the 41st to the 48th of the linter's order, those that are built: none so far.
+/// The passes from the 41st to the 48th of the linter's order, those that are built: [`BanDropDefault`],
+/// [`BanDropTrigger`], [`BanDropSchema`], [`BanDropSequence`], [`BanDropDomain`], [`BanDropConstraint`],
+/// [`BanDropGeneratedExpression`], [`RenamingObject`].
 #[derive(Drop)]
 pub struct Group6;
 
@@ -22,8 +53,6 @@ pub struct Group6State {
 }
 
 impl StepPass for Group6 {
-    ghost use Rattle.std.specs.Prelude.{[], length};
-    ghost use Rattle.lint_pass.specs.Pieces.{no_pieces};
     ghost use Rattle.pass_groups.specs.declared.group6.TheConstants.{MEMBERS};
 
     type State = Group6State;
@@ -32,14 +61,28 @@ impl StepPass for Group6 {
 
     ghost at = { λ _ state tree r s i. ⟦<Members as StepPass>⟧.at MEMBERS state.members tree r s i };
 
+    ghost wants = { λ _. ⟦<Members as StepPass>⟧.wants MEMBERS };
+
     ghost piece = { λ _. ⟦<Members as StepPass>⟧.piece MEMBERS };
 
     ghost tail = { λ _. ⟦<Members as StepPass>⟧.tail MEMBERS };
 
     ghost table = { λ _. ⟦<Members as StepPass>⟧.table MEMBERS };
 
+    ghost whole = { λ _. ⟦<Members as StepPass>⟧.whole MEMBERS };
+
+    ghost coded = { λ _. ⟦<Members as StepPass>⟧.coded MEMBERS };
+
+    ghost placed = { λ _. ⟦<Members as StepPass>⟧.placed MEMBERS };
+
+    ghost apart = { λ _. ⟦<Members as StepPass>⟧.apart MEMBERS };
+
     fn rules(&self) -> RuleSet {
-        MEMBERS.rules()
+        StepPass::rules(&MEMBERS)
+    }
+
+    fn wants_blocks(&self, rules: &RuleSet) -> bool {
+        StepPass::wants_blocks(&MEMBERS, rules)
     }
 
     fn start(&self, alloc: Global, set: &LinterSettings) -> Result<Group6State, NoMemory> {
@@ -74,6 +117,4 @@ impl StepPass for Group6 {
         let Group6State { members } = state;
         MEMBERS.finish(alloc, members, p, rules, set, out)
     }
-
-    ghost whole = { λ _ tree _ _. no_pieces [] (length tree.stmts) };
 }

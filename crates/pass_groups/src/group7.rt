@@ -1,17 +1,47 @@
 //! The passes from the 49th to the 56th of the linter's order.
 
 use lint_base::{LinterSettings, Reports, RuleSet};
-use lint_pass::{Block, NoPass, StepPass};
+use lint_pass::{Block, Pair, StepPass};
+use pass_compat::{
+    BanAlterGeneratedExpression, BanAlterIdentity, BanDisableTrigger, BanDropExtension,
+    BanDropIndex, BanReplicaIdentity, BanSetDefault, BanSetSchema,
+};
 use sql_tree::{Parse, Stmt};
 use std::alloc::Global;
 use text_pos::NoMemory;
 
 /// Its members, in order.
-type Members = NoPass;
+type Members = Pair<
+    Pair<Pair<BanSetSchema, BanAlterIdentity>, Pair<BanDropExtension, BanAlterGeneratedExpression>>,
+    Pair<Pair<BanDropIndex, BanSetDefault>, Pair<BanDisableTrigger, BanReplicaIdentity>>,
+>;
 
-const MEMBERS: Members = NoPass;
+const MEMBERS: Members = Pair {
+    first: Pair {
+        first: Pair {
+            first: BanSetSchema,
+            second: BanAlterIdentity,
+        },
+        second: Pair {
+            first: BanDropExtension,
+            second: BanAlterGeneratedExpression,
+        },
+    },
+    second: Pair {
+        first: Pair {
+            first: BanDropIndex,
+            second: BanSetDefault,
+        },
+        second: Pair {
+            first: BanDisableTrigger,
+            second: BanReplicaIdentity,
+        },
+    },
+};
 
-/// The passes from the 49th to the 56th of the linter's order, those that are built: none so far.
+/// The passes from the 49th to the 56th of the linter's order, those that are built: [`BanSetSchema`],
+/// [`BanAlterIdentity`], [`BanDropExtension`], [`BanAlterGeneratedExpression`], [`BanDropIndex`], [`BanSetDefault`],
+/// [`BanDisableTrigger`], [`BanReplicaIdentity`].
 #[derive(Drop)]
 pub struct Group7;
 
@@ -22,8 +52,6 @@ pub struct Group7State {
 }
 
 impl StepPass for Group7 {
-    ghost use Rattle.std.specs.Prelude.{[], length};
-    ghost use Rattle.lint_pass.specs.Pieces.{no_pieces};
     ghost use Rattle.pass_groups.specs.declared.group7.TheConstants.{MEMBERS};
 
     type State = Group7State;
@@ -32,14 +60,28 @@ impl StepPass for Group7 {
 
     ghost at = { λ _ state tree r s i. ⟦<Members as StepPass>⟧.at MEMBERS state.members tree r s i };
 
+    ghost wants = { λ _. ⟦<Members as StepPass>⟧.wants MEMBERS };
+
     ghost piece = { λ _. ⟦<Members as StepPass>⟧.piece MEMBERS };
 
     ghost tail = { λ _. ⟦<Members as StepPass>⟧.tail MEMBERS };
 
     ghost table = { λ _. ⟦<Members as StepPass>⟧.table MEMBERS };
 
+    ghost whole = { λ _. ⟦<Members as StepPass>⟧.whole MEMBERS };
+
+    ghost coded = { λ _. ⟦<Members as StepPass>⟧.coded MEMBERS };
+
+    ghost placed = { λ _. ⟦<Members as StepPass>⟧.placed MEMBERS };
+
+    ghost apart = { λ _. ⟦<Members as StepPass>⟧.apart MEMBERS };
+
     fn rules(&self) -> RuleSet {
-        MEMBERS.rules()
+        StepPass::rules(&MEMBERS)
+    }
+
+    fn wants_blocks(&self, rules: &RuleSet) -> bool {
+        StepPass::wants_blocks(&MEMBERS, rules)
     }
 
     fn start(&self, alloc: Global, set: &LinterSettings) -> Result<Group7State, NoMemory> {
@@ -74,6 +116,4 @@ impl StepPass for Group7 {
         let Group7State { members } = state;
         MEMBERS.finish(alloc, members, p, rules, set, out)
     }
-
-    ghost whole = { λ _ tree _ _. no_pieces [] (length tree.stmts) };
 }

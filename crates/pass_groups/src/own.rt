@@ -43,7 +43,7 @@ const GROUPS: Groups = Pair {
     },
 };
 
-/// All passes of the linter, one group behind the other.
+/// All passes of the linter, one group after the other.
 #[derive(Drop)]
 pub struct OwnPasses;
 
@@ -54,12 +54,7 @@ pub struct OwnPassesState {
 }
 
 impl StepPass for OwnPasses {
-    ghost use Rattle.pass_drop.specs.declared.statement_ban.StatementBan.TheVariants as ban;
-    ghost use Rattle.pass_drop.specs.StatementBan.{reports_of_ban};
-    ghost use Rattle.pass_lock.specs.ConstraintMissingNotValid.{reports_of_constraint_missing_not_valid};
-    ghost use Rattle.pass_lock.specs.RequireConcurrentIndexCreation.{reports_of_require_concurrent_index_creation};
     ghost use Rattle.pass_groups.specs.declared.own.TheConstants.{GROUPS};
-    ghost use Rattle.pass_groups.specs.GroupLaws.{groups_whole};
     ghost use Rattle.pass_groups.specs.OwnTable.{own_table};
 
     type State = OwnPassesState;
@@ -68,14 +63,28 @@ impl StepPass for OwnPasses {
 
     ghost at = { λ _ state tree r s i. ⟦<Groups as StepPass>⟧.at GROUPS state.groups tree r s i };
 
+    ghost wants = { λ _. ⟦<Groups as StepPass>⟧.wants GROUPS };
+
     ghost piece = { λ _. ⟦<Groups as StepPass>⟧.piece GROUPS };
 
     ghost tail = { λ _. ⟦<Groups as StepPass>⟧.tail GROUPS };
 
     ghost table = { λ _. own_table };
 
+    ghost whole = { λ _. ⟦<Groups as StepPass>⟧.whole GROUPS };
+
+    ghost coded = { λ _. ⟦<Groups as StepPass>⟧.coded GROUPS };
+
+    ghost placed = { λ _. ⟦<Groups as StepPass>⟧.placed GROUPS };
+
+    ghost apart = { λ _. ⟦<Groups as StepPass>⟧.apart GROUPS };
+
     fn rules(&self) -> RuleSet {
-        GROUPS.rules()
+        StepPass::rules(&GROUPS)
+    }
+
+    fn wants_blocks(&self, rules: &RuleSet) -> bool {
+        StepPass::wants_blocks(&GROUPS, rules)
     }
 
     fn start(&self, alloc: Global, set: &LinterSettings) -> Result<OwnPassesState, NoMemory> {
@@ -110,6 +119,4 @@ impl StepPass for OwnPasses {
         let OwnPassesState { groups } = state;
         GROUPS.finish(alloc, groups, p, rules, set, out)
     }
-
-    ghost whole = { λ _ tree r s. groups_whole (reports_of_ban ban.DropDatabase tree r s) (reports_of_constraint_missing_not_valid tree r s) (reports_of_require_concurrent_index_creation tree r s) };
 }

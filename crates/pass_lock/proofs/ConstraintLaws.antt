@@ -1,5 +1,5 @@
 -- How what is known of added constraints goes on from statement to statement.
-use Rattle.std.proofs.Common.{◌≡◌, ◌∙◌, sym, ap, refl, ℕ, ◌+◌, ◌<◌, add-one, Bool, true, false, ◌&&◌, ◌||◌, not, cond, List, [], ◌∷◌, ◌++◌, length, take, get_or, slice_get, Some}
+use Rattle.std.proofs.Common.{if◌then◌else◌, ◌≡◌, ◌∙◌, sym, ap, refl, ℕ, ◌+◌, ◌<◌, add-one, Bool, true, false, ◌&&◌, ◌||◌, not, cond, List, [], ◌∷◌, ◌++◌, length, take, get_or, slice_get, Some}
 use Rattle.std.proofs.lemmas.List.{append-nil, take_more}
 use Rattle.std.proofs.lemmas.List.Folds.{list_any-append}
 use Rattle.std.proofs.lemmas.Option.{slice_get-get_or}
@@ -9,18 +9,18 @@ use Rattle.sql_tree.specs.declared.nodes.Body.{Body}
 use Rattle.sql_tree.specs.declared.nodes.Body.TheVariants as body
 use Rattle.sql_tree.specs.declared.nodes.Stmt.{Stmt}
 use Rattle.sql_tree.specs.Statement.{Tree}
-use Rattle.lint_track.specs.SpanSet.{Spans}
-use Rattle.lint_track.specs.Transaction.{begins, ends, chains, ends_by, stmt_at, ends_at, is_open}
-use Rattle.lint_track.specs.declared.span_set.SpanKey.TheVariants as by
-use Rattle.lint_track.proofs.EarlierLaws.{since-suc}
-use Rattle.lint_track.proofs.TrackingLaws.{open_next_stmt}
+use Rattle.lint_transaction.specs.SpanSet.{Spans}
+use Rattle.lint_transaction.specs.Transaction.{begins, ends, chains, ends_by, stmt_at, ends_at}
+use Rattle.lint_transaction.specs.declared.span_set.SpanKey.TheVariants as by
+use Rattle.lint_transaction.proofs.EarlierLaws.{since-suc}
+use Rattle.lint_transaction.proofs.TrackingLaws.{open_next_stmt}
 use Rattle.lint_base.specs.declared.settings.LinterSettings.{LinterSettings}
 use Rattle.lint_base.specs.declared.violation.Violation.{Violation}
 use Rattle.lint_base.specs.Grown.{GrownBy, grown_by_all, grown_by_none}
-use Rattle.lint_track.specs.Earlier.{pieces_below}
-use Rattle.lint_track.proofs.Paths.{or_true}
+use Rattle.lint_transaction.specs.Earlier.{pieces_below}
+use Rattle.lint_transaction.proofs.Paths.{or_true}
 use Rattle.lint_pass.specs.Pieces.{grown_piece, grown_in_piece}
-use Rattle.pass_lock.specs.ConstraintMissingNotValid.{actions_by, actions_of, is_alter_table_kind, added, adds_not_valid, adds_at, is_added, is_checked, addition, additions_of, is_new_table, table_of, validation, validation_at, validations}
+use Rattle.pass_lock.specs.ConstraintMissingNotValid.{actions_by, actions_of, is_alter_table_kind, added, adds_not_valid, adds_at, is_checked, addition, additions_of, is_new_table, altered_table, validation, validation_at, validations, validations_in}
 use Rattle.pass_lock.specs.ConstraintWalk.{has_name, IsWatching}
 
 true≢false : true ≡ false → ⊥
@@ -52,7 +52,7 @@ kept_names false true true false k = refl
 kept_names false true false false k = refl
 kept_names false false a false k = refl
 
--- behind one more statement
+-- after one more statement
 pub watching_next : (tree : Tree) (assumed : Bool) (i : ℕ) (s : Stmt) (was_open now_open next_open : Bool) (was now next : Spans) → s ≡ stmt_at tree i
     → IsWatching tree assumed i was_open was → now_open ≡ was_open
     → ((name : List ℕ) → has_name tree now name ≡ (has_name tree was name || (was_open && list_any (adds_not_valid tree name) (actions_of s))))
@@ -71,6 +71,13 @@ watching_next tree assumed i s was_open now_open next_open was now next e h same
       ∙ sym (since-suc (adds_at assumed tree name) (ends_at tree) i));
 }
 
+-- what is reported by what is known is what the definition says
+pub validations_known : (settings : LinterSettings) (tree : Tree) (i : ℕ) (s : Stmt) (is_open_here : Bool) (names : Spans) → s ≡ stmt_at tree i
+    → IsWatching tree settings.assume_in_transaction i is_open_here names
+    → (if is_open_here then validations tree (has_name tree names) (actions_of s) else []) ≡ validations_in settings tree i
+validations_known settings tree i s is_open_here names e h =
+    λ k. if h.open_here k then validations tree (λ name. h.added_here name k) (actions_of (e k)) else []
+
 -- no action adds a constraint so that the table is scanned
 none_checked : (tree : Tree) (actions : List Action) → list_any (λ a. is_checked (added a)) actions ≡ false → flat_map (addition tree) actions ≡ []
 none_checked tree [] h = refl
@@ -83,7 +90,7 @@ none_checked tree (a ∷ actions) h = by (is_checked (added a)) (list_any (λ x.
 -- a statement that adds no constraint so that the table is scanned
 pub none_added : (settings : LinterSettings) (tree : Tree) (i : ℕ) (s : Stmt) (actions : List Action) → actions ≡ actions_of s → list_any (λ a. is_checked (added a)) actions ≡ false → (out : List Violation) → out ≡ out ++ additions_of settings tree i s
 none_added settings tree i s actions is h out =
-    sym (append-nil out) ∙ ap (λ xs. out ++ xs) (sym (by (is_new_table settings tree i (table_of s))))
+    sym (append-nil out) ∙ ap (λ xs. out ++ xs) (sym (by (is_new_table settings tree i (altered_table s))))
   where
     by : (b : Bool) → cond b [] (flat_map (addition tree) (actions_of s)) ≡ []
     by true = refl

@@ -1,3 +1,1 @@
-pub mod BuildLaws
 pub mod ConstraintLaws
-pub mod ConstraintReports

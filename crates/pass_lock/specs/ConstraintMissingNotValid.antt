@@ -20,10 +20,11 @@ use Rattle.sql_tree.specs.Statement.{Tree}
 use Rattle.lint_base.specs.declared.rule.Rule.TheVariants as rule
 use Rattle.lint_base.specs.declared.settings.LinterSettings.{LinterSettings}
 use Rattle.lint_base.specs.declared.violation.Violation.{Violation}
-use Rattle.lint_base.specs.RuleSets.{Rules, has}
-use Rattle.lint_track.specs.Earlier.{since, pieces_below}
-use Rattle.lint_track.specs.Names.{name_at}
-use Rattle.lint_track.specs.Transaction.{stmt_at, ends_at, is_open, is_new}
+use Rattle.lint_base.specs.RuleSets.{Rules}
+use Rattle.lint_transaction.specs.Earlier.{since, pieces_below}
+use Rattle.lint_pass.specs.RuleLaws.{table_of}
+use Rattle.lint_transaction.specs.Names.{name_at}
+use Rattle.lint_transaction.specs.Transaction.{stmt_at, ends_at, is_open, is_new}
 
 -- ---- statements and actions
 
@@ -44,8 +45,8 @@ table_by (body.Alter path actions) = path
 table_by _ = None
 
 -- the path of the table that an ALTER TABLE statement alters
-abbrev pub table_of : Stmt → Option Span
-table_of s = table_by s.body
+abbrev pub altered_table : Stmt → Option Span
+altered_table s = table_by s.body
 
 abbrev pub is_add_kind : ActionKind → Bool
 is_add_kind action.AddConstraint = true
@@ -118,14 +119,16 @@ validation_at tree is_known actions k =
 abbrev pub validations : Tree → (List ℕ → Bool) → List Action → List Violation
 validations tree is_known actions = pieces_below (validation_at tree is_known actions) (length actions)
 
-abbrev pub validations_at : Tree → Rules → LinterSettings → ℕ → List Violation
-validations_at tree rules settings i =
-    if has rules rule.ConstraintMissingNotValid && is_open settings.assume_in_transaction tree i
+-- the validations of statement i, where it is in an open transaction
+abbrev pub validations_in : LinterSettings → Tree → ℕ → List Violation
+validations_in settings tree i =
+    if is_open settings.assume_in_transaction tree i
     then validations tree (λ name. is_added settings.assume_in_transaction tree name i) (actions_of (stmt_at tree i))
     else []
 
 abbrev pub reports_of_validations : Tree → Rules → LinterSettings → List Violation
-reports_of_validations tree rules settings = pieces_below (validations_at tree rules settings) (length tree.stmts)
+reports_of_validations tree rules settings =
+    table_of rule.ConstraintMissingNotValid (validations_in settings tree) rules (length tree.stmts)
 
 -- ---- second: constraints that are added so that the table is scanned
 
@@ -147,14 +150,11 @@ is_new_table settings tree i (Some path) = is_new settings.assume_in_transaction
 
 -- the constraints that s, which is statement i, adds to a table that is not new
 abbrev pub additions_of : LinterSettings → Tree → ℕ → Stmt → List Violation
-additions_of settings tree i s = if is_new_table settings tree i (table_of s) then [] else flat_map (addition tree) (actions_of s)
-
-abbrev pub additions_at : Tree → Rules → LinterSettings → ℕ → List Violation
-additions_at tree rules settings i =
-    if has rules rule.ConstraintMissingNotValid then additions_of settings tree i (stmt_at tree i) else []
+additions_of settings tree i s = if is_new_table settings tree i (altered_table s) then [] else flat_map (addition tree) (actions_of s)
 
 abbrev pub reports_of_additions : Tree → Rules → LinterSettings → List Violation
-reports_of_additions tree rules settings = pieces_below (additions_at tree rules settings) (length tree.stmts)
+reports_of_additions tree rules settings =
+    table_of rule.ConstraintMissingNotValid (λ i. additions_of settings tree i (stmt_at tree i)) rules (length tree.stmts)
 
 -- ---- all reports
 

@@ -1,6 +1,6 @@
 -- What is reported of index builds: each CREATE INDEX without CONCURRENTLY, except on a table that an earlier statement of
 -- the same open transaction creates (PostgreSQL manual, CREATE INDEX, "Building Indexes Concurrently").
-use Rattle.std.specs.Prelude.{ℕ, ◌&&◌, not, List, [], ◌∷◌, length, codes, if◌then◌else◌, Option, Some, None}
+use Rattle.std.specs.Prelude.{ℕ, List, [], ◌∷◌, length, codes, if◌then◌else◌, Some, None}
 use Rattle.sql_token.specs.declared.token.Span.{Span}
 use Rattle.sql_tree.specs.declared.nodes.Body.{Body}
 use Rattle.sql_tree.specs.declared.nodes.Body.TheVariants as body
@@ -11,9 +11,9 @@ use Rattle.sql_tree.specs.Statement.{Tree}
 use Rattle.lint_base.specs.declared.rule.Rule.TheVariants as rule
 use Rattle.lint_base.specs.declared.settings.LinterSettings.{LinterSettings}
 use Rattle.lint_base.specs.declared.violation.Violation.{Violation}
-use Rattle.lint_base.specs.RuleSets.{Rules, has}
-use Rattle.lint_track.specs.Earlier.{pieces_below}
-use Rattle.lint_track.specs.Transaction.{stmt_at, is_new}
+use Rattle.lint_base.specs.RuleSets.{Rules}
+use Rattle.lint_transaction.specs.Transaction.{stmt_at, is_new}
+use Rattle.lint_pass.specs.RuleLaws.{table_of}
 use Rattle.pass_lock.specs.Fixes.{insertion_fix}
 
 -- the report of an index build whose word INDEX has this number
@@ -39,11 +39,7 @@ reports_by settings tree i s _ = []
 abbrev pub reports_of : LinterSettings → Tree → ℕ → Stmt → List Violation
 reports_of settings tree i s = reports_by settings tree i s s.body
 
-abbrev pub reports_at : Tree → Rules → LinterSettings → ℕ → List Violation
-reports_at tree rules settings i =
-    if has rules rule.RequireConcurrentIndexCreation then reports_of settings tree i (stmt_at tree i) else []
-
 -- all reports, statement by statement
 abbrev pub reports_of_require_concurrent_index_creation : Tree → Rules → LinterSettings → List Violation
 reports_of_require_concurrent_index_creation tree rules settings =
-    pieces_below (reports_at tree rules settings) (length tree.stmts)
+    table_of rule.RequireConcurrentIndexCreation (λ i. reports_of settings tree i (stmt_at tree i)) rules (length tree.stmts)

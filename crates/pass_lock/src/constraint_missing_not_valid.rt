@@ -1,21 +1,20 @@
 //! Constraints that are added to tables in use.
 
-ghost use Rattle.std.specs.Prelude.{◌≡◌, ◌++◌, ◌∷◌, [], ◌&&◌, ◌||◌, not, ℕ, Bool, List, Some, OnOk, OnErr, IfOk, option_copied, if◌then◌else◌};
+ghost use Rattle.std.specs.Prelude.{◌≡◌, ◌++◌, ◌∷◌, [], ◌&&◌, ◌||◌, not, ℕ, Bool, List, Some, OnOk, OnErr, option_copied, if◌then◌else◌};
 ghost use Rattle.std.specs.List.{flat_map, list_any};
 ghost use Rattle.sql_tree.specs.Statement.{Tree};
 ghost use Rattle.lint_base.specs.Grown.{GrownBy};
 ghost use Rattle.lint_base.specs.declared.settings.LinterSettings.{LinterSettings};
-ghost use Rattle.lint_track.specs.Created.{IsKnown};
-ghost use Rattle.lint_track.specs.Transaction as track;
-ghost use Rattle.lint_track.specs.declared.span_set.SpanKey.TheVariants as by;
+ghost use Rattle.lint_transaction.specs.Created.{IsKnown};
+ghost use Rattle.lint_transaction.specs.Transaction as track;
+ghost use Rattle.lint_transaction.specs.declared.span_set.SpanKey.TheVariants as by;
 ghost use Rattle.pass_lock.specs.ConstraintMissingNotValid as spec;
 ghost use Rattle.pass_lock.specs.ConstraintMissingNotValid.{adds_not_valid, addition, additions_of, report_on, validation, validations};
 ghost use Rattle.pass_lock.specs.ConstraintWalk.{has_name};
 
-use crate::fixes::only;
 use lint_base::{LinterSettings, Reports, Rule, RuleSet, Text, Violation};
-use lint_pass::{Block, Pair, StepPass};
-use lint_track::{CreatedTables, OpenTransaction, SpanKey, SpanSet, ends};
+use lint_pass::{Block, Pair, RulePass, StepPass};
+use lint_transaction::{CreatedTables, OpenTransaction, SpanKey, SpanSet, ends};
 use sql_token::Span;
 use sql_tree::{Action, ActionKind, Body, Constraint, Parse, Stmt, StmtKind};
 use std::alloc::Global;
@@ -56,7 +55,7 @@ struct Validations;
 
 /// Whether a transaction is open, and the names of the constraints that it added as not valid.
 #[derive(Drop)]
-struct ValidationsState {
+struct ValidationsMemory {
     open: OpenTransaction,
     names: SpanSet,
 }
@@ -67,7 +66,7 @@ struct Additions;
 
 /// The tables that the open transaction created.
 #[derive(Drop)]
-struct AdditionsState {
+struct AdditionsMemory {
     created: CreatedTables,
 }
 
@@ -89,8 +88,8 @@ fn actions_of(s: &Stmt) -> &[Action]
 }
 
 /// The path of the table that an ALTER statement alters.
-fn table_of(s: &Stmt) -> Option<Span>
-    ensures { result ≡ spec.table_of s.now }
+fn altered_table(s: &Stmt) -> Option<Span>
+    ensures { result ≡ spec.altered_table s.now }
 {
     match &s.body {
         Body::Alter { path, .. } => *path,
@@ -156,8 +155,8 @@ fn report_on(p: &Parse<'_>, message: Text, help: Text, a: &Action) -> Violation
 fn validation_report(p: &Parse<'_>, a: &Action) -> Violation
     ensures { result ≡ spec.validation_report p.now a.now }
 {
-    let message = Text::fixed(VALIDATED_MESSAGE);
-    let help = Text::fixed(VALIDATED_HELP);
+    let message = Text::plain(VALIDATED_MESSAGE);
+    let help = Text::plain(VALIDATED_HELP);
     report_on(p, message, help, a)
 }
 
@@ -165,19 +164,19 @@ fn validation_report(p: &Parse<'_>, a: &Action) -> Violation
 fn addition_report(p: &Parse<'_>, a: &Action) -> Violation
     ensures { result ≡ spec.addition_report p.now a.now }
 {
-    let message = Text::fixed(ADDED_MESSAGE);
-    let help = Text::fixed(ADDED_HELP);
+    let message = Text::plain(ADDED_MESSAGE);
+    let help = Text::plain(ADDED_HELP);
     report_on(p, message, help, a)
 }
 
 /// Whether the path's last name is one of these.
-fn is_known(names: &SpanSet, p: &Parse<'_>, path: Option<Span>) -> Result<bool, NoMemory>
+fn is_known(names: &SpanSet, p: &Parse<'_>, path: Option<Span>) -> bool
     requires { names.now.key ≡ by.LastName }
-    ensures { IfOk result (λ b. b ≡ spec.is_known_path p.now (has_name p.now names.now) path) }
+    ensures { result ≡ spec.is_known_path p.now (has_name p.now names.now) path }
 {
     match path {
         Some(path) => names.contains(p, path),
-        None => Ok(false),
+        None => false,
     }
 }
 
@@ -192,7 +191,7 @@ fn report_validation(
     ensures ok { OnOk result (out.new ≡ out.old ++ validation p.now (has_name p.now names.now) (Some a.now)) }
     ensures err { OnErr result (out.new ≡ out.old) }
 {
-    if is_known(names, p, validated(a))? {
+    if is_known(names, p, validated(a)) {
         out.push(validation_report(p, a))
     } else {
         Ok(())
@@ -239,7 +238,7 @@ fn watch_actions(
     Ok(())
 }
 
-impl ValidationsState {
+impl ValidationsMemory {
     /// Goes over a statement.
     fn watch(&mut self, p: &Parse<'_>, s: &Stmt, out: &mut Reports) -> Result<(), NoMemory>
         requires { self.old.names.key ≡ by.LastName }
@@ -257,8 +256,8 @@ impl ValidationsState {
         }
     }
 
-    /// Goes behind a statement.
-    fn go_behind(&mut self, s: &Stmt)
+    /// Goes after a statement.
+    fn go_after(&mut self, s: &Stmt)
         requires { self.old.names.key ≡ by.LastName }
         ensures open { self.new.open ≡ (track.begins s.now || track.chains s.now || (self.old.open && not (track.ends s.now))) }
         ensures key { self.new.names.key ≡ by.LastName }
@@ -281,69 +280,56 @@ fn forget_at_end(names: &mut SpanSet, s: &Stmt)
     }
 }
 
-impl StepPass for Validations {
-    ghost use Rattle.std.specs.Prelude.{◌≡◌, true, []};
-    ghost use Rattle.std.proofs.lemmas.List.{append-nil};
+impl RulePass for Validations {
+    ghost use Rattle.std.specs.Prelude.{false};
     ghost use Rattle.lint_base.specs.declared.rule.Rule.TheVariants as rule;
-    ghost use Rattle.lint_base.specs.RuleSets.{has, no_rules, with_rule};
-    ghost use Rattle.pass_lock.specs.ConstraintMissingNotValid.{validations_at, reports_of_validations};
+    ghost use Rattle.pass_lock.specs.ConstraintMissingNotValid.{validations_in};
+    ghost use Rattle.pass_lock.specs.ConstraintReports.{validations_coded, validations_placed};
     ghost use Rattle.pass_lock.specs.ConstraintWalk.{IsWatching};
 
-    type State = ValidationsState;
+    type Memory = ValidationsMemory;
 
-    ghost own = { λ _. with_rule no_rules rule.ConstraintMissingNotValid };
+    ghost code = { λ _. rule.ConstraintMissingNotValid };
 
-    ghost at = { λ _ state tree r set i. has r rule.ConstraintMissingNotValid ≡ true → IsWatching tree set.assume_in_transaction i state.open state.names };
+    ghost knows = { λ _ memory tree set i. IsWatching tree set.assume_in_transaction i memory.open memory.names };
 
-    ghost piece = { λ _. validations_at };
+    ghost wants = { λ _. false };
 
-    ghost tail = { λ _ _ _ _. [] };
+    ghost reports = { λ _ tree set i. validations_in set tree i };
 
-    ghost table = { λ _. reports_of_validations };
+    ghost coded = { λ _. validations_coded };
 
-    fn rules(&self) -> RuleSet {
-        only(Rule::ConstraintMissingNotValid)
+    ghost placed = { λ _. validations_placed };
+
+    fn code(&self) -> Rule {
+        Rule::ConstraintMissingNotValid
     }
 
-    fn start(&self, alloc: Global, set: &LinterSettings) -> Result<ValidationsState, NoMemory> {
-        Ok(ValidationsState {
+    fn wants_blocks(&self) -> bool {
+        false
+    }
+
+    fn begin(&self, alloc: Global, set: &LinterSettings) -> Result<ValidationsMemory, NoMemory> {
+        Ok(ValidationsMemory {
             open: OpenTransaction::new(set.assume_in_transaction),
             names: SpanSet::new(alloc, SpanKey::LastName),
         })
     }
 
-    fn step(
+    fn tell(
         &self,
-        state: &mut ValidationsState,
+        memory: &mut ValidationsMemory,
         p: &Parse<'_>,
         _i: u32,
         s: &Stmt,
         _blocks: &[Block],
-        rules: &RuleSet,
         _set: &LinterSettings,
         out: &mut Reports,
     ) -> Result<(), NoMemory> {
-        if !rules.contains(Rule::ConstraintMissingNotValid) {
-            return Ok(());
-        }
-        state.watch(p, s, out)?;
-        state.go_behind(s);
+        memory.watch(p, s, out)?;
+        memory.go_after(s);
         Ok(())
     }
-
-    fn finish(
-        &self,
-        _alloc: Global,
-        _state: ValidationsState,
-        _p: &Parse<'_>,
-        _rules: &RuleSet,
-        _set: &LinterSettings,
-        _out: &mut Reports,
-    ) -> Result<(), NoMemory> {
-        Ok(())
-    }
-
-    ghost whole = { λ _ tree r s. append-nil (reports_of_validations tree r s) };
 }
 
 /// Reports a constraint that an action adds so that the table is scanned.
@@ -369,15 +355,15 @@ fn report_additions(p: &Parse<'_>, actions: &[Action], out: &mut Reports) -> Res
     Ok(())
 }
 
-impl AdditionsState {
+impl AdditionsMemory {
     /// Whether the open transaction created the table of this path.
-    fn is_new(&self, p: &Parse<'_>, path: Option<Span>) -> Result<bool, NoMemory>
-        ensures { IfOk result (λ b. (settings : LinterSettings) (i : ℕ) → IsKnown p.now settings.assume_in_transaction i self.now.created
-            → b ≡ spec.is_new_table settings p.now i path) }
+    fn is_new(&self, p: &Parse<'_>, path: Option<Span>) -> bool
+        ensures { (settings : LinterSettings) (i : ℕ) → IsKnown p.now settings.assume_in_transaction i self.now.created
+            → result ≡ spec.is_new_table settings p.now i path }
     {
         match path {
             Some(path) => self.created.contains(p, path),
-            None => Ok(false),
+            None => false,
         }
     }
 
@@ -392,7 +378,7 @@ impl AdditionsState {
         if !has_addition(actions) {
             return Ok(());
         }
-        if self.is_new(p, table_of(s))? {
+        if self.is_new(p, altered_table(s)) {
             return Ok(());
         }
         report_additions(p, actions, out)
@@ -406,82 +392,69 @@ fn has_addition(actions: &[Action]) -> bool
     actions.iter().any(|a| is_checked(a))
 }
 
-impl StepPass for Additions {
-    ghost use Rattle.std.specs.Prelude.{◌≡◌, true, []};
-    ghost use Rattle.std.proofs.lemmas.List.{append-nil};
+impl RulePass for Additions {
+    ghost use Rattle.std.specs.Prelude.{false};
     ghost use Rattle.lint_base.specs.declared.rule.Rule.TheVariants as rule;
-    ghost use Rattle.lint_base.specs.RuleSets.{has, no_rules, with_rule};
-    ghost use Rattle.lint_track.specs.Created.{IsKnown};
-    ghost use Rattle.pass_lock.specs.ConstraintMissingNotValid.{additions_at, reports_of_additions};
+    ghost use Rattle.lint_transaction.specs.Created.{IsKnown};
+    ghost use Rattle.lint_transaction.specs.Transaction.{stmt_at};
+    ghost use Rattle.pass_lock.specs.ConstraintMissingNotValid.{additions_of};
+    ghost use Rattle.pass_lock.specs.ConstraintReports.{additions_coded, additions_placed};
 
-    type State = AdditionsState;
+    type Memory = AdditionsMemory;
 
-    ghost own = { λ _. with_rule no_rules rule.ConstraintMissingNotValid };
+    ghost code = { λ _. rule.ConstraintMissingNotValid };
 
-    ghost at = { λ _ state tree r set i. has r rule.ConstraintMissingNotValid ≡ true → IsKnown tree set.assume_in_transaction i state.created };
+    ghost knows = { λ _ memory tree set i. IsKnown tree set.assume_in_transaction i memory.created };
 
-    ghost piece = { λ _. additions_at };
+    ghost wants = { λ _. false };
 
-    ghost tail = { λ _ _ _ _. [] };
+    ghost reports = { λ _ tree set i. additions_of set tree i (stmt_at tree i) };
 
-    ghost table = { λ _. reports_of_additions };
+    ghost coded = { λ _ tree set i. additions_coded tree set i (stmt_at tree i) };
 
-    fn rules(&self) -> RuleSet {
-        only(Rule::ConstraintMissingNotValid)
+    ghost placed = { λ _ tree set i. additions_placed tree set i (stmt_at tree i) };
+
+    fn code(&self) -> Rule {
+        Rule::ConstraintMissingNotValid
     }
 
-    fn start(&self, alloc: Global, set: &LinterSettings) -> Result<AdditionsState, NoMemory> {
-        Ok(AdditionsState {
+    fn wants_blocks(&self) -> bool {
+        false
+    }
+
+    fn begin(&self, alloc: Global, set: &LinterSettings) -> Result<AdditionsMemory, NoMemory> {
+        Ok(AdditionsMemory {
             created: CreatedTables::new(alloc, set.assume_in_transaction),
         })
     }
 
-    fn step(
+    fn tell(
         &self,
-        state: &mut AdditionsState,
+        memory: &mut AdditionsMemory,
         p: &Parse<'_>,
         _i: u32,
         s: &Stmt,
         _blocks: &[Block],
-        rules: &RuleSet,
         _set: &LinterSettings,
         out: &mut Reports,
     ) -> Result<(), NoMemory> {
-        if !rules.contains(Rule::ConstraintMissingNotValid) {
-            return Ok(());
-        }
-        state.report(p, s, out)?;
-        state.created.update(p, s)?;
+        memory.report(p, s, out)?;
+        memory.created.update(p, s)?;
         Ok(())
     }
-
-    fn finish(
-        &self,
-        _alloc: Global,
-        _state: AdditionsState,
-        _p: &Parse<'_>,
-        _rules: &RuleSet,
-        _set: &LinterSettings,
-        _out: &mut Reports,
-    ) -> Result<(), NoMemory> {
-        Ok(())
-    }
-
-    ghost whole = { λ _ tree r s. append-nil (reports_of_additions tree r s) };
 }
 
 impl StepPass for ConstraintMissingNotValid {
-    ghost use Rattle.std.specs.Prelude.{refl};
-    ghost use Rattle.lint_base.specs.declared.rule.Rule.TheVariants as rule;
-    ghost use Rattle.lint_base.specs.RuleSets.{no_rules, with_rule};
     ghost use Rattle.pass_lock.specs.ConstraintMissingNotValid.{reports_of_constraint_missing_not_valid};
     ghost use Rattle.pass_lock.specs.declared.constraint_missing_not_valid.TheConstants.{PARTS};
 
     type State = ConstraintMissingNotValidState;
 
-    ghost own = { λ _. with_rule no_rules rule.ConstraintMissingNotValid };
+    ghost own = { λ _. ⟦<Parts as StepPass>⟧.own PARTS };
 
     ghost at = { λ _ state tree r s i. ⟦<Parts as StepPass>⟧.at PARTS state.parts tree r s i };
+
+    ghost wants = { λ _. ⟦<Parts as StepPass>⟧.wants PARTS };
 
     ghost piece = { λ _. ⟦<Parts as StepPass>⟧.piece PARTS };
 
@@ -489,8 +462,20 @@ impl StepPass for ConstraintMissingNotValid {
 
     ghost table = { λ _. reports_of_constraint_missing_not_valid };
 
+    ghost whole = { λ _. ⟦<Parts as StepPass>⟧.whole PARTS };
+
+    ghost coded = { λ _. ⟦<Parts as StepPass>⟧.coded PARTS };
+
+    ghost placed = { λ _. ⟦<Parts as StepPass>⟧.placed PARTS };
+
+    ghost apart = { λ _. ⟦<Parts as StepPass>⟧.apart PARTS };
+
     fn rules(&self) -> RuleSet {
-        only(Rule::ConstraintMissingNotValid)
+        StepPass::rules(&PARTS)
+    }
+
+    fn wants_blocks(&self, rules: &RuleSet) -> bool {
+        StepPass::wants_blocks(&PARTS, rules)
     }
 
     fn start(
@@ -529,6 +514,4 @@ impl StepPass for ConstraintMissingNotValid {
         let ConstraintMissingNotValidState { parts } = state;
         PARTS.finish(alloc, parts, p, rules, set, out)
     }
-
-    ghost whole = { λ _ _ _ _. refl };
 }

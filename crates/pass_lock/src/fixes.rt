@@ -1,10 +1,9 @@
-//! Parts that passes share: fixes, and sets of one rule.
+//! Fixes that passes share.
 
 ghost use Rattle.std.specs.Prelude.{◌≡◌, IfOk};
-ghost use Rattle.lint_base.specs.RuleSets.{no_rules, with_rule};
 ghost use Rattle.pass_lock.specs.Fixes.{insertion_fix};
 
-use lint_base::{Edit, Fix, Rule, RuleSet, Text};
+use lint_base::{Edit, Fix, Text};
 use std::alloc::Global;
 use text_pos::{NoMemory, TextSize};
 
@@ -20,13 +19,4 @@ pub(crate) fn insertion_fix(
     let mut edits = Vec::with_capacity(alloc, 1)?;
     edits.push(Edit::insert(text, at))?;
     Ok(Fix { title, edits })
-}
-
-/// The set of one rule.
-pub(crate) fn only(rule: Rule) -> RuleSet
-    ensures { result ≡ with_rule no_rules rule }
-{
-    let mut rules = RuleSet::empty();
-    rules.insert(rule);
-    rules
 }

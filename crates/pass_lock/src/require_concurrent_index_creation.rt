@@ -2,13 +2,13 @@
 
 ghost use Rattle.std.specs.Prelude.{◌≡◌, ◌++◌, ◌∷◌, [], ℕ, Bool, OnOk, OnErr, IfOk};
 ghost use Rattle.lint_base.specs.declared.settings.LinterSettings.{LinterSettings};
-ghost use Rattle.lint_track.specs.Created.{IsKnown};
+ghost use Rattle.lint_transaction.specs.Created.{IsKnown};
 ghost use Rattle.pass_lock.specs.RequireConcurrentIndexCreation.{report, reports_of};
 
-use crate::fixes::{insertion_fix, only};
-use lint_base::{LinterSettings, Reports, Rule, RuleSet, Text, Violation};
-use lint_pass::{Block, StepPass};
-use lint_track::CreatedTables;
+use crate::fixes::insertion_fix;
+use lint_base::{LinterSettings, Reports, Rule, Text, Violation};
+use lint_pass::{Block, RulePass};
+use lint_transaction::CreatedTables;
 use sql_tree::{Body, Parse, Stmt};
 use std::alloc::Global;
 use text_pos::NoMemory;
@@ -34,7 +34,7 @@ pub struct RequireConcurrentIndexCreation;
 
 /// The tables that the open transaction created.
 #[derive(Drop)]
-pub struct RequireConcurrentIndexCreationState {
+pub struct RequireConcurrentIndexCreationMemory {
     alloc: Global,
     created: CreatedTables,
 }
@@ -45,25 +45,25 @@ fn report(alloc: Global, p: &Parse<'_>, s: &Stmt, word: u32) -> Result<Violation
     ensures { IfOk result (λ v. v ≡ report p.now s.now word) }
 {
     let at = p.span_range(word, word).end();
-    let fix = insertion_fix(alloc, Text::fixed(TITLE), Text::fixed(INSERTED), at)?;
+    let fix = insertion_fix(alloc, Text::plain(TITLE), Text::plain(INSERTED), at)?;
     Ok(Violation {
         code: Rule::RequireConcurrentIndexCreation,
-        message: Text::fixed(MESSAGE),
+        message: Text::plain(MESSAGE),
         text_range: p.stmt_range(s),
         note: None,
-        help: Some(Text::fixed(HELP)),
+        help: Some(Text::plain(HELP)),
         fix: Some(fix),
     })
 }
 
 /// Reports a statement that builds an index without CONCURRENTLY, unless the open transaction created its table.
 fn report_build(
-    state: &RequireConcurrentIndexCreationState,
+    memory: &RequireConcurrentIndexCreationMemory,
     p: &Parse<'_>,
     s: &Stmt,
     out: &mut Reports,
 ) -> Result<(), NoMemory>
-    ensures ok { OnOk result ((settings : LinterSettings) (i : ℕ) → IsKnown p.now settings.assume_in_transaction i state.now.created
+    ensures ok { OnOk result ((settings : LinterSettings) (i : ℕ) → IsKnown p.now settings.assume_in_transaction i memory.now.created
         → out.new ≡ out.old ++ reports_of settings p.now i s.now) }
     ensures err { OnErr result (out.new ≡ out.old) }
 {
@@ -74,81 +74,69 @@ fn report_build(
             path,
             ..
         } => {
-            if state.created.contains(p, path)? {
+            if memory.created.contains(p, path) {
                 Ok(())
             } else {
-                out.push(report(state.alloc, p, s, word)?)
+                out.push(report(memory.alloc, p, s, word)?)
             }
         }
         _ => Ok(()),
     }
 }
 
-impl StepPass for RequireConcurrentIndexCreation {
-    ghost use Rattle.std.specs.Prelude.{◌≡◌, true, []};
-    ghost use Rattle.std.proofs.lemmas.List.{append-nil};
+impl RulePass for RequireConcurrentIndexCreation {
+    ghost use Rattle.std.specs.Prelude.{false};
     ghost use Rattle.lint_base.specs.declared.rule.Rule.TheVariants as rule;
-    ghost use Rattle.lint_base.specs.RuleSets.{has, no_rules, with_rule};
-    ghost use Rattle.lint_track.specs.Created.{IsKnown};
-    ghost use Rattle.pass_lock.specs.RequireConcurrentIndexCreation.{reports_at, reports_of_require_concurrent_index_creation};
+    ghost use Rattle.lint_transaction.specs.Created.{IsKnown};
+    ghost use Rattle.lint_transaction.specs.Transaction.{stmt_at};
+    ghost use Rattle.pass_lock.specs.RequireConcurrentIndexCreation.{reports_of};
+    ghost use Rattle.pass_lock.specs.BuildLaws.{builds_coded, builds_placed};
 
-    type State = RequireConcurrentIndexCreationState;
+    type Memory = RequireConcurrentIndexCreationMemory;
 
-    ghost own = { λ _. with_rule no_rules rule.RequireConcurrentIndexCreation };
+    ghost code = { λ _. rule.RequireConcurrentIndexCreation };
 
-    ghost at = { λ _ state tree r set i. has r rule.RequireConcurrentIndexCreation ≡ true → IsKnown tree set.assume_in_transaction i state.created };
+    ghost knows = { λ _ memory tree set i. IsKnown tree set.assume_in_transaction i memory.created };
 
-    ghost piece = { λ _. reports_at };
+    ghost wants = { λ _. false };
 
-    ghost tail = { λ _ _ _ _. [] };
+    ghost reports = { λ _ tree set i. reports_of set tree i (stmt_at tree i) };
 
-    ghost table = { λ _. reports_of_require_concurrent_index_creation };
+    ghost coded = { λ _ tree set i. builds_coded tree set i (stmt_at tree i) };
 
-    fn rules(&self) -> RuleSet {
-        only(Rule::RequireConcurrentIndexCreation)
+    ghost placed = { λ _ tree set i. builds_placed tree set i (stmt_at tree i) };
+
+    fn code(&self) -> Rule {
+        Rule::RequireConcurrentIndexCreation
     }
 
-    fn start(
+    fn wants_blocks(&self) -> bool {
+        false
+    }
+
+    fn begin(
         &self,
         alloc: Global,
         set: &LinterSettings,
-    ) -> Result<RequireConcurrentIndexCreationState, NoMemory> {
-        Ok(RequireConcurrentIndexCreationState {
+    ) -> Result<RequireConcurrentIndexCreationMemory, NoMemory> {
+        Ok(RequireConcurrentIndexCreationMemory {
             alloc,
             created: CreatedTables::new(alloc, set.assume_in_transaction),
         })
     }
 
-    fn step(
+    fn tell(
         &self,
-        state: &mut RequireConcurrentIndexCreationState,
+        memory: &mut RequireConcurrentIndexCreationMemory,
         p: &Parse<'_>,
         _i: u32,
         s: &Stmt,
         _blocks: &[Block],
-        rules: &RuleSet,
         _set: &LinterSettings,
         out: &mut Reports,
     ) -> Result<(), NoMemory> {
-        if !rules.contains(Rule::RequireConcurrentIndexCreation) {
-            return Ok(());
-        }
-        report_build(state, p, s, out)?;
-        state.created.update(p, s)?;
+        report_build(memory, p, s, out)?;
+        memory.created.update(p, s)?;
         Ok(())
     }
-
-    fn finish(
-        &self,
-        _alloc: Global,
-        _state: RequireConcurrentIndexCreationState,
-        _p: &Parse<'_>,
-        _rules: &RuleSet,
-        _set: &LinterSettings,
-        _out: &mut Reports,
-    ) -> Result<(), NoMemory> {
-        Ok(())
-    }
-
-    ghost whole = { λ _ tree r s. append-nil (reports_of_require_concurrent_index_creation tree r s) };
 }

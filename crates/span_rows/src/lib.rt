@@ -3,3 +3,5 @@
 
 #[cfg(test)]
 mod spans;
+#[cfg(test)]
+mod tokens;

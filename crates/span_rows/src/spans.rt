@@ -1,4 +1,4 @@
-//! Elements, constraints and actions, each told by its kind and the numbers of its tokens.
+//! Elements, constraints and actions, each known by its kind and the numbers of its tokens.
 
 ghost use Rattle.std.specs.Prelude.{MatchOption};
 ghost use Rattle.sql_lex.specs.Inside.{IsSpan};
@@ -22,7 +22,7 @@ const LISTS: &[(&str, u32, &str)] = &[
     ("CREATE TABLE t (a int, 1)", 6, "7 other "),
 ];
 
-/// A text, the number of the first token behind a domain's AS, and the constraints: kind, first token, last token.
+/// A text, the number of the first token after a domain's AS, and the constraints: kind, first token, last token.
 const DOMAINS: &[(&str, u32, &str)] = &[
     ("CREATE DOMAIN d AS int", 8, ""),
     (
@@ -34,17 +34,45 @@ const DOMAINS: &[(&str, u32, &str)] = &[
     ("SELECT DEFAULT", 2, "none"),
 ];
 
-/// A text, the number of the first token that the form of ALTER TABLE leaves open, and the actions: kind, first token, last
-/// token.
-const ALTERS: &[(&str, u32, &str)] = &[
-    ("ALTER TABLE t DROP COLUMN a", 6, "DropColumn 6 10 "),
+/// A kind of statement, a text, the number of the first token that its form leaves open, and the actions: kind, first
+/// token, last token.
+const ALTERS: &[(StmtKind, &str, u32, &str)] = &[
     (
+        StmtKind::AlterTable,
+        "ALTER TABLE t DROP COLUMN a",
+        6,
+        "DropColumn 6 10 ",
+    ),
+    (
+        StmtKind::AlterTable,
         "ALTER TABLE t ADD a int, ADD b int",
         6,
         "AddColumn 6 10 AddColumn 13 17 ",
     ),
-    ("ALTER TABLE t ADD a int, ADD b int", 13, "AddColumn 13 17 "),
-    ("ALTER TABLE t ADD a int, ADD b int", 11, "none"),
+    (
+        StmtKind::AlterTable,
+        "ALTER TABLE t ADD a int, ADD b int",
+        13,
+        "AddColumn 13 17 ",
+    ),
+    (
+        StmtKind::AlterTable,
+        "ALTER TABLE t ADD a int, ADD b int",
+        11,
+        "none",
+    ),
+    (
+        StmtKind::AlterDefaultPrivileges,
+        "ALTER DEFAULT PRIVILEGES IN SCHEMA s REVOKE ALL ON TABLES FROM u",
+        12,
+        "RevokePrivileges 12 22 ",
+    ),
+    (
+        StmtKind::AlterDefaultPrivileges,
+        "ALTER DEFAULT PRIVILEGES IN SCHEMA s REVOKE ALL ON TABLES FROM u",
+        6,
+        "none",
+    ),
 ];
 
 /// The tokens of the first statement of a text from this one on, where it has so many.
@@ -97,10 +125,10 @@ fn constraints(alloc: Global, p: &Parse<'_>, first: u32) -> Result<String, Fail>
     Ok(out)
 }
 
-fn actions(alloc: Global, p: &Parse<'_>, first: u32) -> Result<String, Fail> {
+fn actions(alloc: Global, p: &Parse<'_>, kind: StmtKind, first: u32) -> Result<String, Fail> {
     let mut out = String::new(alloc);
     if let Some(span) = from_token(p, first) {
-        let read = read_actions(alloc, StmtKind::AlterTable, p.text(), p.tokens(), span)?;
+        let read = read_actions(alloc, kind, p.text(), p.tokens(), span)?;
         let Some(found) = read else {
             out.push_str("none")?;
             return Ok(out);
@@ -143,12 +171,12 @@ fn constraints_of_a_span(rt: HostRuntime) -> Result<(), Fail> {
 #[test]
 fn actions_of_a_span(rt: HostRuntime) -> Result<(), Fail> {
     for row in ALTERS {
-        let p = parse(rt.alloc(), row.0)?;
+        let p = parse(rt.alloc(), row.1)?;
         assert_eq!(rt;
-            actions(rt.alloc(), &p, row.1)?.as_str(),
-            row.2,
+            actions(rt.alloc(), &p, row.0, row.2)?.as_str(),
+            row.3,
             "at {:?}",
-            row.0
+            row.1
         );
     }
     Ok(())

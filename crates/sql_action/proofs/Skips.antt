@@ -15,8 +15,8 @@ unfolding chunks
 first_piece list [] n m now is value more some = absurd (omega arith)
 first_piece list (t ∷ ts) n m now is value more some =
     let rest : take (length (t ∷ ts) - m) (drop m (t ∷ ts)) ≡ drop m (t ∷ ts) = rw (← length-drop m (t ∷ ts)) (take-length (drop m (t ∷ ts))) in
-    let behind : m ≡ suc (n - 1) = omega (arith, more) in
-    rw (← is, rest, behind, value) (ap (λ r. (Some (take (piece_len list (t ∷ ts)) (t ∷ ts)), r)) (chunks_skipped (piece_len list) (piece_len list (t ∷ ts) - 1) ts))
+    let after : m ≡ suc (n - 1) = omega (arith, more) in
+    rw (← is, rest, after, value) (ap (λ r. (Some (take (piece_len list (t ∷ ts)) (t ∷ ts)), r)) (chunks_skipped (piece_len list) (piece_len list (t ∷ ts) - 1) ts))
 
 pub none_left : (list : PieceList) (s : List Terminal) (empty : Bool) (now : List (List Terminal)) → chunks (piece_len list) s ≡ now → empty ≡ (length s == 0) → empty ≡ true
     → uncons now ≡ (None, now)

@@ -1,7 +1,7 @@
--- An action that is put behind those that were read.
+-- An action that is put after those that were read.
 use Rattle.std.specs.Prelude.{Bool, true, false, List, [], ◌∷◌, ◌++◌, Option, Some, None}
 
 -- whether there was one, and the list
-abbrev pub put_behind : {A : Type 0} → Option A → List A → Bool × List A
-put_behind None xs = (false, xs)
-put_behind (Some x) xs = (true, xs ++ x ∷ [])
+abbrev pub put_after : {A : Type 0} → Option A → List A → Bool × List A
+put_after None xs = (false, xs)
+put_after (Some x) xs = (true, xs ++ x ∷ [])

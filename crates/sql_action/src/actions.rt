@@ -3,15 +3,15 @@
 ghost use Rattle.std.specs.Prelude.{◌≡◌, IfOk, map};
 ghost use Rattle.sql_tree.specs.Action as spec;
 ghost use Rattle.sql_tree.specs.Forms.{at};
-ghost use Rattle.sql_action.specs.Puts.{put_behind};
+ghost use Rattle.sql_action.specs.Puts.{put_after};
 
 use crate::pieces::{read_attributes, read_column_option, read_pieces};
-use crate::starts::{behind_maybe, first_symbol, own_part, takes_constraint};
+use crate::starts::{first_symbol, own_part, skip_word, takes_constraint};
 use crate::tables::{first_rows_at, general_rows_at, own_rows};
 use sql_column::read_column;
 use sql_constraint::{make_room, read_table_constraint};
+use sql_form::{after_word, nothing_kept, read_whole};
 use sql_mark::{Mark, Parts, span_of};
-use sql_part::{behind_word, nothing_kept, read_whole};
 use sql_token::{Keyword, Terminal};
 use sql_tree::actions::{OPTIONS, OTHER, PieceList};
 use sql_tree::forms::{ActionRows, Captures};
@@ -48,9 +48,9 @@ fn add_constraint(
     terminals: &[Terminal],
     actions: &mut Vec<Action>,
 ) -> Result<bool, NoMemory>
-    ensures { IfOk result (λ found. (found, actions.new.items) ≡ put_behind (spec.add_constraint terminals.now) actions.old.items) }
+    ensures { IfOk result (λ found. (found, actions.new.items) ≡ put_after (spec.add_constraint terminals.now) actions.old.items) }
 {
-    let Some(rest) = behind_word(Keyword::ADD, terminals) else {
+    let Some(rest) = after_word(Keyword::ADD, terminals) else {
         return Ok(false);
     };
     match read_table_constraint(alloc, rest)? {
@@ -69,7 +69,7 @@ fn added_constraint(
     terminals: &[Terminal],
     actions: &mut Vec<Action>,
 ) -> Result<bool, NoMemory>
-    ensures { IfOk result (λ found. (found, actions.new.items) ≡ put_behind (spec.added_constraint kind terminals.now) actions.old.items) }
+    ensures { IfOk result (λ found. (found, actions.new.items) ≡ put_after (spec.added_constraint kind terminals.now) actions.old.items) }
 {
     if takes_constraint(kind, terminals) {
         add_constraint(alloc, terminals, actions)
@@ -127,7 +127,7 @@ fn built(
     rest: &[Terminal],
     actions: &mut Vec<Action>,
 ) -> Result<bool, NoMemory>
-    ensures { IfOk result (λ found. (found, actions.new.items) ≡ put_behind (spec.built terminals.now kind (at kept.now rest.now)) actions.old.items) }
+    ensures { IfOk result (λ found. (found, actions.new.items) ≡ put_after (spec.built terminals.now kind (at kept.now rest.now)) actions.old.items) }
 {
     let Some(column) = column_in(alloc, kind, rest)? else {
         return Ok(false);
@@ -160,7 +160,7 @@ fn by_rows(
     terminals: &[Terminal],
     actions: &mut Vec<Action>,
 ) -> Result<bool, NoMemory>
-    ensures { IfOk result (λ found. (found, actions.new.items) ≡ put_behind (spec.by_rows (map (λ r. (r.0, r.1.now)) rows.entry.now) terminals.now) actions.old.items) }
+    ensures { IfOk result (λ found. (found, actions.new.items) ≡ put_after (spec.by_rows (map (λ r. (r.0, r.1.now)) rows.entry.now) terminals.now) actions.old.items) }
 {
     if rows.is_empty() {
         return Ok(false);
@@ -181,7 +181,7 @@ fn own_action(
     terminals: &[Terminal],
     actions: &mut Vec<Action>,
 ) -> Result<bool, NoMemory>
-    ensures { IfOk result (λ found. (found, actions.new.items) ≡ put_behind (spec.own_action kind terminals.now) actions.old.items) }
+    ensures { IfOk result (λ found. (found, actions.new.items) ≡ put_after (spec.own_action kind terminals.now) actions.old.items) }
 {
     match own_part(kind, terminals) {
         None => Ok(false),
@@ -196,7 +196,7 @@ fn general_action(
     terminals: &[Terminal],
     actions: &mut Vec<Action>,
 ) -> Result<bool, NoMemory>
-    ensures { IfOk result (λ found. (found, actions.new.items) ≡ put_behind (spec.general_action kind terminals.now) actions.old.items) }
+    ensures { IfOk result (λ found. (found, actions.new.items) ≡ put_after (spec.general_action kind terminals.now) actions.old.items) }
 {
     if added_constraint(alloc, kind, terminals, actions)? {
         return Ok(true);
@@ -216,7 +216,7 @@ fn listed_action(
     terminals: &[Terminal],
     actions: &mut Vec<Action>,
 ) -> Result<bool, NoMemory>
-    ensures { IfOk result (λ found. (found, actions.new.items) ≡ put_behind (spec.listed_action kind terminals.now) actions.old.items) }
+    ensures { IfOk result (λ found. (found, actions.new.items) ≡ put_after (spec.listed_action kind terminals.now) actions.old.items) }
 {
     let first = first_rows_at(first_symbol(terminals));
     if by_rows(alloc, first, terminals, actions)? {
@@ -245,13 +245,13 @@ fn options(
     terminals: &[Terminal],
     actions: &mut Vec<Action>,
 ) -> Result<bool, NoMemory>
-    ensures { IfOk result (λ found. (found, actions.new.items) ≡ put_behind (spec.options kind terminals.now) actions.old.items) }
+    ensures { IfOk result (λ found. (found, actions.new.items) ≡ put_after (spec.options kind terminals.now) actions.old.items) }
 {
     if takes_options(kind) {
         by_rows(
             alloc,
             &OPTIONS,
-            behind_maybe(Keyword::WITH, terminals),
+            skip_word(Keyword::WITH, terminals),
             actions,
         )
     } else {
@@ -266,7 +266,7 @@ fn unlisted_action(
     terminals: &[Terminal],
     actions: &mut Vec<Action>,
 ) -> Result<bool, NoMemory>
-    ensures { IfOk result (λ found. (found, actions.new.items) ≡ put_behind (spec.unlisted_action kind terminals.now) actions.old.items) }
+    ensures { IfOk result (λ found. (found, actions.new.items) ≡ put_after (spec.unlisted_action kind terminals.now) actions.old.items) }
 {
     if options(alloc, kind, terminals, actions)? {
         return Ok(true);
@@ -274,7 +274,7 @@ fn unlisted_action(
     by_rows(alloc, &OTHER, terminals, actions)
 }
 
-/// Puts the action that these terminals are behind the others, and tells whether there is one: there is none only where
+/// Puts the action that these terminals are after the others, and tells whether there is one: there is none only where
 /// there is no terminal.
 #[tactic(auto, unfolding(sql_tree::specs::Action::action), using(crate::proofs::Puts::first_put, crate::proofs::Puts::other_put))]
 fn read_action(
@@ -283,7 +283,7 @@ fn read_action(
     terminals: &[Terminal],
     actions: &mut Vec<Action>,
 ) -> Result<bool, NoMemory>
-    ensures { IfOk result (λ found. (found, actions.new.items) ≡ put_behind (spec.action kind terminals.now) actions.old.items) }
+    ensures { IfOk result (λ found. (found, actions.new.items) ≡ put_after (spec.action kind terminals.now) actions.old.items) }
 {
     if terminals.is_empty() {
         return Ok(false);

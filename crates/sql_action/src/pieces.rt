@@ -6,8 +6,8 @@ ghost use Rattle.sql_tree.specs.ActionPieces as spec;
 ghost use Rattle.sql_tree.specs.Split.{chunks, uncons};
 
 use sql_constraint::{make_room, put};
+use sql_form::{nothing_kept, read_whole};
 use sql_mark::{Mark, Parts, begins_with, closing, span_of, terminals_before};
-use sql_part::{nothing_kept, read_whole};
 use sql_token::{Keyword, Symbol, Terminal};
 use sql_tree::actions::{
     ATTRIBUTE, COLUMN_OPTION, CONSTRAINT_OPTION, IDENTITY_OPTION, OTHER_OPTION, POLICY_PART,
@@ -28,7 +28,7 @@ fn is_word(symbol: Symbol) -> bool
     matches!(symbol, Symbol::Keyword(_) | Symbol::Word)
 }
 
-/// NOT ENFORCED, NOT DEFERRABLE, or INITIALLY with a word behind it.
+/// NOT ENFORCED, NOT DEFERRABLE, or INITIALLY with a word after it.
 #[tactic(auto, unfolding(sql_tree::specs::ActionPieces::is_pair))]
 fn is_pair(first: Terminal, second: Terminal) -> bool
     ensures { result ≡ spec.is_pair first second }
@@ -66,7 +66,7 @@ fn piece_len(list: PieceList, terminals: &[Terminal]) -> usize
 
 // ---- one piece
 
-/// The type behind SET TYPE.
+/// The type after SET TYPE.
 #[tactic(auto, unfolding(sql_tree::specs::ActionPieces::type_in))]
 fn type_in(kind: PieceKind, rest: &[Terminal]) -> Option<ColType>
     ensures { result ≡ spec.type_in kind rest.now }

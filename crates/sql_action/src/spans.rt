@@ -3,9 +3,10 @@
 ghost use Rattle.std.specs.Prelude.{◌≡◌, ◌<◌, ◌^◌, length, IfOk};
 ghost use Rattle.sql_lex.specs.Inside.{IsSpan, terminals_in};
 ghost use Rattle.sql_token.specs.Token.{Lexed};
-ghost use Rattle.sql_tree.specs.Action.{actions_of};
+ghost use Rattle.sql_tree.specs.Action.{actions_alone};
 
 use crate::actions::read_actions_of;
+use crate::starts::begins_tail;
 use sql_lex::terminals_in;
 use sql_token::{Span, Tok};
 use sql_tree::{Action, StmtKind};
@@ -14,9 +15,11 @@ use std::alloc::Global;
 use text_pos::NoMemory;
 
 /// The actions of an ALTER statement of this kind, by the tokens that its form leaves open, without the semicolon.
-/// `Ok(None)` where they are none: where no token is significant, or none between two commas that part actions.
+/// `Ok(None)` where they are none: where no token is significant, or none between two commas that part actions, or where
+/// those of ALTER DEFAULT PRIVILEGES do not begin with GRANT or REVOKE.
 ///
 /// What an action holds are numbers among all tokens of the text. Brackets need not match.
+#[tactic(auto, unfolding(sql_tree::specs::Action::actions_alone))]
 pub fn read_actions(
     alloc: Global,
     kind: StmtKind,
@@ -27,8 +30,12 @@ pub fn read_actions(
     requires lexed { Lexed text.now toks.now }
     requires short { length text.now < 2 ^ 32 }
     requires inside { IsSpan toks.now span }
-    ensures { IfOk result (λ actions. actions ≡ actions_of kind (terminals_in text.now toks.now span)) }
+    ensures { IfOk result (λ actions. actions ≡ actions_alone kind (terminals_in text.now toks.now span)) }
 {
     let terminals = terminals_in(alloc, text, toks, span)?;
-    read_actions_of(alloc, kind, &terminals)
+    if begins_tail(kind, &terminals) {
+        read_actions_of(alloc, kind, &terminals)
+    } else {
+        Ok(None)
+    }
 }

@@ -3,11 +3,10 @@
 ghost use Rattle.std.specs.Prelude.{◌≡◌};
 ghost use Rattle.std.specs.Option.{option_copied};
 ghost use Rattle.sql_tree.specs.Action as spec;
-ghost use Rattle.sql_tree.specs.Forms.{behind_word};
+ghost use Rattle.sql_tree.specs.Forms.{after_word};
 
-use sql_constraint::behind_two;
+use sql_form::{after_any_name, after_two, after_word};
 use sql_mark::begins_with;
-use sql_part::behind_word;
 use sql_token::{Keyword, Symbol, Terminal};
 use sql_tree::StmtKind;
 
@@ -20,48 +19,38 @@ pub(crate) fn first_symbol(terminals: &[Terminal]) -> Symbol
     }
 }
 
-#[tactic(auto, unfolding(sql_tree::specs::Action::behind_name))]
-fn behind_name<'a>(terminals: &'a [Terminal]) -> Option<&'a [Terminal]>
-    ensures { option_copied result ≡ spec.behind_name terminals.entry.now }
+/// What follows this word where it comes first, else everything.
+pub(crate) fn skip_word(word: Keyword, terminals: &[Terminal]) -> &[Terminal]
+    ensures { result.now ≡ spec.list_or (after_word word terminals.now) terminals.now }
 {
-    match terminals {
-        [first, rest @ ..] if first.is_name() => Some(rest),
-        _ => None,
-    }
-}
-
-/// What follows this word where it stands first, else everything.
-pub(crate) fn behind_maybe(word: Keyword, terminals: &[Terminal]) -> &[Terminal]
-    ensures { result.now ≡ spec.list_or (behind_word word terminals.now) terminals.now }
-{
-    match behind_word(word, terminals) {
+    match after_word(word, terminals) {
         Some(rest) => rest,
         None => terminals,
     }
 }
 
-/// What follows ALTER, the word COLUMN where it stands, and a name.
-#[tactic(auto, unfolding(sql_tree::specs::Action::behind_column))]
-fn behind_column<'a>(terminals: &'a [Terminal]) -> Option<&'a [Terminal]>
-    ensures { option_copied result ≡ spec.behind_column terminals.entry.now }
+/// What follows ALTER, the word COLUMN where it is present, and a name.
+#[tactic(auto, unfolding(sql_tree::specs::Action::after_column))]
+fn after_column<'a>(terminals: &'a [Terminal]) -> Option<&'a [Terminal]>
+    ensures { option_copied result ≡ spec.after_column terminals.entry.now }
 {
-    let rest = behind_word(Keyword::ALTER, terminals)?;
-    behind_name(behind_maybe(Keyword::COLUMN, rest))
+    let rest = after_word(Keyword::ALTER, terminals)?;
+    after_any_name(skip_word(Keyword::COLUMN, rest))
 }
 
-fn behind_in_database<'a>(terminals: &'a [Terminal]) -> Option<&'a [Terminal]>
-    ensures { option_copied result ≡ spec.behind_in_database terminals.entry.now }
+fn after_in_database<'a>(terminals: &'a [Terminal]) -> Option<&'a [Terminal]>
+    ensures { option_copied result ≡ spec.after_in_database terminals.entry.now }
 {
-    let rest = behind_two(Keyword::IN, Keyword::DATABASE, terminals)?;
-    behind_name(rest)
+    let rest = after_two(Keyword::IN, Keyword::DATABASE, terminals)?;
+    after_any_name(rest)
 }
 
-/// What follows IN DATABASE and a name where these stand first, else everything.
-#[tactic(auto, unfolding(sql_tree::specs::Action::behind_database))]
-fn behind_database(terminals: &[Terminal]) -> &[Terminal]
-    ensures { result.now ≡ spec.behind_database terminals.now }
+/// What follows IN DATABASE and a name where these come first, else everything.
+#[tactic(auto, unfolding(sql_tree::specs::Action::after_database))]
+fn after_database(terminals: &[Terminal]) -> &[Terminal]
+    ensures { result.now ≡ spec.after_database terminals.now }
 {
-    match behind_in_database(terminals) {
+    match after_in_database(terminals) {
         Some(rest) => rest,
         None => terminals,
     }
@@ -73,9 +62,9 @@ pub(crate) fn own_part<'a>(kind: StmtKind, terminals: &'a [Terminal]) -> Option<
     ensures { option_copied result ≡ spec.own_part kind terminals.entry.now }
 {
     match kind {
-        StmtKind::AlterView => behind_column(terminals),
-        StmtKind::AlterRole | StmtKind::AlterUser => Some(behind_database(terminals)),
-        StmtKind::AlterDatabase | StmtKind::AlterSystem => Some(behind_database(terminals)),
+        StmtKind::AlterView => after_column(terminals),
+        StmtKind::AlterRole | StmtKind::AlterUser => Some(after_database(terminals)),
+        StmtKind::AlterDatabase | StmtKind::AlterSystem => Some(after_database(terminals)),
         _ => Some(terminals),
     }
 }
@@ -87,19 +76,31 @@ fn begins_domain_constraint(terminals: &[Terminal]) -> bool
 {
     begins_with(Keyword::CHECK, terminals)
         || begins_with(Keyword::CONSTRAINT, terminals)
-        || behind_two(Keyword::NOT, Keyword::NULL, terminals).is_some()
+        || after_two(Keyword::NOT, Keyword::NULL, terminals).is_some()
 }
 
-/// Whether this kind of statement adds the table constraint that stands behind ADD.
+/// Whether this kind of statement adds the table constraint that comes after ADD.
 #[tactic(auto, unfolding(sql_tree::specs::Action::takes_constraint))]
 pub(crate) fn takes_constraint(kind: StmtKind, terminals: &[Terminal]) -> bool
     ensures { result ≡ spec.takes_constraint kind terminals.now }
 {
     match kind {
-        StmtKind::AlterDomain => match behind_word(Keyword::ADD, terminals) {
+        StmtKind::AlterDomain => match after_word(Keyword::ADD, terminals) {
             None => false,
             Some(rest) => begins_domain_constraint(rest),
         },
+        _ => true,
+    }
+}
+
+/// Whether the tail of a statement of this kind may begin so: that of ALTER DEFAULT PRIVILEGES, with GRANT or REVOKE.
+pub(crate) fn begins_tail(kind: StmtKind, terminals: &[Terminal]) -> bool
+    ensures { result ≡ spec.begins_tail kind terminals.now }
+{
+    match kind {
+        StmtKind::AlterDefaultPrivileges => {
+            begins_with(Keyword::GRANT, terminals) || begins_with(Keyword::REVOKE, terminals)
+        }
         _ => true,
     }
 }

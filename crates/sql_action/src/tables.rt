@@ -79,7 +79,7 @@ pub(crate) fn first_rows_at(symbol: Symbol) -> ActionRows
     }
 }
 
-/// The rows of every kind of statement that are read behind those of one kind, by the first symbol.
+/// The rows of every kind of statement that are read after those of one kind, by the first symbol.
 #[tactic(auto, unfolding(sql_tree::specs::ActionRows::general_rows_at))]
 pub(crate) fn general_rows_at(symbol: Symbol) -> ActionRows
     ensures { map (λ r. (r.0, r.1.now)) result.now ≡ spec.general_rows_at symbol }

@@ -19,7 +19,7 @@ is_plain_symbol _ = false
 abbrev pub path_of_one : ℕ → ColType
 path_of_one n = plain_of Path n (record { first = n; last = n }) None false
 
--- These terminals are this type, it is the one that stands first in them, and no constraint stands there.
+-- These terminals are this type, it is the one that comes first in them, and no constraint is there.
 pub record OneWord (ts : List Terminal) (ty : ColType) : Type 0 where
   pub whole : column_type ts ≡ Some ty
   pub first : type_in ts ≡ Some ty

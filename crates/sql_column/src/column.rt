@@ -41,7 +41,7 @@ fn path_of_one(number: u32) -> ColType
     }
 }
 
-/// The type that these terminals are, where they are one name and no key word, as most types are. No constraint stands
+/// The type that these terminals are, where they are one name and no key word, as most types are. No constraint is there
 /// there.
 #[inline(always)]
 fn one_word(terminals: &[Terminal]) -> Option<ColType>

@@ -69,7 +69,7 @@ fn put_column(
     Ok(())
 }
 
-/// Puts the element that these terminals are behind the others.
+/// Puts the element that these terminals are after the others.
 #[tactic(auto, unfolding(sql_tree::specs::Column::element))]
 fn put_element(
     alloc: Global,
@@ -109,7 +109,7 @@ fn listed(alloc: Global, inside: &[Terminal]) -> Result<Items<Elem>, NoMemory>
     Ok(Items::from_vec(elements))
 }
 
-/// The elements of a list, by what stands inside its brackets; none, where nothing does.
+/// The elements of a list, by what is inside its brackets; none, where nothing does.
 pub fn elements_inside(alloc: Global, inside: &[Terminal]) -> Result<Items<Elem>, NoMemory>
     ensures { IfOk result (λ es. es ≡ if is_empty inside.now then [] else spec.listed inside.now) }
 {
@@ -119,7 +119,7 @@ pub fn elements_inside(alloc: Global, inside: &[Terminal]) -> Result<Items<Elem>
     listed(alloc, inside)
 }
 
-/// The elements of the list that stands directly behind a table's path; none, where no list does. An element that does
+/// The elements of the list that comes directly after a table's path; none, where no list does. An element that does
 /// not match its form is `Elem::Other`.
 #[tactic(auto, unfolding(sql_tree::specs::Column::elements))]
 pub fn read_elements(alloc: Global, tail: &[Terminal]) -> Result<Items<Elem>, NoMemory>
@@ -128,7 +128,7 @@ pub fn read_elements(alloc: Global, tail: &[Terminal]) -> Result<Items<Elem>, No
     elements_inside(alloc, inside_list(tail))
 }
 
-/// Whether ON COMMIT DROP stands behind a table's path.
+/// Whether ON COMMIT DROP comes after a table's path.
 #[tactic(auto, unfolding(sql_tree::specs::Column::drops_on_commit))]
 pub fn drops_on_commit(tail: &[Terminal]) -> bool
     ensures { result ≡ spec.drops_on_commit tail.now }

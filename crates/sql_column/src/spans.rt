@@ -33,7 +33,7 @@ pub fn read_elems(
     read_elements(alloc, &terminals)
 }
 
-/// The constraints of a domain, by the tokens behind its path and the word AS, without the semicolon. `Ok(None)` where no
+/// The constraints of a domain, by the tokens after its path and the word AS, without the semicolon. `Ok(None)` where no
 /// token is significant, or where a DEFAULT has no expression.
 pub fn read_domain(
     alloc: Global,

@@ -14,17 +14,17 @@ use sqlite_items::Items;
 use std::alloc::Global;
 use text_pos::NoMemory;
 
-fn behind_kind(kind: ConKind, rest: &[Terminal]) -> &[Terminal]
-    ensures { result.now ≡ spec.behind_kind kind rest.now }
+fn after_kind(kind: ConKind, rest: &[Terminal]) -> &[Terminal]
+    ensures { result.now ≡ spec.after_kind kind rest.now }
 {
     match kind {
-        ConKind::NotNull => behind_first(rest),
-        ConKind::PrimaryKey => behind_first(rest),
+        ConKind::NotNull => after_first(rest),
+        ConKind::PrimaryKey => after_first(rest),
         _ => rest,
     }
 }
 
-fn behind_first(terminals: &[Terminal]) -> &[Terminal]
+fn after_first(terminals: &[Terminal]) -> &[Terminal]
     ensures { result.now ≡ drop 1 terminals.now }
 {
     match terminals {
@@ -42,7 +42,7 @@ fn column_kind<'a>(terminals: &'a [Terminal]) -> Option<(ConKind, &'a [Terminal]
         [] => None,
         [first, rest @ ..] => {
             let kind = kind_led(*first, rest)?;
-            Some((kind, behind_kind(kind, rest)))
+            Some((kind, after_kind(kind, rest)))
         }
     }
 }
@@ -53,15 +53,16 @@ fn is_default(kind: ConKind) -> bool
     matches!(kind, ConKind::Default)
 }
 
-/// The constraint of a column or of a domain that these terminals are, all of them; `Ok(None)` where they are none.
+/// The constraint of a column or of a domain that these terminals are, all of them: neither not valid nor by index,
+/// whatever words are in it. `Ok(None)` where they are none.
 #[tactic(auto, unfolding(sql_tree::specs::Constraint::column_constraint))]
 fn column_constraint(alloc: Global, terminals: &[Terminal]) -> Result<Option<Constraint>, NoMemory>
     ensures { IfOk result (λ c. c ≡ spec.column_constraint terminals.now) }
 {
-    let Some((name, behind)) = constraint_name(terminals) else {
+    let Some((name, after)) = constraint_name(terminals) else {
         return Ok(None);
     };
-    let Some((kind, rest)) = column_kind(behind) else {
+    let Some((kind, rest)) = column_kind(after) else {
         return Ok(None);
     };
     if is_default(kind) && rest.is_empty() {
@@ -71,8 +72,8 @@ fn column_constraint(alloc: Global, terminals: &[Terminal]) -> Result<Option<Con
     Ok(Some(constraint))
 }
 
-/// The constraints of a column, or of a domain, that stand in these terminals; `Ok(None)` where a DEFAULT has no
-/// expression. `earlier` is the terminal before them, where one belongs to the column: behind SET or BY, the words
+/// The constraints of a column, or of a domain, that are in these terminals; `Ok(None)` where a DEFAULT has no
+/// expression. `earlier` is the terminal before them, where one belongs to the column: after SET or BY, the words
 /// NULL and DEFAULT may begin nothing.
 #[tactic(auto, unfolding(sql_tree::specs::Constraint::column_constraints))]
 pub fn read_column_constraints(

@@ -6,25 +6,12 @@ ghost use Rattle.sql_tree.specs.Constraint as spec;
 ghost use Rattle.sql_constraint.specs.Views.{beside};
 
 use crate::value::{value_in, value_of, value_span};
+use sql_form::{after_two, after_word};
 use sql_mark::{Mark, has_mark, span_of};
-use sql_part::behind_word;
 use sql_token::{Keyword, Symbol, Terminal};
 use sql_tree::{ConKind, Constraint};
 use std::alloc::Global;
 use text_pos::NoMemory;
-
-/// What follows these two words, where they stand first.
-#[tactic(auto, unfolding(sql_tree::specs::Constraint::behind_two))]
-pub fn behind_two<'a>(
-    first: Keyword,
-    second: Keyword,
-    terminals: &'a [Terminal],
-) -> Option<&'a [Terminal]>
-    ensures { option_copied result ≡ spec.behind_two first second terminals.entry.now }
-{
-    let rest = behind_word(first, terminals)?;
-    behind_word(second, rest)
-}
 
 // ---- its name
 
@@ -38,7 +25,7 @@ fn named<'a>(terminals: &'a [Terminal]) -> Option<(Option<u32>, &'a [Terminal])>
     }
 }
 
-/// The number of the name behind CONSTRAINT, where this word stands, and what follows.
+/// The number of the name after CONSTRAINT, where this word is there, and what follows.
 #[tactic(auto, unfolding(sql_tree::specs::Constraint::constraint_name))]
 pub(crate) fn constraint_name<'a>(
     terminals: &'a [Terminal],
@@ -64,11 +51,11 @@ pub fn is_exclusion(rest: &[Terminal]) -> bool
     }
 }
 
-#[tactic(auto, unfolding(sql_tree::specs::Constraint::behind_exclude))]
-fn behind_exclude<'a>(terminals: &'a [Terminal]) -> Option<&'a [Terminal]>
-    ensures { option_copied result ≡ spec.behind_exclude terminals.entry.now }
+#[tactic(auto, unfolding(sql_tree::specs::Constraint::after_exclude))]
+fn after_exclude<'a>(terminals: &'a [Terminal]) -> Option<&'a [Terminal]>
+    ensures { option_copied result ≡ spec.after_exclude terminals.entry.now }
 {
-    let rest = behind_word(Keyword::EXCLUDE, terminals)?;
+    let rest = after_word(Keyword::EXCLUDE, terminals)?;
     if is_exclusion(rest) { Some(rest) } else { None }
 }
 
@@ -76,13 +63,13 @@ fn behind_exclude<'a>(terminals: &'a [Terminal]) -> Option<&'a [Terminal]>
 fn two_word_kind<'a>(terminals: &'a [Terminal]) -> Option<(ConKind, &'a [Terminal])>
     ensures { option_map beside result ≡ spec.two_word_kind terminals.entry.now }
 {
-    if let Some(rest) = behind_two(Keyword::PRIMARY, Keyword::KEY, terminals) {
+    if let Some(rest) = after_two(Keyword::PRIMARY, Keyword::KEY, terminals) {
         return Some((ConKind::PrimaryKey, rest));
     }
-    if let Some(rest) = behind_two(Keyword::FOREIGN, Keyword::KEY, terminals) {
+    if let Some(rest) = after_two(Keyword::FOREIGN, Keyword::KEY, terminals) {
         return Some((ConKind::ForeignKey, rest));
     }
-    let rest = behind_two(Keyword::NOT, Keyword::NULL, terminals)?;
+    let rest = after_two(Keyword::NOT, Keyword::NULL, terminals)?;
     Some((ConKind::NotNull, rest))
 }
 
@@ -91,13 +78,13 @@ fn two_word_kind<'a>(terminals: &'a [Terminal]) -> Option<(ConKind, &'a [Termina
 fn constraint_kind<'a>(terminals: &'a [Terminal]) -> Option<(ConKind, &'a [Terminal])>
     ensures { option_map beside result ≡ spec.constraint_kind terminals.entry.now }
 {
-    if let Some(rest) = behind_word(Keyword::CHECK, terminals) {
+    if let Some(rest) = after_word(Keyword::CHECK, terminals) {
         return Some((ConKind::Check, rest));
     }
-    if let Some(rest) = behind_word(Keyword::UNIQUE, terminals) {
+    if let Some(rest) = after_word(Keyword::UNIQUE, terminals) {
         return Some((ConKind::Unique, rest));
     }
-    if let Some(rest) = behind_exclude(terminals) {
+    if let Some(rest) = after_exclude(terminals) {
         return Some((ConKind::Exclude, rest));
     }
     two_word_kind(terminals)
@@ -116,10 +103,11 @@ fn is_key(kind: ConKind) -> bool
 fn is_by_index(kind: ConKind, rest: &[Terminal]) -> bool
     ensures { result ≡ spec.by_index kind rest.now }
 {
-    is_key(kind) && behind_two(Keyword::USING, Keyword::INDEX, rest).is_some()
+    is_key(kind) && after_two(Keyword::USING, Keyword::INDEX, rest).is_some()
 }
 
-/// The constraint that all of `terminals` is, by its name, its kind, and what follows the words of the kind.
+/// The constraint that all of `terminals` is, by its name, its kind, and what follows the words of the kind: neither not
+/// valid nor by index.
 #[tactic(auto, unfolding(sql_tree::specs::Constraint::constraint_in))]
 pub(crate) fn constraint_in(
     alloc: Global,
@@ -138,8 +126,8 @@ pub(crate) fn constraint_in(
         name,
         first: span.first,
         last: span.last,
-        not_valid: has_mark(Mark::NotValid, terminals),
-        by_index: is_by_index(kind, rest),
+        not_valid: false,
+        by_index: false,
         expr,
         expr_span: value_span(value),
     })
@@ -155,12 +143,14 @@ pub fn read_table_constraint(
 ) -> Result<Option<Constraint>, NoMemory>
     ensures { IfOk result (λ c. c ≡ spec.table_constraint terminals.now) }
 {
-    let Some((name, behind)) = constraint_name(terminals) else {
+    let Some((name, after)) = constraint_name(terminals) else {
         return Ok(None);
     };
-    let Some((kind, rest)) = constraint_kind(behind) else {
+    let Some((kind, rest)) = constraint_kind(after) else {
         return Ok(None);
     };
-    let constraint = constraint_in(alloc, terminals, name, kind, rest)?;
+    let mut constraint = constraint_in(alloc, terminals, name, kind, rest)?;
+    constraint.not_valid = has_mark(Mark::NotValid, terminals);
+    constraint.by_index = is_by_index(kind, rest);
     Ok(Some(constraint))
 }

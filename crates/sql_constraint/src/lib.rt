@@ -7,5 +7,5 @@ mod list;
 mod value;
 
 pub use column::read_column_constraints;
-pub use constraint::{behind_two, is_exclusion, read_table_constraint};
+pub use constraint::{is_exclusion, read_table_constraint};
 pub use list::{make_room, put};

@@ -5,8 +5,8 @@ ghost use Rattle.std.specs.Prelude.{◌≡◌, [], ◌∷◌, ◌++◌, OnOk};
 use sql_token::Terminal;
 use text_pos::NoMemory;
 
-/// Makes room for the first item of a list, and for as many more as stand between commas if each is as long as its
-/// `part`. Room for more than eight is left to the pushes, since one short part may stand before a very long one.
+/// Makes room for the first item of a list, and for as many more as are between commas if each is as long as its
+/// `part`. Room for more than eight is left to the pushes, since one short part may come before a very long one.
 pub fn make_room<T>(
     items: &mut Vec<T>,
     part: &[Terminal],
@@ -21,7 +21,7 @@ pub fn make_room<T>(
     Ok(())
 }
 
-/// Puts an item behind the others, where nothing tells how many there will be. The first two make room for just
+/// Puts an item after the others, where nothing tells how many there will be. The first two make room for just
 /// themselves.
 pub fn put<T: Drop>(items: &mut Vec<T>, item: T) -> Result<(), NoMemory>
     ensures { OnOk result (items.new.items ≡ items.old.items ++ item ∷ []) }

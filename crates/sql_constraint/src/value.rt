@@ -4,7 +4,7 @@ ghost use Rattle.std.specs.Prelude.{◌≡◌, IfOk};
 ghost use Rattle.sql_tree.specs.Constraint as spec;
 
 use sql_expr::read_expression;
-use sql_mark::{Mark, before_behind, inside_list, span_of};
+use sql_mark::{Mark, before_after_head, inside_list, span_of};
 use sql_token::{Span, Terminal};
 use sql_tree::{ConKind, Expr};
 use std::alloc::Global;
@@ -15,7 +15,7 @@ use text_pos::NoMemory;
 fn default_value(rest: &[Terminal]) -> &[Terminal]
     ensures { result.now ≡ spec.default_value rest.now }
 {
-    let len = before_behind(Mark::ValueEnd, 1, None, rest);
+    let len = before_after_head(Mark::ValueEnd, 1, None, rest);
     &rest[..len]
 }
 

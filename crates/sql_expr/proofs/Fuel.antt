@@ -41,7 +41,7 @@ parts mark d o c (t ∷ ts) =
     parts_step (o == c && mark d t ts) t (length ts) _ _ (parts mark (Some t) 0 0 ts)
     (parts mark (Some t) (o + one_if (is_opener t)) (c + one_if (is_closer t)) ts)
 
--- Where a mark stands, each is shorter.
+-- Where a mark is there, each is shorter.
 cut_step : (b : Bool) (t : Terminal) (n k : ℕ) (xs ys : List (List Terminal)) → Shorter (suc n) xs → (k < n → Shorter n ys) → (if b then 0 else suc k) < suc n
     → Shorter (suc n) (if b then [] ∷ xs else onto t ys)
 cut_step true t n k xs ys s r h = (omega arith, s)
@@ -68,7 +68,7 @@ picked false from len ts some is = some
 part_shorter : (from len : ℕ) (ts : List Terminal) → 0 < length ts → length (part from len ts) < length ts
 part_shorter from len ts some = picked (nat_lt (from + len) (length ts)) from len ts some refl
 
--- ---- Bin is the shape only where an operator stands at depth 0
+-- ---- Bin is the shape only where an operator is at depth 0
 
 abbrev is_bin : Shape → Bool
 is_bin Bin = true

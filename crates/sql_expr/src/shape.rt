@@ -55,7 +55,7 @@ fn all_full(terminals: &[Terminal]) -> bool
     true
 }
 
-/// The shape where `::` or COLLATE stands behind `count` terminals.
+/// The shape where `::` or COLLATE comes after `count` terminals.
 #[tactic(auto, unfolding(sql_tree::specs::Expression::cast_at))]
 fn cast_at(terminals: &[Terminal], count: usize) -> Shape
     requires { count < length terminals.now }

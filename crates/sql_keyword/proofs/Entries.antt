@@ -6,7 +6,7 @@ use Rattle.sql_keyword.specs.Letters.{IsCapital, AreCapitals}
 use Rattle.sql_keyword.specs.Slots.{start_of, length_of, text_at, text_in}
 use Rattle.sql_keyword.proofs.Below.{all_below, below_so}
 
--- the texts lie one behind another, and so many bytes they take
+-- the texts lie one after another, and so many bytes they take
 texts_length : length TEXTS.now ≡ 1774
 texts_length = refl
 

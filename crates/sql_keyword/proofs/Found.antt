@@ -7,10 +7,10 @@ use Rattle.sql_keyword.specs.declared.words.Verb.TheVariants as verbs
 use Rattle.sql_keyword.specs.declared.words.Object.TheVariants as objects
 use Rattle.sql_keyword.specs.declared.words.Other.TheVariants as others
 use Rattle.sql_keyword.specs.Texts.{text}
-use Rattle.sql_keyword.specs.Slots.{slot, start_of, length_of, keyword_in, text_at, keyword_of}
+use Rattle.sql_keyword.specs.Slots.{slot, start_of, length_of, keyword_in, text_at, look_up}
 
-pub found : (k : Keyword) → keyword_of (text k) ≡ Some k
-unfolding text slot start_of length_of keyword_in text_at keyword_of
+pub found : (k : Keyword) → look_up (text k) ≡ Some k
+unfolding text slot start_of length_of keyword_in text_at look_up
 found (k.Verb verbs.Abort) = refl
 found (k.Object objects.Access) = refl
 found (k.Other others.Add) = refl

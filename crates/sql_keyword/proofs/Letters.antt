@@ -11,7 +11,7 @@ use Rattle.std.specs.Str.{str_eq_ignore_ascii_case}
 use Rattle.sql_keyword.specs.Letters.{IsCapital, AreSame}
 use Rattle.sql_keyword.proofs.Below.{all_below, below_so}
 
--- the two tests of a byte, at the letter that k letters stand before
+-- the two tests of a byte, at the letter that k letters come before
 abbrev by_bits : ℕ → ℕ → Bool
 by_bits b k = eqb (bit_and b 223) (65 + k)
 

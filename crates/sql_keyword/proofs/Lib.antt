@@ -1,6 +1,7 @@
 mod Below
 mod Entries
 mod Found
+mod Listed
 mod Fours
 mod Letters
 mod Right

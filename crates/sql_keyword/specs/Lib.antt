@@ -2,3 +2,4 @@ pub mod Same
 pub mod Texts
 pub mod Letters
 pub mod Slots
+pub mod Find

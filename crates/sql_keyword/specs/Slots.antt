@@ -34,8 +34,8 @@ text_in n = text_at (start_of n) (length_of n)
 unfoldable pub keyword_in : ℕ → Option Keyword
 keyword_in n = slice_index_or KEYWORDS n None
 
--- what the table finds: by the law on `keyword_of` of src/lib.rt, the keyword whose text this is without regard to ASCII case
-unfoldable pub keyword_of : List ℕ → Option Keyword
-keyword_of bs =
+-- what the table finds
+unfoldable pub look_up : List ℕ → Option Keyword
+look_up bs =
     if nat_lt (length bs) 2 || nat_le 16 (length bs) then None
     else if str_eq_ignore_ascii_case bs (text_in (slot bs)) then keyword_in (slot bs) else None

@@ -11,7 +11,8 @@ ghost use Rattle.std.specs.Str.{str_eq_ignore_ascii_case};
 ghost use Rattle.sql_keyword.specs.Texts.{text};
 ghost use Rattle.sql_keyword.specs.declared.words.Keyword.{Keyword};
 ghost use Rattle.sql_keyword.specs.Letters.{AreCapitals};
-ghost use Rattle.sql_keyword.specs.Slots.{slot, start_of, length_of, text_at, text_in, keyword_in, keyword_of};
+ghost use Rattle.sql_keyword.specs.Slots.{slot, start_of, length_of, text_at, text_in, keyword_in, look_up};
+ghost use Rattle.sql_keyword.specs.Find.{keyword_of};
 
 use case::is_same_word;
 use slots::{
@@ -98,9 +99,10 @@ fn keyword_in(slot: usize) -> Option<Keyword>
     KEYWORDS[slot]
 }
 
-#[tactic(auto, unfolding(crate::specs::Slots::keyword_of))]
+/// What the table finds.
+#[tactic(auto, unfolding(crate::specs::Slots::look_up))]
 fn look_up(bytes: &[u8]) -> Option<Keyword>
-    ensures { result ≡ keyword_of bytes.now }
+    ensures { result ≡ look_up bytes.now }
 {
     if bytes.len() < SHORTEST || bytes.len() > LONGEST {
         return None;
@@ -113,10 +115,8 @@ fn look_up(bytes: &[u8]) -> Option<Keyword>
     }
 }
 
-/// The keyword whose text these bytes are without regard to ASCII case, or none where they are no keyword's: this is
-/// the clause `right`, for every keyword in both directions. The clause `value` names the same answer as a function
-/// of the bytes, for definitions that cite it. A word, and no quoted identifier, is what callers pass: quotes are
-/// bytes like others, and no keyword has them.
+/// The keyword whose text these bytes are, without regard to ASCII case, or none where they are no keyword's. Callers pass
+/// a word, and no quoted identifier: quotes are bytes like others, and no keyword has them.
 pub fn keyword_of(bytes: &[u8]) -> Option<Keyword>
     ensures value { result ≡ keyword_of bytes.now }
     ensures right { (k : Keyword) → (result ≡ Some k) ↔ IsTrue (str_eq_ignore_ascii_case bytes.now (text k)) }

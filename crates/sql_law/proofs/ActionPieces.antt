@@ -13,7 +13,7 @@ use Rattle.sql_tree.specs.declared.kinds.PieceKind.{PieceKind}
 use Rattle.sql_tree.specs.declared.kinds.PieceKind.TheVariants as p
 use Rattle.sql_tree.specs.declared.nodes.Piece.{Piece}
 use Rattle.sql_tree.specs.Forms.{words_of, take_part, first_whole}
-use Rattle.sql_tree.specs.Split.{comma, split, chunks_behind, chunks, before, closing, all_of}
+use Rattle.sql_tree.specs.Split.{comma, split, chunks_after, chunks, before, closing, all_of}
 use Rattle.sql_tree.specs.ActionPieces.{sequence_option, identity_option, policy_part, is_pair, begins_pair, constraint_option_len, piece_len, type_in, is_always, piece_in, PieceRow, piece_by, piece_rows, pieces_of, attributes, alone, one_option, other_option, column_option}
 use Rattle.sql_law.specs.Moved.{type_moved, piece_moved}
 use Rattle.sql_law.specs.Renumber.{renumber, IsBlind}
@@ -115,24 +115,24 @@ piece_moved_by f rows refused (t ∷ ts) = piece_by_moved f rows (t ∷ ts) (end
 
 -- ---- lists of pieces
 
-behind_moved : (f : ℕ → ℕ) (rows : List PieceRow) (list : PieceList) (n : ℕ) (ts : List Terminal) →
-    all_of (piece_by rows) (chunks_behind (piece_len list) n (map (renumber f) ts))
-    ≡ option_map (map (piece_moved f)) (all_of (piece_by rows) (chunks_behind (piece_len list) n ts))
-behind_moved f rows list zero [] = refl
-behind_moved f rows list (suc n) [] = refl
-behind_moved f rows list zero (t ∷ ts) =
+after_moved : (f : ℕ → ℕ) (rows : List PieceRow) (list : PieceList) (n : ℕ) (ts : List Terminal) →
+    all_of (piece_by rows) (chunks_after (piece_len list) n (map (renumber f) ts))
+    ≡ option_map (map (piece_moved f)) (all_of (piece_by rows) (chunks_after (piece_len list) n ts))
+after_moved f rows list zero [] = refl
+after_moved f rows list (suc n) [] = refl
+after_moved f rows list zero (t ∷ ts) =
     rw (
       piece_len_sees f list (t ∷ ts),
       take-map (renumber f) (piece_len list (t ∷ ts)) (t ∷ ts),
       piece_by_moved f rows (take (piece_len list (t ∷ ts)) (t ∷ ts)) (taken f (piece_len list (t ∷ ts)) t ts (piece_is_some list t ts)),
-      behind_moved f rows list (piece_len list (t ∷ ts) - 1) ts,
+      after_moved f rows list (piece_len list (t ∷ ts) - 1) ts,
     )
-    (others_moved _ (piece_by rows (take (piece_len list (t ∷ ts)) (t ∷ ts))) (all_of (piece_by rows) (chunks_behind (piece_len list) (piece_len list (t ∷ ts) - 1) ts)))
-behind_moved f rows list (suc n) (t ∷ ts) = behind_moved f rows list n ts
+    (others_moved _ (piece_by rows (take (piece_len list (t ∷ ts)) (t ∷ ts))) (all_of (piece_by rows) (chunks_after (piece_len list) (piece_len list (t ∷ ts) - 1) ts)))
+after_moved f rows list (suc n) (t ∷ ts) = after_moved f rows list n ts
 
 pub pieces_renumber : PiecesRenumber
 unfolding pieces_of chunks
-pieces_renumber f list ts = behind_moved f (piece_rows list) list 0 ts
+pieces_renumber f list ts = after_moved f (piece_rows list) list 0 ts
 
 attribute_refuses : first_whole (map (λ r. (r.0, r.1.now)) ATTRIBUTE) [] ≡ None
 unfolding take_part

@@ -14,17 +14,17 @@ use Rattle.sql_tree.specs.declared.kinds.StmtKind.TheVariants as stmt
 use Rattle.sql_tree.specs.declared.nodes.Column.{Column}
 use Rattle.sql_tree.specs.declared.nodes.Constraint.{Constraint}
 use Rattle.sql_tree.specs.declared.nodes.Piece.{Piece}
-use Rattle.sql_tree.specs.Constraint.{behind_two, table_constraint}
-use Rattle.sql_tree.specs.Forms.{State, ActionRow, behind_word, take_part, words_of, first_whole}
-use Rattle.sql_tree.specs.Split.{comma, split, behind_list}
+use Rattle.sql_tree.specs.Constraint.{after_two, table_constraint}
+use Rattle.sql_tree.specs.Forms.{State, ActionRow, after_word, take_part, words_of, first_whole}
+use Rattle.sql_tree.specs.Split.{comma, split, after_list}
 use Rattle.sql_tree.specs.ActionRows.{own_rows}
-use Rattle.sql_tree.specs.Action.{adding, adding_behind, add_constraint, begins_domain_constraint, behind_add, takes_constraint, added_constraint, column_in, pieces_in, action_in, built, by_rows, behind_name, list_or, behind_column, behind_in_database, behind_database, own_part, first_symbol, own_action, general_action, listed_action, options, unlisted_action, action, several_actions, one_action, actions_of}
+use Rattle.sql_tree.specs.Action.{adding, adding_after, add_constraint, begins_domain_constraint, after_add, takes_constraint, added_constraint, column_in, pieces_in, action_in, built, by_rows, after_name, list_or, after_column, after_in_database, after_database, own_part, first_symbol, own_action, general_action, listed_action, options, unlisted_action, action, several_actions, one_action, actions_of}
 use Rattle.sql_law.specs.Moved.{constraint_moved, column_moved, piece_moved, action_moved}
 use Rattle.sql_law.specs.Renumber.{renumber, captures_moved, state_moved}
 use Rattle.sql_law.specs.Trees.{ActionRenumbers, ActionsRenumber}
-use Rattle.sql_law.proofs.Basics.{moves, bind_moved, either_moved, all_moved, behind_word_moved, HasEnds, ends}
+use Rattle.sql_law.proofs.Basics.{moves, bind_moved, either_moved, all_moved, after_word_moved, HasEnds, ends}
 use Rattle.sql_law.proofs.Marks.{comma_is_blind, begins_sees, split_renumbers}
-use Rattle.sql_law.proofs.Constraints.{behind_two_moved, constraint_renumbers}
+use Rattle.sql_law.proofs.Constraints.{after_two_moved, constraint_renumbers}
 use Rattle.sql_law.proofs.Columns.{column_renumbers}
 use Rattle.sql_law.proofs.ActionPieces.{pieces_renumber, attributes_moved, column_option_moved}
 use Rattle.sql_law.proofs.Fronts.{whole_renumbers}
@@ -35,28 +35,28 @@ adding_moved : (f : ℕ → ℕ) (ts : List Terminal) → HasEnds f ts → (cons
     adding (map (renumber f) ts) (constraint_moved f constraint) ≡ action_moved f (adding ts constraint)
 adding_moved f ts e constraint = simp (length-map, e.first, e.last)
 
-adding_behind_moved : (f : ℕ → ℕ) (ts : List Terminal) → HasEnds f ts → (rest : List Terminal) →
-    adding_behind (map (renumber f) ts) (map (renumber f) rest) ≡ option_map (action_moved f) (adding_behind ts rest)
-adding_behind_moved f ts e rest =
+adding_after_moved : (f : ℕ → ℕ) (ts : List Terminal) → HasEnds f ts → (rest : List Terminal) →
+    adding_after (map (renumber f) ts) (map (renumber f) rest) ≡ option_map (action_moved f) (adding_after ts rest)
+adding_after_moved f ts e rest =
     rw (constraint_renumbers f rest) (bind_moved _ _ _ _ (λ constraint. ap Some (adding_moved f ts e constraint)) (table_constraint rest))
 
 add_constraint_moved : (f : ℕ → ℕ) (ts : List Terminal) → HasEnds f ts →
     add_constraint (map (renumber f) ts) ≡ option_map (action_moved f) (add_constraint ts)
 unfolding add_constraint
 add_constraint_moved f ts e =
-    rw (behind_word_moved f keyword.ADD ts) (bind_moved _ _ _ _ (adding_behind_moved f ts e) (behind_word keyword.ADD ts))
+    rw (after_word_moved f keyword.ADD ts) (bind_moved _ _ _ _ (adding_after_moved f ts e) (after_word keyword.ADD ts))
 
 domain_sees : (f : ℕ → ℕ) (ts : List Terminal) → begins_domain_constraint (map (renumber f) ts) ≡ begins_domain_constraint ts
 unfolding begins_domain_constraint
-domain_sees f ts = simp (begins_sees, behind_two_moved, moves)
+domain_sees f ts = simp (begins_sees, after_two_moved, moves)
 
-behind_add_sees : (f : ℕ → ℕ) (r : Option (List Terminal)) → behind_add (option_map (map (renumber f)) r) ≡ behind_add r
-behind_add_sees f None = refl
-behind_add_sees f (Some rest) = domain_sees f rest
+after_add_sees : (f : ℕ → ℕ) (r : Option (List Terminal)) → after_add (option_map (map (renumber f)) r) ≡ after_add r
+after_add_sees f None = refl
+after_add_sees f (Some rest) = domain_sees f rest
 
 takes_sees : (f : ℕ → ℕ) (kind : StmtKind) (ts : List Terminal) → takes_constraint kind (map (renumber f) ts) ≡ takes_constraint kind ts
 unfolding takes_constraint
-takes_sees f stmt.AlterDomain ts = simp (behind_word_moved, behind_add_sees)
+takes_sees f stmt.AlterDomain ts = simp (after_word_moved, after_add_sees)
 takes_sees f kind ts = refl
 
 added_moved : (f : ℕ → ℕ) (kind : StmtKind) (ts : List Terminal) → HasEnds f ts →
@@ -120,38 +120,38 @@ action_moved_by f rows refused (t ∷ ts) = by_rows_moved f rows (t ∷ ts) (end
 
 -- ---- where an action begins
 
-behind_name_moved : (f : ℕ → ℕ) (ts : List Terminal) → behind_name (map (renumber f) ts) ≡ option_map (map (renumber f)) (behind_name ts)
-unfolding behind_name
-behind_name_moved f [] = refl
-behind_name_moved f (t ∷ ts) = simp moves
+after_name_moved : (f : ℕ → ℕ) (ts : List Terminal) → after_name (map (renumber f) ts) ≡ option_map (map (renumber f)) (after_name ts)
+unfolding after_name
+after_name_moved f [] = refl
+after_name_moved f (t ∷ ts) = simp moves
 
 list_or_moved : (f : ℕ → ℕ) (r : Option (List Terminal)) (other : List Terminal) →
     list_or (option_map (map (renumber f)) r) (map (renumber f) other) ≡ map (renumber f) (list_or r other)
 list_or_moved f None other = refl
 list_or_moved f (Some rest) other = refl
 
-behind_column_moved : (f : ℕ → ℕ) (ts : List Terminal) → behind_column (map (renumber f) ts) ≡ option_map (map (renumber f)) (behind_column ts)
-unfolding behind_column
-behind_column_moved f ts = simp (behind_word_moved, list_or_moved, behind_name_moved, moves)
+after_column_moved : (f : ℕ → ℕ) (ts : List Terminal) → after_column (map (renumber f) ts) ≡ option_map (map (renumber f)) (after_column ts)
+unfolding after_column
+after_column_moved f ts = simp (after_word_moved, list_or_moved, after_name_moved, moves)
 
-behind_database_moved : (f : ℕ → ℕ) (ts : List Terminal) → behind_database (map (renumber f) ts) ≡ map (renumber f) (behind_database ts)
-unfolding behind_database
-behind_database_moved f ts =
-    rw (behind_two_moved f keyword.IN keyword.DATABASE ts, bind_moved (map (renumber f)) (map (renumber f)) behind_name behind_name (behind_name_moved f) (behind_two keyword.IN keyword.DATABASE ts))
-    (list_or_moved f (behind_in_database ts) ts)
+after_database_moved : (f : ℕ → ℕ) (ts : List Terminal) → after_database (map (renumber f) ts) ≡ map (renumber f) (after_database ts)
+unfolding after_database
+after_database_moved f ts =
+    rw (after_two_moved f keyword.IN keyword.DATABASE ts, bind_moved (map (renumber f)) (map (renumber f)) after_name after_name (after_name_moved f) (after_two keyword.IN keyword.DATABASE ts))
+    (list_or_moved f (after_in_database ts) ts)
 
 own_part_moved : (f : ℕ → ℕ) (kind : StmtKind) (ts : List Terminal) →
     own_part kind (map (renumber f) ts) ≡ option_map (map (renumber f)) (own_part kind ts)
 unfolding own_part
-own_part_moved f stmt.AlterView ts = behind_column_moved f ts
-own_part_moved f stmt.AlterRole ts = ap Some (behind_database_moved f ts)
-own_part_moved f stmt.AlterUser ts = ap Some (behind_database_moved f ts)
-own_part_moved f stmt.AlterDatabase ts = ap Some (behind_database_moved f ts)
-own_part_moved f stmt.AlterSystem ts = ap Some (behind_database_moved f ts)
+own_part_moved f stmt.AlterView ts = after_column_moved f ts
+own_part_moved f stmt.AlterRole ts = ap Some (after_database_moved f ts)
+own_part_moved f stmt.AlterUser ts = ap Some (after_database_moved f ts)
+own_part_moved f stmt.AlterDatabase ts = ap Some (after_database_moved f ts)
+own_part_moved f stmt.AlterSystem ts = ap Some (after_database_moved f ts)
 own_part_moved f kind ts = refl
 
 own_rows_refuse : (kind : StmtKind) → first_whole (own_rows kind) [] ≡ None
-unfolding own_rows take_part words_of behind_list
+unfolding own_rows take_part words_of after_list
 own_rows_refuse stmt.AlterType = refl
 own_rows_refuse stmt.AlterDomain = refl
 own_rows_refuse stmt.AlterView = refl
@@ -200,7 +200,7 @@ options_moved : (f : ℕ → ℕ) (kind : StmtKind) (ts : List Terminal) →
     options kind (map (renumber f) ts) ≡ option_map (action_moved f) (options kind ts)
 unfolding options
 options_moved f kind ts =
-    simp (behind_word_moved, list_or_moved, action_moved_by f (map (λ r. (r.0, r.1.now)) OPTIONS) options_refuse, moves)
+    simp (after_word_moved, list_or_moved, action_moved_by f (map (λ r. (r.0, r.1.now)) OPTIONS) options_refuse, moves)
 
 unlisted_action_moved : (f : ℕ → ℕ) (kind : StmtKind) (ts : List Terminal) → HasEnds f ts →
     unlisted_action kind (map (renumber f) ts) ≡ option_map (action_moved f) (unlisted_action kind ts)

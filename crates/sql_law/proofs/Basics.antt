@@ -8,7 +8,7 @@ use Rattle.sql_keyword.specs.declared.words.Keyword.{Keyword}
 use Rattle.sql_token.specs.declared.terminal.Terminal.{Terminal}
 use Rattle.sql_token.specs.Terminal.{is_keyword, is_name, is_dot, is_opener, is_closer}
 use Rattle.sql_token.specs.Depth.{nothing, span_of}
-use Rattle.sql_tree.specs.Forms.{behind_word, behind_words, either_of}
+use Rattle.sql_tree.specs.Forms.{after_word, after_words, either_of}
 use Rattle.sql_tree.specs.Split.{and_others, all_of}
 use Rattle.sql_law.specs.Renumber.{renumber}
 
@@ -126,16 +126,16 @@ pub ruleset moves = (
 
 -- ---- words
 
-pub behind_word_moved : (f : ℕ → ℕ) (w : Keyword) (ts : List Terminal) →
-    behind_word w (map (renumber f) ts) ≡ option_map (map (renumber f)) (behind_word w ts)
-behind_word_moved f w [] = refl
-behind_word_moved f w (t ∷ ts) = simp moves
+pub after_word_moved : (f : ℕ → ℕ) (w : Keyword) (ts : List Terminal) →
+    after_word w (map (renumber f) ts) ≡ option_map (map (renumber f)) (after_word w ts)
+after_word_moved f w [] = refl
+after_word_moved f w (t ∷ ts) = simp moves
 
-pub behind_words_moved : (f : ℕ → ℕ) (ws : List Keyword) (ts : List Terminal) →
-    behind_words ws (map (renumber f) ts) ≡ option_map (map (renumber f)) (behind_words ws ts)
-behind_words_moved f [] ts = refl
-behind_words_moved f (w ∷ ws) ts =
-    rw (behind_word_moved f w ts) (bind_moved _ _ _ _ (behind_words_moved f ws) (behind_word w ts))
+pub after_words_moved : (f : ℕ → ℕ) (ws : List Keyword) (ts : List Terminal) →
+    after_words ws (map (renumber f) ts) ≡ option_map (map (renumber f)) (after_words ws ts)
+after_words_moved f [] ts = refl
+after_words_moved f (w ∷ ws) ts =
+    rw (after_word_moved f w ts) (bind_moved _ _ _ _ (after_words_moved f ws) (after_word w ts))
 
 -- ---- single terminals
 

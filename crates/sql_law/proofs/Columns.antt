@@ -25,17 +25,17 @@ column_with_moved : (f : ℕ → ℕ) (t : Terminal) (ts : List Terminal) (const
     column_with (renumber f t) (map (renumber f) ts) (map (constraint_moved f) constraints) ≡ column_moved f (column_with t ts constraints)
 column_with_moved f t ts constraints = simp (type_len_renumbers, take-map, type_renumbers)
 
-column_behind_moved : (f : ℕ → ℕ) (t : Terminal) (ts : List Terminal) (r : Option (List Constraint)) →
+column_after_moved : (f : ℕ → ℕ) (t : Terminal) (ts : List Terminal) (r : Option (List Constraint)) →
     option_and_then (λ constraints. Some (column_with (renumber f t) (map (renumber f) ts) constraints)) (option_map (map (constraint_moved f)) r)
     ≡ option_map (column_moved f) (option_and_then (λ constraints. Some (column_with t ts constraints)) r)
-column_behind_moved f t ts None = refl
-column_behind_moved f t ts (Some constraints) = ap Some (column_with_moved f t ts constraints)
+column_after_moved f t ts None = refl
+column_after_moved f t ts (Some constraints) = ap Some (column_with_moved f t ts constraints)
 
 pub column_renumbers : ColumnRenumbers
 unfolding column
 column_renumbers f [] = refl
 column_renumbers f (t ∷ ts) =
-    rw (column_constraints_moved f (Some t) ts, column_behind_moved f t ts (column_constraints (Some t) ts)) (simp moves)
+    rw (column_constraints_moved f (Some t) ts, column_after_moved f t ts (column_constraints (Some t) ts)) (simp moves)
 
 -- ---- elements
 

@@ -13,33 +13,33 @@ use Rattle.sql_tree.specs.declared.nodes.ConKind.{ConKind}
 use Rattle.sql_tree.specs.declared.nodes.ConKind.TheVariants as con
 use Rattle.sql_tree.specs.Split.{not_valid}
 use Rattle.sql_tree.specs.Pieces.{pieces}
-use Rattle.sql_tree.specs.ColumnMarks.{value_end, kind_of_word, kind_of_symbol, kind_led, first_kind, follows, is_bound, kind_behind_name, constraint_start, constraint_head}
-use Rattle.sql_tree.specs.Constraint.{named, constraint_name, is_exclusion, behind_exclude, behind_two, kind_or, two_word_kind, constraint_kind, by_index, default_value, value_in, value_of, value_span, constraint_in, constraint_behind, table_constraint, behind_kind, column_kind, column_constraint_in, column_constraint_behind, column_constraint, column_constraints}
+use Rattle.sql_tree.specs.ColumnMarks.{value_end, kind_of_word, kind_of_symbol, kind_led, first_kind, follows, is_bound, kind_after_name, constraint_start, constraint_head}
+use Rattle.sql_tree.specs.Constraint.{named, constraint_name, is_exclusion, after_exclude, after_two, kind_or, two_word_kind, constraint_kind, by_index, default_value, value_in, value_of, value_span, constraint_in, table_constraint_in, constraint_after, table_constraint, after_kind, column_kind, column_constraint_in, column_constraint_after, column_constraint, column_constraints}
 use Rattle.sql_law.specs.Moved.{span_moved, expr_moved, constraint_moved}
 use Rattle.sql_law.specs.Renumber.{renumber, IsBlind}
 use Rattle.sql_law.specs.Trees.{ConstraintRenumbers}
-use Rattle.sql_law.proofs.Basics.{bind_moved, moves, all_moved, behind_word_moved, HasEnds, ends}
+use Rattle.sql_law.proofs.Basics.{bind_moved, moves, all_moved, after_word_moved, HasEnds, ends}
 use Rattle.sql_law.proofs.Marks.{begins_sees, not_valid_is_blind, before_renumbers}
 use Rattle.sql_law.proofs.Groups.{is_empty_moved, inside_list_moved}
-use Rattle.sql_law.proofs.Pieces.{before_behind_sees, IsBlindHead, pieces_moved}
+use Rattle.sql_law.proofs.Pieces.{before_after_head_sees, IsBlindHead, pieces_moved}
 use Rattle.sql_law.proofs.Expressions.{expression_renumbers}
 use Rattle.sql_law.proofs.Types.{value_end_is_blind}
 
 -- ---- words
 
-pub behind_two_moved : (f : ℕ → ℕ) (v w : Keyword) (ts : List Terminal) →
-    behind_two v w (map (renumber f) ts) ≡ option_map (map (renumber f)) (behind_two v w ts)
-unfolding behind_two
-behind_two_moved f v w ts = simp (moves, behind_word_moved)
+pub after_two_moved : (f : ℕ → ℕ) (v w : Keyword) (ts : List Terminal) →
+    after_two v w (map (renumber f) ts) ≡ option_map (map (renumber f)) (after_two v w ts)
+unfolding after_two
+after_two_moved f v w ts = simp (moves, after_word_moved)
 
 pub exclusion_sees : (f : ℕ → ℕ) (ts : List Terminal) → is_exclusion (map (renumber f) ts) ≡ is_exclusion ts
 exclusion_sees f [] = refl
 exclusion_sees f (t ∷ ts) = simp moves
 
-behind_exclude_moved : (f : ℕ → ℕ) (ts : List Terminal) →
-    behind_exclude (map (renumber f) ts) ≡ option_map (map (renumber f)) (behind_exclude ts)
-unfolding behind_exclude
-behind_exclude_moved f ts = simp (moves, behind_word_moved, exclusion_sees)
+after_exclude_moved : (f : ℕ → ℕ) (ts : List Terminal) →
+    after_exclude (map (renumber f) ts) ≡ option_map (map (renumber f)) (after_exclude ts)
+unfolding after_exclude
+after_exclude_moved f ts = simp (moves, after_word_moved, exclusion_sees)
 
 -- ---- names
 
@@ -70,16 +70,16 @@ kind_or_moved f kind None other = refl
 two_word_kind_moved : (f : ℕ → ℕ) (ts : List Terminal) →
     two_word_kind (map (renumber f) ts) ≡ option_map (kind_moved f) (two_word_kind ts)
 unfolding two_word_kind
-two_word_kind_moved f ts = simp (behind_two_moved, kind_or_moved f con.NotNull (behind_two keyword.NOT keyword.NULL ts) None, kind_or_moved)
+two_word_kind_moved f ts = simp (after_two_moved, kind_or_moved f con.NotNull (after_two keyword.NOT keyword.NULL ts) None, kind_or_moved)
 
 constraint_kind_moved : (f : ℕ → ℕ) (ts : List Terminal) →
     constraint_kind (map (renumber f) ts) ≡ option_map (kind_moved f) (constraint_kind ts)
 unfolding constraint_kind
-constraint_kind_moved f ts = simp (behind_word_moved, behind_exclude_moved, two_word_kind_moved, kind_or_moved)
+constraint_kind_moved f ts = simp (after_word_moved, after_exclude_moved, two_word_kind_moved, kind_or_moved)
 
 by_index_moved : (f : ℕ → ℕ) (kind : ConKind) (rest : List Terminal) → by_index kind (map (renumber f) rest) ≡ by_index kind rest
 unfolding by_index
-by_index_moved f kind rest = simp (moves, behind_two_moved)
+by_index_moved f kind rest = simp (moves, after_two_moved)
 
 -- ---- where constraints of columns begin
 
@@ -109,24 +109,24 @@ bound_sees : (f : ℕ → ℕ) (earlier : Option Terminal) (t : Terminal) → is
 unfolding is_bound
 bound_sees f earlier t = simp (moves, follows_sees)
 
-kind_behind_name_sees : (f : ℕ → ℕ) (ts : List Terminal) → kind_behind_name (map (renumber f) ts) ≡ kind_behind_name ts
-unfolding kind_behind_name
-kind_behind_name_sees f [] = refl
-kind_behind_name_sees f (t ∷ ts) = simp (first_kind_sees f ts, moves)
+kind_after_name_sees : (f : ℕ → ℕ) (ts : List Terminal) → kind_after_name (map (renumber f) ts) ≡ kind_after_name ts
+unfolding kind_after_name
+kind_after_name_sees f [] = refl
+kind_after_name_sees f (t ∷ ts) = simp (first_kind_sees f ts, moves)
 
 pub start_is_blind : IsBlind constraint_start
 unfolding constraint_start
-start_is_blind f earlier t after = simp (kind_behind_name_sees, kind_led_sees, bound_sees, moves)
+start_is_blind f earlier t after = simp (kind_after_name_sees, kind_led_sees, bound_sees, moves)
 
 head_is_blind : IsBlindHead constraint_head
 unfolding constraint_head
-head_is_blind f t after = simp (kind_behind_name_sees, kind_led_sees, moves)
+head_is_blind f t after = simp (kind_after_name_sees, kind_led_sees, moves)
 
 -- ---- expressions
 
 default_value_moved : (f : ℕ → ℕ) (rest : List Terminal) → default_value (map (renumber f) rest) ≡ map (renumber f) (default_value rest)
 unfolding default_value
-default_value_moved f rest = simp (before_behind_sees value_end value_end_is_blind f 1 None 0 0 rest, moves)
+default_value_moved f rest = simp (before_after_head_sees value_end value_end_is_blind f 1 None 0 0 rest, moves)
 
 value_in_moved : (f : ℕ → ℕ) (kind : ConKind) (rest : List Terminal) → value_in kind (map (renumber f) rest) ≡ map (renumber f) (value_in kind rest)
 unfolding value_in
@@ -152,25 +152,31 @@ constraint_in_moved f ts e name found =
       value_in_moved f found.0 found.1,
       value_of_moved f (value_in found.0 found.1),
       value_span_moved f (value_in found.0 found.1),
-      by_index_moved f found.0 found.1,
     )
-    (simp (before_renumbers not_valid not_valid_is_blind, length-map, e.first, e.last))
+    (simp (length-map, e.first, e.last))
 
-constraint_behind_moved : (f : ℕ → ℕ) (ts : List Terminal) → HasEnds f ts → (called : Option ℕ × List Terminal) →
-    constraint_behind (map (renumber f) ts) (name_moved f called) ≡ option_map (constraint_moved f) (constraint_behind ts called)
-constraint_behind_moved f ts e called =
+table_constraint_in_moved : (f : ℕ → ℕ) (ts : List Terminal) → HasEnds f ts → (name : Option ℕ) (found : ConKind × List Terminal) →
+    table_constraint_in (map (renumber f) ts) (option_map f name) (kind_moved f found)
+    ≡ constraint_moved f (table_constraint_in ts name found)
+table_constraint_in_moved f ts e name found =
+    rw (constraint_in_moved f ts e name found, by_index_moved f found.0 found.1)
+    (simp (before_renumbers not_valid not_valid_is_blind, length-map))
+
+constraint_after_moved : (f : ℕ → ℕ) (ts : List Terminal) → HasEnds f ts → (called : Option ℕ × List Terminal) →
+    constraint_after (map (renumber f) ts) (name_moved f called) ≡ option_map (constraint_moved f) (constraint_after ts called)
+constraint_after_moved f ts e called =
     rw (constraint_kind_moved f called.1)
-    (bind_moved _ _ _ _ (λ found. ap Some (constraint_in_moved f ts e called.0 found)) (constraint_kind called.1))
+    (bind_moved _ _ _ _ (λ found. ap Some (table_constraint_in_moved f ts e called.0 found)) (constraint_kind called.1))
 
 no_constraint : table_constraint [] ≡ None
-unfolding table_constraint constraint_name constraint_kind behind_exclude two_word_kind behind_two
+unfolding table_constraint constraint_name constraint_kind after_exclude two_word_kind after_two
 no_constraint = refl
 
 some_constraint : (f : ℕ → ℕ) (ts : List Terminal) → HasEnds f ts →
     table_constraint (map (renumber f) ts) ≡ option_map (constraint_moved f) (table_constraint ts)
 unfolding table_constraint
 some_constraint f ts e =
-    rw (constraint_name_moved f ts) (bind_moved _ _ _ _ (constraint_behind_moved f ts e) (constraint_name ts))
+    rw (constraint_name_moved f ts) (bind_moved _ _ _ _ (constraint_after_moved f ts e) (constraint_name ts))
 
 pub constraint_renumbers : ConstraintRenumbers
 constraint_renumbers f [] = rw no_constraint refl
@@ -178,16 +184,16 @@ constraint_renumbers f (t ∷ ts) = some_constraint f (t ∷ ts) (ends f t ts)
 
 -- ---- of columns
 
-behind_kind_moved : (f : ℕ → ℕ) (kind : ConKind) (ts : List Terminal) → behind_kind kind (map (renumber f) ts) ≡ map (renumber f) (behind_kind kind ts)
-behind_kind_moved f con.NotNull ts = simp moves
-behind_kind_moved f con.PrimaryKey ts = simp moves
-behind_kind_moved f _ ts = refl
+after_kind_moved : (f : ℕ → ℕ) (kind : ConKind) (ts : List Terminal) → after_kind kind (map (renumber f) ts) ≡ map (renumber f) (after_kind kind ts)
+after_kind_moved f con.NotNull ts = simp moves
+after_kind_moved f con.PrimaryKey ts = simp moves
+after_kind_moved f _ ts = refl
 
 with_rest_moved : (f : ℕ → ℕ) (ts : List Terminal) (r : Option ConKind) →
-    option_and_then (λ kind. Some (kind, behind_kind kind (map (renumber f) ts))) r
-    ≡ option_map (kind_moved f) (option_and_then (λ kind. Some (kind, behind_kind kind ts)) r)
+    option_and_then (λ kind. Some (kind, after_kind kind (map (renumber f) ts))) r
+    ≡ option_map (kind_moved f) (option_and_then (λ kind. Some (kind, after_kind kind ts)) r)
 with_rest_moved f ts None = refl
-with_rest_moved f ts (Some kind) = ap (λ rest. Some (kind, rest)) (behind_kind_moved f kind ts)
+with_rest_moved f ts (Some kind) = ap (λ rest. Some (kind, rest)) (after_kind_moved f kind ts)
 
 column_kind_moved : (f : ℕ → ℕ) (ts : List Terminal) → column_kind (map (renumber f) ts) ≡ option_map (kind_moved f) (column_kind ts)
 unfolding column_kind
@@ -199,9 +205,9 @@ column_constraint_in_moved : (f : ℕ → ℕ) (ts : List Terminal) → HasEnds 
     ≡ option_map (constraint_moved f) (column_constraint_in ts name found)
 column_constraint_in_moved f ts e name found = rw (constraint_in_moved f ts e name found) (simp (is_empty_moved, moves))
 
-column_constraint_behind_moved : (f : ℕ → ℕ) (ts : List Terminal) → HasEnds f ts → (called : Option ℕ × List Terminal) →
-    column_constraint_behind (map (renumber f) ts) (name_moved f called) ≡ option_map (constraint_moved f) (column_constraint_behind ts called)
-column_constraint_behind_moved f ts e called =
+column_constraint_after_moved : (f : ℕ → ℕ) (ts : List Terminal) → HasEnds f ts → (called : Option ℕ × List Terminal) →
+    column_constraint_after (map (renumber f) ts) (name_moved f called) ≡ option_map (constraint_moved f) (column_constraint_after ts called)
+column_constraint_after_moved f ts e called =
     rw (column_kind_moved f called.1) (bind_moved _ _ _ _ (column_constraint_in_moved f ts e called.0) (column_kind called.1))
 
 no_column_constraint : column_constraint [] ≡ None
@@ -212,7 +218,7 @@ some_column_constraint : (f : ℕ → ℕ) (ts : List Terminal) → HasEnds f ts
     column_constraint (map (renumber f) ts) ≡ option_map (constraint_moved f) (column_constraint ts)
 unfolding column_constraint
 some_column_constraint f ts e =
-    rw (constraint_name_moved f ts) (bind_moved _ _ _ _ (column_constraint_behind_moved f ts e) (constraint_name ts))
+    rw (constraint_name_moved f ts) (bind_moved _ _ _ _ (column_constraint_after_moved f ts e) (constraint_name ts))
 
 column_constraint_moved : (f : ℕ → ℕ) (ts : List Terminal) →
     column_constraint (map (renumber f) ts) ≡ option_map (constraint_moved f) (column_constraint ts)

@@ -6,8 +6,8 @@ use Rattle.sql_keyword.specs.declared.words.TheConstants.Keyword as keyword
 use Rattle.sql_token.specs.declared.terminal.Terminal.{Terminal}
 use Rattle.sql_token.specs.Terminal.{is_keyword, is_name}
 use Rattle.sql_tree.specs.declared.kinds.StmtKind.{StmtKind}
-use Rattle.sql_tree.specs.declared.forms.Mark.{Mark}
-use Rattle.sql_tree.specs.declared.forms.Mark.TheVariants as m
+use Rattle.sql_tree.specs.declared.forms.Fact.{Fact}
+use Rattle.sql_tree.specs.declared.forms.Fact.TheVariants as m
 use Rattle.sql_tree.specs.declared.forms.Phrase.{Phrase}
 use Rattle.sql_tree.specs.declared.forms.Phrase.TheVariants as phrase
 use Rattle.sql_tree.specs.declared.forms.Part.{Part}
@@ -15,16 +15,16 @@ use Rattle.sql_tree.specs.declared.forms.Part.TheVariants as p
 use Rattle.sql_tree.specs.declared.forms.Captures.{Captures}
 use Rattle.sql_tree.specs.declared.forms.WordClass.{WordClass}
 use Rattle.sql_tree.specs.Words.{is_of_class}
-use Rattle.sql_tree.specs.Split.{from_mark, into, privileges, behind_list}
+use Rattle.sql_tree.specs.Split.{from_mark, into, privileges, after_list}
 use Rattle.sql_tree.specs.Forms.{State, at, one, nothing_kept, word_kept, name_kept, concurrently_kept, tell, or_here, take_phrase, either_of, take_path, is_temp, is_other_mod, take_mods, index_name, guard, take_index_name, take_chain, is_star_symbol, take_into, is_str_symbol, take_list, some_left, opened, take_part, in_turn, all_taken, Row, finished, led_or, fresh, first_led, first_whole}
 use Rattle.sql_law.specs.Renumber.{renumber, captures_moved, state_moved, front_moved, PartRenumbers, PartsRenumber, FrontRenumbers, WholeRenumbers}
-use Rattle.sql_law.proofs.Basics.{moves, bind_moved, cond_under, either_moved, keyword_sees, name_sees, behind_words_moved}
+use Rattle.sql_law.proofs.Basics.{moves, bind_moved, cond_under, either_moved, keyword_sees, name_sees, after_words_moved}
 use Rattle.sql_law.proofs.Groups.{names_end_moved}
-use Rattle.sql_law.proofs.Marks.{into_is_blind, privileges_is_blind, from_mark_moved, behind_list_moved}
+use Rattle.sql_law.proofs.Marks.{into_is_blind, privileges_is_blind, from_mark_moved, after_list_moved}
 
 -- ---- one terminal
 
-pub tell_moved : (f : ℕ → ℕ) (mark : Mark) (c : Captures) → tell mark (captures_moved f c) ≡ captures_moved f (tell mark c)
+pub tell_moved : (f : ℕ → ℕ) (mark : Fact) (c : Captures) → tell mark (captures_moved f c) ≡ captures_moved f (tell mark c)
 tell_moved f m.Nothing c = refl
 tell_moved f m.Unique c = refl
 tell_moved f m.Guarded c = refl
@@ -47,7 +47,7 @@ or_here_moved : (f : ℕ → ℕ) (r : Option State) (c : Captures) (ts : List T
 or_here_moved f None c ts = refl
 or_here_moved f (Some s) c ts = refl
 
--- a terminal that passes the test, where it stands
+-- a terminal that passes the test, where it is present
 maybe_moved : (f : ℕ → ℕ) (test : Terminal → Bool) (keep : Terminal → Captures → Captures) →
     ((t : Terminal) → test (renumber f t) ≡ test t) →
     ((t : Terminal) (c : Captures) → keep (renumber f t) (captures_moved f c) ≡ captures_moved f (keep t c)) →
@@ -58,11 +58,11 @@ maybe_moved f test keep sees keeps c ts = rw (one_moved f test keep sees keeps c
 
 -- ---- phrases
 
-phrase_moved : (f : ℕ → ℕ) (x : Phrase) (mark : Mark) (c : Captures) (ts : List Terminal) →
+phrase_moved : (f : ℕ → ℕ) (x : Phrase) (mark : Fact) (c : Captures) (ts : List Terminal) →
     take_phrase x mark (captures_moved f c) (map (renumber f) ts) ≡ option_map (state_moved f) (take_phrase x mark c ts)
-phrase_moved f x mark c ts = simp (behind_words_moved, tell_moved, moves)
+phrase_moved f x mark c ts = simp (after_words_moved, tell_moved, moves)
 
-maybe_phrase_moved : (f : ℕ → ℕ) (x : Phrase) (mark : Mark) (c : Captures) (ts : List Terminal) →
+maybe_phrase_moved : (f : ℕ → ℕ) (x : Phrase) (mark : Fact) (c : Captures) (ts : List Terminal) →
     or_here (take_phrase x mark (captures_moved f c) (map (renumber f) ts)) (captures_moved f c) (map (renumber f) ts)
     ≡ state_moved f (or_here (take_phrase x mark c ts) c ts)
 maybe_phrase_moved f x mark c ts = rw (phrase_moved f x mark c ts) (or_here_moved f (take_phrase x mark c ts) c ts)
@@ -135,9 +135,9 @@ class_sees f class t = refl
 list_moved : (f : ℕ → ℕ) (c : Captures) (ts : List Terminal) →
     take_list (captures_moved f c) (map (renumber f) ts) ≡ option_map (state_moved f) (take_list c ts)
 list_moved f c ts =
-    rw (behind_list_moved f ts)
+    rw (after_list_moved f ts)
     (bind_moved (map (renumber f)) (state_moved f)
-    (λ rest. Some (at c rest)) (λ rest. Some (at (captures_moved f c) rest)) (λ rest. refl) (behind_list ts))
+    (λ rest. Some (at c rest)) (λ rest. Some (at (captures_moved f c) rest)) (λ rest. refl) (after_list ts))
 
 some_left_moved : (f : ℕ → ℕ) (c : Captures) (ts : List Terminal) →
     some_left (captures_moved f c) (map (renumber f) ts) ≡ option_map (state_moved f) (some_left c ts)
@@ -153,7 +153,7 @@ part_renumbers f (p.Tell mark) c ts = ap (λ d. Some (at d (map (renumber f) ts)
 part_renumbers f (p.Flag w mark) c ts =
     ap Some (maybe_moved f (is_keyword w) (λ t c. tell mark c) (keyword_sees f w) (λ t c. tell_moved f mark c) c ts)
 part_renumbers f (p.Either v w) c ts =
-    ap Some (maybe_moved f (λ t. is_keyword v t || is_keyword w t) nothing_kept
+    ap Some (maybe_moved f (λ t. is_keyword v t || is_keyword w t) word_kept
     (λ t. rw (keyword_sees f v t, keyword_sees f w t) refl) (λ t c. refl) c ts)
 part_renumbers f (p.Maybe x mark) c ts = ap Some (maybe_phrase_moved f x mark c ts)
 part_renumbers f p.Chain c ts = ap Some (chain_moved f c ts)

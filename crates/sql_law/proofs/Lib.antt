@@ -1,4 +1,5 @@
 pub mod Basics
+pub mod Places
 pub mod Marks
 pub mod Groups
 pub mod Expressions
@@ -13,3 +14,10 @@ pub mod Writes
 pub mod Tails
 pub mod Soundness
 pub mod Statements
+pub mod Readings
+pub mod There
+pub mod Paths
+pub mod Added
+pub mod WholeLaws
+pub mod Ordered
+pub mod NodeOrder

@@ -1,4 +1,4 @@
--- Marks stand at the same places under other numbers.
+-- Marks are at the same places under other numbers.
 use Rattle.std.proofs.Common.{◌≡◌, ℕ, ◌+◌, List, [], ◌∷◌, map, refl, Option, Some, None}
 use Rattle.std.specs.Option.{option_map}
 use Rattle.std.proofs.lemmas.List.{length-map, take-map, drop-map}
@@ -6,7 +6,7 @@ use Rattle.sql_keyword.specs.declared.words.Keyword.{Keyword}
 use Rattle.sql_token.specs.declared.terminal.Terminal.{Terminal}
 use Rattle.sql_token.specs.Terminal.{is_opener, is_closer}
 use Rattle.sql_token.specs.Depth.{one_if, onto}
-use Rattle.sql_tree.specs.Split.{Test, comma, not_valid, into, verb, privileges, word, operator, cast, on_commit_drop, equals, do_update_set, then_update_set, then_insert, clause_end, merge_clause_end, target_list_end, begins_with_colon, begins_with_both, is_as_or_dot, begins_with, before_from, before, has, until, from_mark, split_from, split, begins_list, behind_list}
+use Rattle.sql_tree.specs.Split.{Test, comma, not_valid, into, verb, privileges, word, operator, cast, on_commit_drop, equals, do_update_set, then_update_set, then_insert, clause_end, merge_clause_end, target_list_end, begins_with_colon, begins_with_both, is_as_or_dot, begins_with, before_from, before, has, until, from_mark, split_from, split, begins_list, after_list}
 use Rattle.sql_law.specs.Renumber.{renumber, IsBlind, BeforeRenumbers, SplitRenumbers, ClosingRenumbers}
 use Rattle.sql_law.proofs.Basics.{moves}
 
@@ -148,7 +148,7 @@ pub begins_list_sees : (f : ℕ → ℕ) (ts : List Terminal) → begins_list (m
 begins_list_sees f [] = refl
 begins_list_sees f (t ∷ ts) = refl
 
-pub behind_list_moved : (f : ℕ → ℕ) (ts : List Terminal) →
-    behind_list (map (renumber f) ts) ≡ option_map (map (renumber f)) (behind_list ts)
-unfolding behind_list
-behind_list_moved f ts = simp (moves, begins_list_sees, closing_renumbers)
+pub after_list_moved : (f : ℕ → ℕ) (ts : List Terminal) →
+    after_list (map (renumber f) ts) ≡ option_map (map (renumber f)) (after_list ts)
+unfolding after_list
+after_list_moved f ts = simp (moves, begins_list_sees, closing_renumbers)

@@ -5,19 +5,19 @@ use Rattle.sql_token.specs.declared.terminal.Terminal.{Terminal}
 use Rattle.sql_token.specs.Terminal.{is_opener, is_closer}
 use Rattle.sql_token.specs.Depth.{one_if}
 use Rattle.sql_tree.specs.Split.{Test}
-use Rattle.sql_tree.specs.Pieces.{Head, before_behind, pieces_from, pieces_at, pieces}
+use Rattle.sql_tree.specs.Pieces.{Head, before_after_head, pieces_from, pieces_at, pieces}
 use Rattle.sql_law.specs.Renumber.{renumber, IsBlind}
 use Rattle.sql_law.proofs.Basics.{moves}
 use Rattle.sql_law.proofs.Marks.{onto_moved}
 
-pub before_behind_sees : (mark : Test) → IsBlind mark → (f : ℕ → ℕ) (n : ℕ) (e : Option Terminal) (o c : ℕ) (ts : List Terminal) →
-    before_behind mark n (option_map (renumber f) e) o c (map (renumber f) ts) ≡ before_behind mark n e o c ts
-before_behind_sees mark blind f n e o c [] = refl
-before_behind_sees mark blind f n e o c (t ∷ ts) =
+pub before_after_head_sees : (mark : Test) → IsBlind mark → (f : ℕ → ℕ) (n : ℕ) (e : Option Terminal) (o c : ℕ) (ts : List Terminal) →
+    before_after_head mark n (option_map (renumber f) e) o c (map (renumber f) ts) ≡ before_after_head mark n e o c ts
+before_after_head_sees mark blind f n e o c [] = refl
+before_after_head_sees mark blind f n e o c (t ∷ ts) =
     simp (
       moves,
       blind f e t ts,
-      before_behind_sees mark blind f (n - 1) (Some t) (o + one_if (is_opener t)) (c + one_if (is_closer t)) ts,
+      before_after_head_sees mark blind f (n - 1) (Some t) (o + one_if (is_opener t)) (c + one_if (is_closer t)) ts,
     )
 
 -- A head is as long.
@@ -50,4 +50,4 @@ pub pieces_moved : (mark : Test) → IsBlind mark → (head : Head) → IsBlindH
     pieces mark head (option_map (renumber f) earlier) (map (renumber f) ts) ≡ map (map (renumber f)) (pieces mark head earlier ts)
 unfolding pieces
 pieces_moved mark blind head same f earlier ts =
-    simp (before_behind_sees mark blind f 0 earlier 0 0 ts, moves, pieces_at_moved mark blind head same)
+    simp (before_after_head_sees mark blind f 0 earlier 0 0 ts, moves, pieces_at_moved mark blind head same)

@@ -19,12 +19,12 @@ use Rattle.sql_tree.specs.declared.kinds.StmtKind.TheVariants as stmt
 use Rattle.sql_tree.specs.declared.forms.Captures.{Captures}
 use Rattle.sql_tree.specs.declared.nodes.Body.{Body}
 use Rattle.sql_tree.specs.declared.nodes.Body.TheVariants as body
-use Rattle.sql_tree.specs.declared.forms.Shape.{Shape}
-use Rattle.sql_tree.specs.declared.forms.Shape.TheVariants as shape
+use Rattle.sql_tree.specs.declared.forms.BodyShape.{BodyShape}
+use Rattle.sql_tree.specs.declared.forms.BodyShape.TheVariants as shape
 use Rattle.sql_tree.specs.Forms.{State, Row, family_first, create_rows, alter_rows, drop_rows, rows_of, one_word_kind, kind_or_row, led_by}
 use Rattle.sql_tree.specs.Split.{verb}
 use Rattle.sql_tree.specs.Tails.{paths_from}
-use Rattle.sql_tree.specs.Statement.{last_of, without_semicolon, kind_of, shape_of, table_body, index_body, into_body, drop_body, alter_body, domain_body, made_body, write_body, body_by, told, front_by, from_verb, form_from, form_of, stmt_in, statement}
+use Rattle.sql_tree.specs.Statement.{last_of, without_semicolon, final_kind, body_shape_of, table_body, index_body, into_body, drop_body, alter_body, domain_body, made_body, write_body, body_by, told, front_by, from_verb, form_from, form_of, stmt_in, statement}
 use Rattle.sql_law.specs.Moved.{span_moved, body_moved, form_moved, stmt_moved}
 use Rattle.sql_law.specs.Renumber.{renumber, captures_moved, state_moved, front_moved}
 use Rattle.sql_law.specs.Trees.{FormRenumbers, StatementRenumbers}
@@ -49,8 +49,8 @@ has_keyword_sees : (f : ℕ → ℕ) (w : Keyword) (ts : List Terminal) → has_
 unfolding has_keyword
 has_keyword_sees f w ts = has_keyword_from_sees f w 0 0 ts
 
-kind_sees : (f : ℕ → ℕ) (kind : StmtKind) (s : State) → kind_of kind (state_moved f s) ≡ kind_of kind s
-unfolding kind_of
+kind_sees : (f : ℕ → ℕ) (kind : StmtKind) (s : State) → final_kind kind (state_moved f s) ≡ final_kind kind s
+unfolding final_kind
 kind_sees f stmt.CreateTable s = rw (has_keyword_sees f keyword.AS s.left) refl
 kind_sees f kind s = refl
 
@@ -94,7 +94,7 @@ write_body_moved : (f : ℕ → ℕ) (kind : StmtKind) (s : State) →
     write_body kind (state_moved f s) ≡ option_map (body_moved f) (write_body kind s)
 write_body_moved f kind s = simp (write_renumbers, moves)
 
-body_by_moved : (f : ℕ → ℕ) (x : Shape) (kind : StmtKind) (s : State) (ts : List Terminal) →
+body_by_moved : (f : ℕ → ℕ) (x : BodyShape) (kind : StmtKind) (s : State) (ts : List Terminal) →
     body_by x kind (state_moved f s) (map (renumber f) ts) ≡ option_map (body_moved f) (body_by x kind s ts)
 unfolding body_by
 body_by_moved f shape.Kept kind s ts = refl
@@ -121,10 +121,10 @@ told_moved : (f : ℕ → ℕ) (ts : List Terminal) (r : StmtKind × State) →
     told (map (renumber f) ts) (front_moved f r) ≡ option_map (form_moved f) (told ts r)
 unfolding told
 told_moved f ts r =
-    rw (body_by_moved f (shape_of r.0) r.0 r.1 ts)
+    rw (body_by_moved f (body_shape_of r.0) r.0 r.1 ts)
     (bind_moved (body_moved f) (form_moved f)
-    (λ b. Some (kind_of r.0 r.1, b)) (λ b. Some (kind_of r.0 (state_moved f r.1), b))
-    (λ b. ap (λ kind. Some (kind, body_moved f b)) (kind_sees f r.0 r.1)) (body_by (shape_of r.0) r.0 r.1 ts))
+    (λ b. Some (final_kind r.0 r.1, b)) (λ b. Some (final_kind r.0 (state_moved f r.1), b))
+    (λ b. ap (λ kind. Some (kind, body_moved f b)) (kind_sees f r.0 r.1)) (body_by (body_shape_of r.0) r.0 r.1 ts))
 
 -- ---- the first word
 

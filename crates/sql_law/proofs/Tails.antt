@@ -1,5 +1,5 @@
 -- What follows the lead words of statements, under other numbers.
-use Rattle.std.proofs.Common.{◌≡◌, ℕ, Bool, List, [], ◌∷◌, map, refl, ap, Option, Some, None}
+use Rattle.std.proofs.Common.{◌≡◌, ℕ, Bool, List, [], ◌∷◌, map, refl, sym, ◌∙◌, ap, Option, Some, None}
 use Rattle.std.specs.Option.{option_map, option_and_then}
 use Rattle.std.specs.List.{list_any}
 use Rattle.sql_keyword.specs.declared.words.Keyword.{Keyword}
@@ -11,25 +11,31 @@ use Rattle.sql_token.specs.Depth.{nothing}
 use Rattle.sql_tree.specs.declared.nodes.LockMode.{LockMode}
 use Rattle.sql_tree.specs.declared.nodes.ReindexTarget.{ReindexTarget}
 use Rattle.sql_tree.specs.declared.other_forms.TheConstants.{LOCK_MODES}
-use Rattle.sql_tree.specs.Forms.{behind_word, behind_words}
+use Rattle.sql_tree.specs.Forms.{after_word, after_words}
 use Rattle.sql_tree.specs.Split.{comma, split}
 use Rattle.sql_tree.specs.Groups.{path_first}
-use Rattle.sql_tree.specs.Tails.{from_to, paths_from, all_read, whole_path, behind_options, any_option, behind_flag, target_symbol, is_concurrent, is_valued, reindex_body, reindex_object, reindex, is_on, is_full, is_full_vacuum, some_span, behind_either, vacuum_tables, cascade_number, last_cascade, begins_value, path_to, parameter, ends, does_end, is_mode, mode_by, mode_of, lock_mode}
+use Rattle.sql_tree.specs.Tails.{from_to, paths_from, all_read, whole_path, after_options, any_option, after_flag, target_symbol, is_concurrent, is_valued, reindex_body, reindex_object, reindex, is_on, is_full, is_full_vacuum, some_span, after_either, vacuum_tables, cascade_number, last_cascade, begins_value, path_to, parameter, ends, does_end, is_mode, mode_by, mode_of, lock_mode}
+use Rattle.sql_tree.proofs.TailWalks.{paths_walk, lock_walk, by_paths, by_lock}
 use Rattle.sql_law.specs.Moved.{span_moved, body_moved}
 use Rattle.sql_law.specs.Renumber.{renumber}
 use Rattle.sql_law.proofs.Basics as basics
-use Rattle.sql_law.proofs.Basics.{moves, either_moved, behind_word_moved, behind_words_moved}
+use Rattle.sql_law.proofs.Basics.{moves, either_moved, after_word_moved, after_words_moved}
 use Rattle.sql_law.proofs.Marks.{comma_is_blind, split_renumbers, begins_sees, begins_list_sees, closing_renumbers}
 use Rattle.sql_law.proofs.Groups.{inside_list_moved, path_moved, path_first_moved}
 
 -- ---- paths
 
+paths_walk_moved : (f : ℕ → ℕ) (first last : ℕ) (ts : List Terminal) →
+    paths_walk (f first) (f last) (map (renumber f) ts) ≡ map (span_moved f) (paths_walk first last ts)
+paths_walk_moved f first last [] = refl
+paths_walk_moved f first last (d ∷ []) = refl
+paths_walk_moved f first last (d ∷ t ∷ ts) =
+    simp (paths_walk_moved f first t.number ts, paths_walk_moved f t.number t.number ts, moves)
+
 pub paths_from_moved : (f : ℕ → ℕ) (first last : ℕ) (ts : List Terminal) →
     paths_from (f first) (f last) (map (renumber f) ts) ≡ map (span_moved f) (paths_from first last ts)
-paths_from_moved f first last [] = refl
-paths_from_moved f first last (d ∷ []) = refl
-paths_from_moved f first last (d ∷ t ∷ ts) =
-    simp (paths_from_moved f first t.number ts, paths_from_moved f t.number t.number ts, moves)
+paths_from_moved f first last ts =
+    by_paths (f first) (f last) (map (renumber f) ts) ∙ paths_walk_moved f first last ts ∙ sym (ap (map (span_moved f)) (by_paths first last ts))
 
 all_read_moved : (f : ℕ → ℕ) (r : Span × List Terminal) → all_read (path_moved f r) ≡ option_map (option_map (span_moved f)) (all_read r)
 all_read_moved f (path, []) = refl
@@ -44,9 +50,9 @@ whole_path_moved f (t ∷ ts) =
 
 -- ---- options in brackets
 
-behind_options_moved : (f : ℕ → ℕ) (ts : List Terminal) → behind_options (map (renumber f) ts) ≡ map (renumber f) (behind_options ts)
-unfolding behind_options
-behind_options_moved f ts = simp (begins_list_sees, closing_renumbers, moves)
+after_options_moved : (f : ℕ → ℕ) (ts : List Terminal) → after_options (map (renumber f) ts) ≡ map (renumber f) (after_options ts)
+unfolding after_options
+after_options_moved f ts = simp (begins_list_sees, closing_renumbers, moves)
 
 any_sees : (f : ℕ → ℕ) (test : List Terminal → Bool) → ((ts : List Terminal) → test (map (renumber f) ts) ≡ test ts) →
     (xs : List (List Terminal)) → list_any test (map (map (renumber f)) xs) ≡ list_any test xs
@@ -58,11 +64,11 @@ any_option_sees : (f : ℕ → ℕ) (test : List Terminal → Bool) → ((ts : L
 unfolding any_option
 any_option_sees f test sees inside = rw (split_renumbers comma comma_is_blind f inside) (any_sees f test sees (split comma inside))
 
-behind_flag_moved : (f : ℕ → ℕ) (w : Keyword) (ts : List Terminal) →
-    behind_flag w (map (renumber f) ts) ≡ map (renumber f) (behind_flag w ts)
-unfolding behind_flag
-behind_flag_moved f w [] = refl
-behind_flag_moved f w (t ∷ ts) = simp moves
+after_flag_moved : (f : ℕ → ℕ) (w : Keyword) (ts : List Terminal) →
+    after_flag w (map (renumber f) ts) ≡ map (renumber f) (after_flag w ts)
+unfolding after_flag
+after_flag_moved f w [] = refl
+after_flag_moved f w (t ∷ ts) = simp moves
 
 -- ---- REINDEX
 
@@ -85,8 +91,8 @@ reindex_object_moved : (f : ℕ → ℕ) (inside ts : List Terminal) →
 unfolding reindex_object
 reindex_object_moved f inside [] = refl
 reindex_object_moved f inside (t ∷ ts) =
-    rw (behind_flag_moved f keyword.CONCURRENTLY ts, whole_path_moved f (behind_flag keyword.CONCURRENTLY ts))
-    (told (target_symbol t.symbol) (whole_path (behind_flag keyword.CONCURRENTLY ts)))
+    rw (after_flag_moved f keyword.CONCURRENTLY ts, whole_path_moved f (after_flag keyword.CONCURRENTLY ts))
+    (told (target_symbol t.symbol) (whole_path (after_flag keyword.CONCURRENTLY ts)))
   where
     told : (x : Option ReindexTarget) (y : Option (Option Span)) →
         option_and_then (λ found. option_and_then (λ path.
@@ -98,7 +104,7 @@ reindex_object_moved f inside (t ∷ ts) =
 
 pub reindex_moved : (f : ℕ → ℕ) (ts : List Terminal) → reindex (map (renumber f) ts) ≡ option_map (body_moved f) (reindex ts)
 unfolding reindex
-reindex_moved f ts = simp (inside_list_moved, behind_options_moved, reindex_object_moved)
+reindex_moved f ts = simp (inside_list_moved, after_options_moved, reindex_object_moved)
 
 -- ---- VACUUM
 
@@ -115,20 +121,20 @@ full_sees f (t ∷ v ∷ u ∷ ts) = refl
 
 pub full_vacuum_sees : (f : ℕ → ℕ) (ts : List Terminal) → is_full_vacuum (map (renumber f) ts) ≡ is_full_vacuum ts
 unfolding is_full_vacuum
-full_vacuum_sees f ts = simp (behind_options_moved, begins_sees, inside_list_moved, any_option_sees f is_full (full_sees f))
+full_vacuum_sees f ts = simp (after_options_moved, begins_sees, inside_list_moved, any_option_sees f is_full (full_sees f))
 
 some_span_moved : (f : ℕ → ℕ) (ts : List Terminal) → some_span (map (renumber f) ts) ≡ option_map (span_moved f) (some_span ts)
 some_span_moved f [] = refl
 some_span_moved f (t ∷ ts) = ap (λ last. Some (from_to (f t.number) last)) (basics.last_moved f t ts)
 
-behind_either_moved : (f : ℕ → ℕ) (v w : Keyword) (ts : List Terminal) →
-    behind_either v w (map (renumber f) ts) ≡ map (renumber f) (behind_either v w ts)
-behind_either_moved f v w [] = refl
-behind_either_moved f v w (t ∷ ts) = simp moves
+after_either_moved : (f : ℕ → ℕ) (v w : Keyword) (ts : List Terminal) →
+    after_either v w (map (renumber f) ts) ≡ map (renumber f) (after_either v w ts)
+after_either_moved f v w [] = refl
+after_either_moved f v w (t ∷ ts) = simp moves
 
 pub vacuum_tables_moved : (f : ℕ → ℕ) (ts : List Terminal) → vacuum_tables (map (renumber f) ts) ≡ option_map (span_moved f) (vacuum_tables ts)
 unfolding vacuum_tables
-vacuum_tables_moved f ts = simp (behind_options_moved, behind_flag_moved, behind_either_moved, some_span_moved)
+vacuum_tables_moved f ts = simp (after_options_moved, after_flag_moved, after_either_moved, some_span_moved)
 
 -- ---- TRUNCATE
 
@@ -173,10 +179,10 @@ mode_sees : (f : ℕ → ℕ) (ws : List Keyword) (ts : List Terminal) → is_mo
 unfolding is_mode
 mode_sees f ws ts =
     rw (
-      behind_words_moved f ws ts,
-      basics.bind_moved (map (renumber f)) (map (renumber f)) (behind_word keyword.MODE) (behind_word keyword.MODE) (behind_word_moved f keyword.MODE) (behind_words ws ts),
+      after_words_moved f ws ts,
+      basics.bind_moved (map (renumber f)) (map (renumber f)) (after_word keyword.MODE) (after_word keyword.MODE) (after_word_moved f keyword.MODE) (after_words ws ts),
     )
-    (does_end_sees f (option_and_then (behind_word keyword.MODE) (behind_words ws ts)))
+    (does_end_sees f (option_and_then (after_word keyword.MODE) (after_words ws ts)))
 
 mode_by_sees : (f : ℕ → ℕ) (rows : List (LockMode × List Keyword)) (ts : List Terminal) → mode_by rows (map (renumber f) ts) ≡ mode_by rows ts
 mode_by_sees f [] ts = refl
@@ -186,6 +192,9 @@ mode_of_sees : (f : ℕ → ℕ) (ts : List Terminal) → mode_of (map (renumber
 unfolding mode_of
 mode_of_sees f ts = mode_by_sees f (map (λ r. (r.0, r.1.now)) LOCK_MODES) ts
 
+lock_walk_sees : (f : ℕ → ℕ) (ts : List Terminal) → lock_walk (map (renumber f) ts) ≡ lock_walk ts
+lock_walk_sees f [] = refl
+lock_walk_sees f (t ∷ ts) = simp (mode_of_sees f ts, lock_walk_sees f ts, moves)
+
 pub lock_mode_sees : (f : ℕ → ℕ) (ts : List Terminal) → lock_mode (map (renumber f) ts) ≡ lock_mode ts
-lock_mode_sees f [] = refl
-lock_mode_sees f (t ∷ ts) = simp (mode_of_sees f ts, lock_mode_sees f ts, moves)
+lock_mode_sees f ts = by_lock (map (renumber f) ts) ∙ lock_walk_sees f ts ∙ sym (by_lock ts)

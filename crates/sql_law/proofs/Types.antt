@@ -1,5 +1,5 @@
 -- Column types under other numbers.
-use Rattle.std.proofs.Common.{◌≡◌, ℕ, ◌+◌, ◌==◌, Bool, if◌then◌else◌, List, [], ◌∷◌, map, take, drop, not, refl, ap, Option, Some, None}
+use Rattle.std.proofs.Common.{◌≡◌, ℕ, Bool, List, [], ◌∷◌, map, take, drop, not, refl, ap, Option, Some, None}
 use Rattle.std.specs.Option.{option_map, option_and_then}
 use Rattle.std.proofs.lemmas.List.{length-map, take-map, drop-map}
 use Rattle.sql_keyword.specs.declared.words.Keyword.{Keyword}
@@ -10,14 +10,13 @@ use Rattle.sql_token.specs.declared.token.Span.{Span}
 use Rattle.sql_token.specs.declared.terminal.Symbol.{Symbol}
 use Rattle.sql_token.specs.declared.terminal.Symbol.TheVariants as s
 use Rattle.sql_token.specs.declared.terminal.Terminal.{Terminal}
-use Rattle.sql_token.specs.Terminal.{is_opener, is_closer}
-use Rattle.sql_token.specs.Depth.{one_if, span_of}
+use Rattle.sql_token.specs.Depth.{span_of}
 use Rattle.sql_tree.specs.declared.nodes.TyKind.{TyKind}
 use Rattle.sql_tree.specs.declared.nodes.TyKind.TheVariants as ty
 use Rattle.sql_tree.specs.Groups.{path_first}
 use Rattle.sql_tree.specs.Split.{before}
 use Rattle.sql_tree.specs.ColumnMarks.{type_end, value_end}
-use Rattle.sql_tree.specs.ColumnType.{type_len, plain_of, arguments, with_arguments, behind_varying, character_kind, character_type, double_type, is_time_zone, zone, list_len, maybe_span, time_type, word_type, symbol_type, path_type, plain_type, no_group, only_groups, before_groups, array_of, array_by_groups, ends_with, has_word_array, array_by_word, column_type}
+use Rattle.sql_tree.specs.ColumnType.{type_len, plain_of, arguments, with_arguments, after_varying, character_kind, character_type, double_type, is_time_zone, zone, list_len, maybe_span, time_type, word_type, symbol_type, path_type, plain_type, no_group, only_groups, before_groups, array_of, array_by_groups, ends_with, has_word_array, array_by_word, column_type}
 use Rattle.sql_law.specs.Moved.{span_moved, type_moved}
 use Rattle.sql_law.specs.Renumber.{renumber, IsBlind}
 use Rattle.sql_law.specs.Trees.{TypeLenRenumbers, TypeRenumbers}
@@ -51,16 +50,16 @@ with_arguments_moved : (f : ℕ → ℕ) (kind : TyKind) (name moved : ℕ) (ts 
     with_arguments kind moved (map (renumber f) ts) (map (renumber f) rest) ≡ option_map (type_moved f) (with_arguments kind name ts rest)
 with_arguments_moved f kind name moved ts rest e is = simp (is, arguments_moved, e.first, e.last, moves)
 
-behind_varying_moved : (f : ℕ → ℕ) (ts : List Terminal) → behind_varying (map (renumber f) ts) ≡ map (renumber f) (behind_varying ts)
-unfolding behind_varying
-behind_varying_moved f ts = simp (moves, begins_sees)
+after_varying_moved : (f : ℕ → ℕ) (ts : List Terminal) → after_varying (map (renumber f) ts) ≡ map (renumber f) (after_varying ts)
+unfolding after_varying
+after_varying_moved f ts = simp (moves, begins_sees)
 
 character_type_moved : (f : ℕ → ℕ) (ts rest : List Terminal) → HasEnds f ts →
     character_type (map (renumber f) ts) (map (renumber f) rest) ≡ option_map (type_moved f) (character_type ts rest)
 unfolding character_type
 character_type_moved f ts rest e =
-    rw (begins_sees f keyword.VARYING rest, behind_varying_moved f rest)
-    (with_arguments_moved f (character_kind rest) _ _ ts (behind_varying rest) e e.first)
+    rw (begins_sees f keyword.VARYING rest, after_varying_moved f rest)
+    (with_arguments_moved f (character_kind rest) _ _ ts (after_varying rest) e e.first)
 
 double_type_moved : (f : ℕ → ℕ) (ts rest : List Terminal) → HasEnds f ts →
     double_type (map (renumber f) ts) (map (renumber f) rest) ≡ option_map (type_moved f) (double_type ts rest)
@@ -109,7 +108,7 @@ word_type_moved f (k.Other others.Varchar) ts rest e = with_arguments_moved f ty
 word_type_moved f (k.Other others.Character) ts rest e = character_type_moved f ts rest e
 word_type_moved f (k.Other others.Char) ts rest e = character_type_moved f ts rest e
 word_type_moved f (k.Other others.Bit) ts rest e =
-    rw (behind_varying_moved f rest) (with_arguments_moved f ty.Bit _ _ ts (behind_varying rest) e e.first)
+    rw (after_varying_moved f rest) (with_arguments_moved f ty.Bit _ _ ts (after_varying rest) e e.first)
 word_type_moved f (k.Other others.Double) ts rest e = double_type_moved f ts rest e
 word_type_moved f (k.Other others.Time) ts rest e = time_type_moved f ty.Time ts rest e
 word_type_moved f (k.Other others.Timestamp) ts rest e = time_type_moved f ty.Timestamp ts rest e

@@ -1,30 +1,28 @@
 -- What queries give and statements write, under other numbers.
-use Rattle.std.proofs.Common.{◌≡◌, ℕ, ◌+◌, List, [], ◌∷◌, map, drop, refl, ap, Option, Some, None}
+use Rattle.std.proofs.Common.{◌≡◌, ℕ, List, [], ◌∷◌, map, drop, refl, ap, Option, Some, None}
 use Rattle.std.specs.Option.{option_map, option_and_then, option_to_list}
 use Rattle.std.proofs.lemmas.List.{length-map, drop-map}
 use Rattle.sql_keyword.specs.declared.words.TheConstants.Keyword as keyword
 use Rattle.sql_token.specs.declared.terminal.Terminal.{Terminal}
-use Rattle.sql_token.specs.Terminal.{is_name, is_dot, is_opener, is_closer}
-use Rattle.sql_token.specs.Depth.{one_if}
 use Rattle.sql_tree.specs.declared.kinds.StmtKind.{StmtKind}
 use Rattle.sql_tree.specs.declared.kinds.StmtKind.TheVariants as stmt
 use Rattle.sql_tree.specs.declared.nodes.Target.{Target}
-use Rattle.sql_tree.specs.Forms.{behind_word, behind_words}
+use Rattle.sql_tree.specs.Forms.{after_word, after_words}
 use Rattle.sql_tree.specs.Groups.{inside_list}
-use Rattle.sql_tree.specs.Split.{Test, comma, word, equals, do_update_set, then_update_set, then_insert, clause_end, merge_clause_end, target_list_end, until, from_mark, behind_list, split}
-use Rattle.sql_tree.specs.Write.{is_behind_dot, begins_name, no_accessor, target, targets_between, assigned, list_targets, set_part_of, set_part, set_clause, others, set_clauses, update_clause, sets_of, begins_query, column_list, behind_name, behind_alias, insert_lists, lists_of, table_write, name_behind_as, alias_name, path_name, name_or, query_target, left_or, behind_distinct, targets, column_name, view_columns, targets_of_select, view_targets, named_or, view_definition}
+use Rattle.sql_tree.specs.Split.{Test, comma, word, equals, do_update_set, then_update_set, then_insert, clause_end, merge_clause_end, target_list_end, until, from_mark, after_list, split}
+use Rattle.sql_tree.specs.Write.{is_after_dot, begins_name, no_accessor, target, targets_between, assigned, list_targets, set_part_of, set_part, set_clause, others, set_clauses, update_clause, sets_of, begins_query, column_list, after_name, after_alias, insert_lists, lists_of, table_write, name_after_as, alias_name, path_name, name_or, query_target, left_or, after_distinct, targets, column_name, view_columns, targets_of_select, view_targets, named_or, view_definition}
 use Rattle.sql_law.specs.Moved.{target_moved, set_part_moved}
 use Rattle.sql_law.specs.Renumber.{renumber, IsBlind}
 use Rattle.sql_law.specs.Trees.{TargetsRenumber, ViewRenumbers, WriteRenumbers}
-use Rattle.sql_law.proofs.Basics.{moves, all_moved, map_moved, filter_map_moved, behind_word_moved, behind_words_moved, HasEnds, ends}
-use Rattle.sql_law.proofs.Marks.{comma_is_blind, word_is_blind, equals_is_blind, do_update_set_is_blind, then_update_set_is_blind, then_insert_is_blind, clause_end_is_blind, merge_clause_end_is_blind, target_list_end_is_blind, begins_list_sees, before_renumbers, from_mark_moved, until_moved, split_renumbers, behind_list_moved}
+use Rattle.sql_law.proofs.Basics.{moves, all_moved, map_moved, filter_map_moved, after_word_moved, after_words_moved, HasEnds, ends}
+use Rattle.sql_law.proofs.Marks.{comma_is_blind, word_is_blind, equals_is_blind, do_update_set_is_blind, then_update_set_is_blind, then_insert_is_blind, clause_end_is_blind, merge_clause_end_is_blind, target_list_end_is_blind, begins_list_sees, before_renumbers, from_mark_moved, until_moved, split_renumbers, after_list_moved}
 use Rattle.sql_law.proofs.Groups.{is_list_sees, inside_list_moved, names_end_moved}
 
 -- ---- names with accessors
 
-behind_dot_sees : (f : ℕ → ℕ) (earlier : Option Terminal) → is_behind_dot (option_map (renumber f) earlier) ≡ is_behind_dot earlier
-behind_dot_sees f None = refl
-behind_dot_sees f (Some earlier) = simp moves
+after_dot_sees : (f : ℕ → ℕ) (earlier : Option Terminal) → is_after_dot (option_map (renumber f) earlier) ≡ is_after_dot earlier
+after_dot_sees f None = refl
+after_dot_sees f (Some earlier) = simp moves
 
 begins_name_sees : (f : ℕ → ℕ) (ts : List Terminal) → begins_name (map (renumber f) ts) ≡ begins_name ts
 begins_name_sees f [] = refl
@@ -32,7 +30,7 @@ begins_name_sees f (t ∷ ts) = simp moves
 
 pub no_accessor_is_blind : IsBlind no_accessor
 unfolding no_accessor
-no_accessor_is_blind f earlier t after = simp (moves, behind_dot_sees, begins_name_sees)
+no_accessor_is_blind f earlier t after = simp (moves, after_dot_sees, begins_name_sees)
 
 target_of_moved : (f : ℕ → ℕ) (ts : List Terminal) → target (map (renumber f) ts) ≡ option_map (target_moved f) (target ts)
 unfolding target
@@ -111,15 +109,15 @@ column_list_moved : (f : ℕ → ℕ) (ts : List Terminal) →
 unfolding column_list
 column_list_moved f ts = simp (begins_list_sees, inside_list_moved, begins_query_sees, targets_between_moved, moves)
 
-behind_name_moved : (f : ℕ → ℕ) (ts rest : List Terminal) →
-    behind_name (map (renumber f) ts) (map (renumber f) rest) ≡ map (renumber f) (behind_name ts rest)
-behind_name_moved f ts [] = refl
-behind_name_moved f ts (t ∷ rest) = simp moves
+after_name_moved : (f : ℕ → ℕ) (ts rest : List Terminal) →
+    after_name (map (renumber f) ts) (map (renumber f) rest) ≡ map (renumber f) (after_name ts rest)
+after_name_moved f ts [] = refl
+after_name_moved f ts (t ∷ rest) = simp moves
 
-behind_alias_moved : (f : ℕ → ℕ) (ts : List Terminal) → behind_alias (map (renumber f) ts) ≡ map (renumber f) (behind_alias ts)
-unfolding behind_alias
-behind_alias_moved f [] = refl
-behind_alias_moved f (t ∷ ts) = simp (behind_name_moved f (t ∷ ts) ts, moves)
+after_alias_moved : (f : ℕ → ℕ) (ts : List Terminal) → after_alias (map (renumber f) ts) ≡ map (renumber f) (after_alias ts)
+unfolding after_alias
+after_alias_moved f [] = refl
+after_alias_moved f (t ∷ ts) = simp (after_name_moved f (t ∷ ts) ts, moves)
 
 insert_lists_moved : (f : ℕ → ℕ) (tail : List Terminal) →
     insert_lists (map (renumber f) tail) ≡ map (map (target_moved f)) (insert_lists tail)
@@ -136,7 +134,7 @@ to_list_moved g (Some a) = refl
 lists_of_moved : (f : ℕ → ℕ) (kind : StmtKind) (tail : List Terminal) →
     lists_of kind (map (renumber f) tail) ≡ map (map (target_moved f)) (lists_of kind tail)
 unfolding lists_of
-lists_of_moved f stmt.Insert tail = simp (behind_alias_moved, column_list_moved, to_list_moved)
+lists_of_moved f stmt.Insert tail = simp (after_alias_moved, column_list_moved, to_list_moved)
 lists_of_moved f stmt.Merge tail = insert_lists_moved f tail
 lists_of_moved f kind tail = refl
 
@@ -146,15 +144,15 @@ write_renumbers f kind path tail = simp (sets_of_moved, lists_of_moved)
 
 -- ---- targets of queries
 
-behind_as_moved : (f : ℕ → ℕ) (ts : List Terminal) → name_behind_as (map (renumber f) ts) ≡ option_map f (name_behind_as ts)
-behind_as_moved f [] = refl
-behind_as_moved f (a ∷ []) = refl
-behind_as_moved f (a ∷ t ∷ []) = simp moves
-behind_as_moved f (a ∷ t ∷ u ∷ ts) = refl
+after_as_moved : (f : ℕ → ℕ) (ts : List Terminal) → name_after_as (map (renumber f) ts) ≡ option_map f (name_after_as ts)
+after_as_moved f [] = refl
+after_as_moved f (a ∷ []) = refl
+after_as_moved f (a ∷ t ∷ []) = simp moves
+after_as_moved f (a ∷ t ∷ u ∷ ts) = refl
 
 alias_name_moved : (f : ℕ → ℕ) (ts : List Terminal) → alias_name (map (renumber f) ts) ≡ option_map f (alias_name ts)
 unfolding alias_name
-alias_name_moved f ts = simp (length-map, drop-map, behind_as_moved)
+alias_name_moved f ts = simp (length-map, drop-map, after_as_moved)
 
 path_name_moved : (f : ℕ → ℕ) (ts : List Terminal) → path_name (map (renumber f) ts) ≡ option_map f (path_name ts)
 unfolding path_name
@@ -175,25 +173,25 @@ left_or_moved f ts None = refl
 left_or_moved f ts (Some rest) = refl
 
 on_list_moved : (f : ℕ → ℕ) (ts : List Terminal) →
-    option_and_then behind_list (behind_word keyword.ON (map (renumber f) ts)) ≡ option_map (map (renumber f)) (option_and_then behind_list (behind_word keyword.ON ts))
-on_list_moved f ts = simp (behind_word_moved, behind_list_moved, moves)
+    option_and_then after_list (after_word keyword.ON (map (renumber f) ts)) ≡ option_map (map (renumber f)) (option_and_then after_list (after_word keyword.ON ts))
+on_list_moved f ts = simp (after_word_moved, after_list_moved, moves)
 
-behind_distinct_moved : (f : ℕ → ℕ) (ts : List Terminal) → behind_distinct (map (renumber f) ts) ≡ map (renumber f) (behind_distinct ts)
-unfolding behind_distinct
-behind_distinct_moved f [] = refl
-behind_distinct_moved f (t ∷ ts) =
-    rw (on_list_moved f ts, left_or_moved f ts (option_and_then behind_list (behind_word keyword.ON ts))) (simp moves)
+after_distinct_moved : (f : ℕ → ℕ) (ts : List Terminal) → after_distinct (map (renumber f) ts) ≡ map (renumber f) (after_distinct ts)
+unfolding after_distinct
+after_distinct_moved f [] = refl
+after_distinct_moved f (t ∷ ts) =
+    rw (on_list_moved f ts, left_or_moved f ts (option_and_then after_list (after_word keyword.ON ts))) (simp moves)
 
 pub targets_renumber : TargetsRenumber
 unfolding targets
 targets_renumber f ts =
     rw (
-      behind_distinct_moved f ts,
-      until_moved target_list_end target_list_end_is_blind f (behind_distinct ts),
-      split_renumbers comma comma_is_blind f (until target_list_end (behind_distinct ts)),
+      after_distinct_moved f ts,
+      until_moved target_list_end target_list_end_is_blind f (after_distinct ts),
+      split_renumbers comma comma_is_blind f (until target_list_end (after_distinct ts)),
     )
     (filter_map_moved (map (renumber f)) (target_moved f) query_target query_target (query_target_moved f)
-    (split comma (until target_list_end (behind_distinct ts))))
+    (split comma (until target_list_end (after_distinct ts))))
 
 -- ---- views
 
@@ -224,9 +222,9 @@ unfolding view_targets
 view_targets_moved f ts =
     rw (
       from_mark_moved (word keyword.AS) (word_is_blind keyword.AS) f ts,
-      behind_words_moved f (keyword.AS ∷ keyword.SELECT ∷ []) (from_mark (word keyword.AS) ts),
+      after_words_moved f (keyword.AS ∷ keyword.SELECT ∷ []) (from_mark (word keyword.AS) ts),
     )
-    (of_select_moved f (behind_words (keyword.AS ∷ keyword.SELECT ∷ []) (from_mark (word keyword.AS) ts)))
+    (of_select_moved f (after_words (keyword.AS ∷ keyword.SELECT ∷ []) (from_mark (word keyword.AS) ts)))
 
 named_or_moved : {A B : Type 0} (g : A → B) (other : List A) (r : Option (List A)) →
     named_or (map g other) (option_map (map g) r) ≡ map g (named_or other r)

@@ -41,7 +41,7 @@ ColumnRenumbers = (f : ℕ → ℕ) (ts : List Terminal) → column (map (renumb
 abbrev pub ElementsRenumber : Type 0
 ElementsRenumber = (f : ℕ → ℕ) (tail : List Terminal) → elements (map (renumber f) tail) ≡ map (elem_moved f) (elements tail)
 
--- ON COMMIT DROP stands behind a table's path or does not.
+-- ON COMMIT DROP comes after a table's path or does not.
 abbrev pub DropRenumbers : Type 0
 DropRenumbers = (f : ℕ → ℕ) (tail : List Terminal) → drops_on_commit (map (renumber f) tail) ≡ drops_on_commit tail
 

@@ -7,10 +7,11 @@ ghost use Rattle.sql_tree.specs.ColumnMarks as column_marks;
 ghost use Rattle.sql_tree.specs.ColumnType as types;
 ghost use Rattle.sql_tree.specs.Write as writes;
 ghost use Rattle.sql_tree.specs.ActionPieces as piece_marks;
+ghost use Rattle.sql_law.specs.Order.{StatementsAscend, ActionsAscend};
 ghost use Rattle.sql_law.specs.Renumber.{IsBlind, WordIsBlind, BeforeRenumbers, SplitRenumbers, ClosingRenumbers, PartRenumbers, PartsRenumber, FrontRenumbers, WholeRenumbers};
 ghost use Rattle.sql_law.specs.Trees.{ExpressionRenumbers, TypeLenRenumbers, TypeRenumbers, ConstraintRenumbers, ColumnRenumbers, ElementsRenumber, DropRenumbers, DomainRenumbers, ActionRenumbers, PiecesRenumber, ActionsRenumber, TargetsRenumber, ViewRenumbers, WriteRenumbers, SoundRenumbers, FormRenumbers, StatementRenumbers};
 
-/// The marks are blind to numbers. Such a mark stands at the same place, a list is split at the same places, and a bracket
+/// The marks are blind to numbers. Such a mark is at the same place, a list is split at the same places, and a bracket
 /// list is as long.
 pub fn marks_renumber()
     ensures comma { IsBlind marks.comma }
@@ -101,4 +102,10 @@ pub fn statements_renumber()
     ensures sound { SoundRenumbers }
     ensures form { FormRenumbers }
     ensures statement { StatementRenumbers }
+{}
+
+/// The statements of a tree, and its actions, begin at tokens that ascend: no two of them begin at one place.
+pub fn starts_ascend()
+    ensures statements { StatementsAscend }
+    ensures actions { ActionsAscend }
 {}

@@ -1,5 +1,7 @@
 //! Laws of the definitions of statements: terminals with other numbers give the same reading, with its numbers changed
-//! in the same way. What is proved of a statement so holds of it wherever it stands in a text.
+//! in the same way. What is proved of a statement so holds of it wherever it is in a text.
 #![tactic(auto)]
 
 pub mod laws;
+pub mod texts;
+pub mod whole;

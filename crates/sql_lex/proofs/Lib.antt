@@ -1,7 +1,9 @@
 pub mod Answer
 pub mod Bits
+pub mod CommentBytes
 pub mod Firsts
 pub mod Insides
+pub mod LineRuns
 pub mod Plain
 pub mod SignLaws
 pub mod Stacks

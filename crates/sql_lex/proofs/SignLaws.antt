@@ -1,4 +1,4 @@
--- Behind an operator that lost its trailing signs each of them is an operator.
+-- After an operator that lost its trailing signs each of them is an operator.
 use Rattle.std.proofs.Common.{◌≡◌, ℕ, zero, suc, ◌+◌, ◌-◌, ◌<◌, ◌≤◌, max, Bool, true, false, not, ◌&&◌, ◌||◌, ◌==◌, if◌then◌else◌, List, [], ◌∷◌, length, take, drop, get_or, length-drop, refl, sym, ap, ◌∙◌, subst, arith, ◌⊎◌, inl, inr, add-one}
 use Rattle.std.proofs.lemmas.Bool.{cases_eq, false≢true}
 use Rattle.std.proofs.lemmas.Bool.Decides.{nat_tests}
@@ -23,8 +23,8 @@ drop_at t i n m e = get_or-drop i t n 0 ∙ ap (λ (x : ℕ). get_or t x 0) e
 runs_drop : (t : Text) (i n m : ℕ) → i + n ≡ m → runs_over Op (drop i t) n ≡ runs_over Op t m
 runs_drop t i n m e =
     let here = drop_at t i n m e in
-    let behind = drop_at t i (n + 1) (m + 1) (omega arith) in
-    λ x. is_op (here x) && not (begins_comment (here x) (behind x))
+    let after = drop_at t i (n + 1) (m + 1) (omega arith) in
+    λ x. is_op (here x) && not (begins_comment (here x) (after x))
 
 either : (b : Bool) → (b ≡ true) ⊎ (b ≡ false)
 either true = inl refl
@@ -47,19 +47,19 @@ suffix_all : (p : ℕ → Bool) (xs : Text) (n k : ℕ) → n ≤ length xs → 
 suffix_all p xs zero k within from before = absurd (omega arith)
 suffix_all p xs (suc n) k within from before = suffix_step p xs n k within (suffix_all p xs n k (omega arith)) from before
 
-behind_op : (special : Bool) (len suffix m : ℕ) → (if special then len else max 1 (len - suffix)) ≤ m → m < len → len - suffix ≤ m
-behind_op true len suffix m from before = absurd (omega arith)
-behind_op false len suffix m from before = omega arith
+after_op : (special : Bool) (len suffix m : ℕ) → (if special then len else max 1 (len - suffix)) ≤ m → m < len → len - suffix ≤ m
+after_op true len suffix m from before = absurd (omega arith)
+after_op false len suffix m from before = omega arith
 
 tail_signs : (run : Text) (m : ℕ) → op_len run ≤ m → m < length run → is_sign (get_or run m 0) ≡ true
 tail_signs run m from before =
-    suffix_all is_sign run (length run) m (omega arith) (rw (take-length run) (behind_op (list_any is_special run) (length run) (suffix_len is_sign run) m from before)) before
+    suffix_all is_sign run (length run) m (omega arith) (rw (take-length run) (after_op (list_any is_special run) (length run) (suffix_len is_sign run) m from before)) before
 
 op_len_within : (run : Text) → 0 < length run → op_len run ≤ length run
 op_len_within run some = elim (list_any is_special run) as (λ b. (if b then length run else max 1 (length run - suffix_len is_sign run)) ≤ length run) [ true ↦ omega arith | false ↦ omega arith ]
 
-behind : (t : Text) (i j : ℕ) → i < j → j ≤ length t → IsOp (drop i t) (j - i) → SignsFrom t j
-behind t i j before within p =
+after : (t : Text) (i j : ℕ) → i < j → j ≤ length t → IsOp (drop i t) (j - i) → SignsFrom t j
+after t i j before within p =
     let z = drop i t in
     let all : p.run ≤ length z = p.is_run.within in
     let fits : i + p.run ≤ length t = omega (arith, length-drop i t, p.is_run.begun) in
@@ -81,17 +81,17 @@ behind t i j before within p =
       },
     )
 
--- what stands behind an operator
-pub signs_behind : (t : Text) (i j : ℕ) (k : TokKind) → k ≡ Op → At t i k j → SignsFrom t j
-signs_behind t i j k is here = behind t i j here.before here.within (subst (λ (x : TokKind). Takes (i == 0) x (drop i t) (j - i)) is here.takes)
+-- what comes after an operator
+pub signs_after : (t : Text) (i j : ℕ) (k : TokKind) → k ≡ Op → At t i k j → SignsFrom t j
+signs_after t i j k is here = after t i j here.before here.within (subst (λ (x : TokKind). Takes (i == 0) x (drop i t) (j - i)) is here.takes)
 
--- what stands behind tokens the last of which is an operator
-pub behind_tokens : (t : Text) (i j : ℕ) (ks : List Tok) (n : ℕ) (k : Tok) → Leads t i ks j → length ks ≡ n + 1 → (get_or ks n k).kind ≡ Op → (0 < j) × SignsFrom t j
-behind_tokens t i j [] n k lead size is = absurd (omega arith)
-behind_tokens t i j (x ∷ []) zero k lead size is = subst (λ (m : ℕ). (0 < m) × SignsFrom t m) lead.2 (omega (arith, lead.1.before), signs_behind t i x.end x.kind is lead.1)
-behind_tokens t i j (x ∷ []) (suc n) k lead size is = absurd (omega arith)
-behind_tokens t i j (x ∷ y ∷ ks) zero k lead size is = absurd (omega arith)
-behind_tokens t i j (x ∷ y ∷ ks) (suc n) k lead size is = behind_tokens t x.end j (y ∷ ks) n k lead.2 (omega arith) is
+-- what comes after tokens the last of which is an operator
+pub after_tokens : (t : Text) (i j : ℕ) (ks : List Tok) (n : ℕ) (k : Tok) → Leads t i ks j → length ks ≡ n + 1 → (get_or ks n k).kind ≡ Op → (0 < j) × SignsFrom t j
+after_tokens t i j [] n k lead size is = absurd (omega arith)
+after_tokens t i j (x ∷ []) zero k lead size is = subst (λ (m : ℕ). (0 < m) × SignsFrom t m) lead.2 (omega (arith, lead.1.before), signs_after t i x.end x.kind is lead.1)
+after_tokens t i j (x ∷ []) (suc n) k lead size is = absurd (omega arith)
+after_tokens t i j (x ∷ y ∷ ks) zero k lead size is = absurd (omega arith)
+after_tokens t i j (x ∷ y ∷ ks) (suc n) k lead size is = after_tokens t x.end j (y ∷ ks) n k lead.2 (omega arith) is
 
 sign_not_special : (b : ℕ) → is_sign b ≡ true → is_special b ≡ false
 sign_not_special b h = grind (arith, nat_tests)

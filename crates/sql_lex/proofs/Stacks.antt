@@ -44,7 +44,7 @@ found_suc true c t bs d r p q g e f = g
 found_suc false true t bs d r p q g e f = e ∙ sym (nth_tail bs (suc d))
 found_suc false false t bs d r p q g e f = f
 
--- Counting back over d of them finds the one that stands there.
+-- Counting back over d of them finds the one that is there.
 found : (d : ℕ) (earlier : List Terminal) → option_map is_round (partner d earlier) ≡ nth (unclosed earlier) d
 unfolding unclosed nth
 found zero [] = refl
@@ -133,7 +133,7 @@ passed_by false x = refl
 stands_anywhere : (st : List Bool) (t : Terminal) (ts : List Terminal) → StandsAnywhere t → nests st (t ∷ ts) ≡ nests st ts
 stands_anywhere st t ts h = rw (h.name, h.opener, h.closer, never_atomic t ts h.begin) (passed_by (none_open st) (nests st ts))
 
--- a terminal at the front that may stand anywhere is passed by
+-- a terminal at the front that may be anywhere is passed by
 pub pass_by : (st : List Bool) (ts : List Terminal) (t : Terminal) → 1 ≤ length ts → StandsAnywhere (get_or ts 0 t) → nests st (take (length ts - 1) (drop 1 ts)) ≡ nests st ts
 pass_by st [] t some h = absurd (omega arith)
 pass_by st (u ∷ us) t some h = ap (nests st) (take_rest (u ∷ us) 1) ∙ sym (stands_anywhere st u us h)

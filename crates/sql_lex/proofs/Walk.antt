@@ -1,5 +1,5 @@
 -- The walk over the statements.
-use Rattle.std.proofs.Common.{◌≡◌, ℕ, zero, suc, ◌+◌, ◌^◌, ◌<◌, ◌≤◌, List, [], ◌∷◌, ◌++◌, length, drop, get_or, refl, sym, ap, ◌∙◌, arith, ◌==◌, true, false, ◌&&◌, Bool, not, if◌then◌else◌, Option, Some, None}
+use Rattle.std.proofs.Common.{◌≡◌, ℕ, zero, suc, ◌+◌, ◌^◌, ◌<◌, ◌≤◌, List, [], ◌∷◌, ◌++◌, length, get_or, refl, sym, ap, ◌∙◌, arith, ◌==◌, true, false, ◌&&◌, Bool, not, if◌then◌else◌, Option, Some, None}
 use Rattle.std.specs.Prelude.{slice_index}
 use Rattle.std.proofs.lemmas.Bool.Decides.{nat_tests}
 use Rattle.std.proofs.lemmas.List.{drop_all, drop_more, get_or_default}
@@ -11,9 +11,10 @@ use Rattle.sql_token.specs.declared.token.TokKind.TheVariants.{Blank, LineCommen
 use Rattle.sql_token.specs.declared.terminal.Symbol.{Symbol}
 use Rattle.sql_token.specs.declared.terminal.Symbol.TheVariants as s
 use Rattle.sql_keyword.specs.declared.words.Keyword.{Keyword}
-use Rattle.sql_keyword.specs.Slots.{keyword_of}
-use Rattle.sql_token.specs.Terminal.{is_significant, symbol_of, word_symbol, terminals_from, is_opener, is_closer, is_semicolon, is_opener_symbol, is_closer_symbol, is_semicolon_symbol}
+use Rattle.sql_keyword.specs.Find.{keyword_of}
+use Rattle.sql_token.specs.Terminal.{is_significant, symbol_of, word_symbol, is_opener, is_closer, is_semicolon, is_opener_symbol, is_closer_symbol, is_semicolon_symbol}
 use Rattle.sql_token.specs.Depth.{onto, one_if, statements_from}
+pub use Rattle.sql_lex.specs.Inside.{terminals_after}
 use Rattle.sql_lex.specs.Cursor.{GoesOn, LieIn, IsWalk, Steps, IsNext, onto_all}
 
 full : (buffer : List Terminal) (t : Terminal) (all others : List (List Terminal)) → all ≡ (buffer ++ t ∷ []) ∷ others → IsNext (buffer ++ t ∷ []) all others
@@ -51,10 +52,6 @@ pub lies_at : (len : ℕ) (ks : List Tok) (n : ℕ) (k : Tok) → LieIn len ks �
 lies_at len [] n k p h = absurd (omega arith)
 lies_at len (x ∷ ks) zero k p h = (p.0, p.1)
 lies_at len (x ∷ ks) (suc n) k p h = lies_at len ks n k p.2 (omega arith)
-
--- the terminals from the token with the number n on
-abbrev pub terminals_after : Text → List Tok → ℕ → List Terminal
-terminals_after t ks n = terminals_from t n (drop n ks)
 
 pub after_blank : (t : Text) (ks : List Tok) (n : ℕ) (k : Tok) → n < length ks → is_significant (get_or ks n k).kind ≡ false → terminals_after t ks n ≡ terminals_after t ks (n + 1)
 after_blank t ks n k h blank = rw (drop_more ks n k h, blank) refl
@@ -142,7 +139,7 @@ pub runs_out : (buffer from : List Terminal) (o c : ℕ) (all : List (List Termi
 runs_out [] from o c all none same = (rw none at (sym same), rw none refl)
 runs_out (t ∷ buffer) from o c all none same = rw none ((rw none at (sym same)) ∙ onto_all-alone t buffer)
 
--- whether there is a statement is told by whether it is empty
+-- whether there is a statement is known by whether it is empty
 pub steps : (more : Bool) (statement : List Terminal) (old new : List (List Terminal)) → more ≡ not (length statement == 0) → IsNext statement old new → Steps more old statement new
 steps true [] old new e next = cc
 steps false [] old new e next = (next.0, refl, next.1)

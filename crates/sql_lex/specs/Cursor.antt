@@ -12,7 +12,7 @@ abbrev pub LieIn : ℕ → List Tok → Type 0
 LieIn len [] = Unit {0}
 LieIn len (t ∷ ts) = (t.start ≤ t.end) × (t.end ≤ len) × LieIn len ts
 
--- A walk over these tokens stands at the token with the number n.
+-- A walk over these tokens is at the token with the number n.
 pub record IsWalk (len : ℕ) (toks : List Tok) (n : ℕ) : Type 0 where
   pub lie : LieIn len toks
   pub within : n ≤ length toks
@@ -27,7 +27,7 @@ abbrev pub Steps : Bool → List (List Terminal) → List Terminal → List (Lis
 Steps true old statement new = (old ≡ statement ∷ new) × (0 < length statement)
 Steps false old statement new = (old ≡ []) × (statement ≡ []) × (new ≡ [])
 
--- The same, told by whether the statement is empty.
+-- The same, known by whether the statement is empty.
 abbrev pub IsNext : List Terminal → List (List Terminal) → List (List Terminal) → Type 0
 IsNext [] old new = (old ≡ []) × (new ≡ [])
 IsNext (t ∷ ts) old new = old ≡ (t ∷ ts) ∷ new
@@ -43,8 +43,8 @@ abbrev pub onto_all : List Terminal → List (List Terminal) → List (List Term
 onto_all [] lists = lists
 onto_all (t ∷ ts) lists = onto t (onto_all ts lists)
 
--- From the token with the number n to before that with the number m stand words and white space, and the one with the
--- number m is neither. With their terminals behind those before, what is left gives the same statements.
+-- From the token with the number n to before that with the number m are there words and white space, and the one with the
+-- number m is neither. With their terminals after those before, what is left gives the same statements.
 pub record GoesOver (t : Text) (toks : List Tok) (before : List Terminal) (n : ℕ) (after : List Terminal) (m : ℕ) : Type 0 where
   pub begun : n ≤ m
   pub within : m ≤ length toks

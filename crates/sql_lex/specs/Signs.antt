@@ -1,4 +1,4 @@
--- Signs that an operator lost: they stand behind it, each one a token.
+-- Signs that an operator lost: they come after it, each one a token.
 use Rattle.std.specs.Prelude.{◌≡◌, ◌≤◌, ◌<◌, ℕ, Bool, true, false, not, ◌&&◌, List, length, slice_index}
 use Rattle.sql_token.specs.declared.token.Tok.{Tok}
 use Rattle.sql_token.specs.declared.token.TokKind.TheVariants.{Op}
@@ -8,7 +8,7 @@ use Rattle.sql_token.specs.Token.{Text, Leads, is_sign, begins_comment, runs_ove
 abbrev pub begins_sign : Text → Bool
 begins_sign z = is_sign (slice_index z 0) && not (begins_comment (slice_index z 0) (slice_index z 1))
 
--- from i to before e stand signs alone, and there a run of operator bytes ends
+-- from i to before e are there signs alone, and there a run of operator bytes ends
 pub record Signs (t : Text) (i e : ℕ) : Type 0 where
   pub begun : i ≤ e
   pub within : e ≤ length t
@@ -19,6 +19,6 @@ pub record Signs (t : Text) (i e : ℕ) : Type 0 where
 abbrev pub SignsFrom : Text → ℕ → Type 0
 SignsFrom t i = (e : ℕ) × Signs t i e
 
--- Signs that an operator lost may stand behind these tokens, wherever they lead to.
+-- Signs that an operator lost may come after these tokens, wherever they lead to.
 abbrev pub LeadsToSigns : List Tok → Type 0
 LeadsToSigns ks = (t : Text) (j : ℕ) → Leads t 0 ks j → (0 < j) × SignsFrom t j

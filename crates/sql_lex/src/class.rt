@@ -95,7 +95,7 @@ pub fn is_word(b: u8) -> bool
     RUNS[b as usize] & WORD != 0
 }
 
-/// Whether a number goes on over this byte, whatever stands beside it.
+/// Whether a number goes on over this byte, whatever is beside it.
 #[inline]
 pub fn is_in_number(b: u8) -> bool
     ensures { result ≡ spec.is_in_number b }

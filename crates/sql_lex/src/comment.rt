@@ -1,7 +1,9 @@
 //! Block comments, which nest.
 
-ghost use Rattle.std.specs.Prelude.{◌≡◌, ◌<◌, ◌≤◌, ◌+◌, ℕ, length, true, IfSome, IfNone};
+ghost use Rattle.std.specs.Prelude.{◌≡◌, ◌<◌, ◌≤◌, ◌+◌, ℕ, length, false, true, IfSome, IfNone};
 ghost use Rattle.sql_token.specs.Comment as spec;
+
+use memchr::memchr2;
 
 pub fn opens(z: &[u8], at: usize) -> bool
     ensures value { result ≡ spec.opens z.now at }
@@ -16,6 +18,21 @@ fn closes(z: &[u8], at: usize) -> bool
     ensures within { result ≡ true → at + 2 ≤ length z.now }
 {
     z[at] == b'*' && at + 1 < z.len() && z[at + 1] == b'/'
+}
+
+/// The first place from `at` on where a mark may begin: a star, a slash, or the end of the text. It is not inlined, so that
+/// the lexer's loop stays small.
+#[inline(never)]
+fn next_mark(z: &[u8], at: usize) -> usize
+    requires { at ≤ length z.now }
+    ensures within { (at ≤ result) × (result ≤ length z.now) }
+    ensures opens { (n : ℕ) → at ≤ n → n < result → spec.opens z.now n ≡ false }
+    ensures closes { (n : ℕ) → at ≤ n → n < result → spec.closes z.now n ≡ false }
+{
+    match memchr2(b'*', b'/', &z[at..]) {
+        Some(n) => at + n,
+        None => z.len(),
+    }
 }
 
 /// The length of the comment at the front, unless it never closes.
@@ -38,7 +55,7 @@ pub fn comment_len(z: &[u8]) -> Option<usize>
             depth += 1;
             at += 2;
         } else {
-            at += 1;
+            at = next_mark(z, at + 1);
         }
     }
     Some(at)

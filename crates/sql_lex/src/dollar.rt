@@ -10,7 +10,7 @@ fn is_tag(b: u8) -> bool
     b.is_ascii_alphanumeric() || b == b'_' || 128 <= b
 }
 
-/// Where the tag behind the `$` at the front ends.
+/// Where the tag after the `$` at the front ends.
 fn tag_end(z: &[u8]) -> usize
     requires { 0 < length z.now }
     ensures value { result + 1 ≡ spec.mark_len z.now }
@@ -41,7 +41,7 @@ fn mark_stands(mark: &[u8], z: &[u8], at: usize) -> bool
     z[at..].starts_with(mark)
 }
 
-/// The place behind `from` where the mark stands, or the end of the text.
+/// The place after `from` where the mark is there, or the end of the text.
 fn body_end(mark: &[u8], z: &[u8], from: usize) -> usize
     requires { from ≤ length z.now }
     ensures ends { spec.ItemsEnd (spec.dollar_item mark.now z.now) from result }

@@ -70,7 +70,7 @@ fn room_end(toks: &Vec<Tok>, from: usize, stop: usize) -> usize
     from + stop.saturating_sub(from).min(toks.capacity() - toks.len())
 }
 
-/// Puts the token from this place to that one behind the others.
+/// Puts the token from this place to that one after the others.
 fn push_token(toks: &mut Vec<Tok>, kind: TokKind, at: usize, end: usize)
     requires { (at < 2 ^ 32) × (end < 2 ^ 32) × (vec_len toks.old < vec_capacity toks.old) }
     ensures items { toks.new.items ≡ toks.old.items ++ record { kind = kind; start = at; end = end } ∷ [] }
@@ -84,7 +84,7 @@ fn push_token(toks: &mut Vec<Tok>, kind: TokKind, at: usize, end: usize)
     });
 }
 
-/// Puts the tokens from this place on behind the others, until there is no more room or one comes that its first bytes
+/// Puts the tokens from this place on after the others, until there is no more room or one comes that its first bytes
 /// don't tell. Gives the end of the last one.
 #[inline(always)]
 fn push_plain(text: &[u8], toks: &mut Vec<Tok>, from: usize, stop: usize) -> usize
@@ -126,20 +126,20 @@ fn ends_in_operator(toks: &[Tok]) -> bool
 }
 
 /// The token at this place, which may be a sign that an operator in front lost.
-fn any_token(text: &[u8], at: usize, is_behind_operator: bool) -> Option<(TokKind, usize)>
+fn any_token(text: &[u8], at: usize, is_after_operator: bool) -> Option<(TokKind, usize)>
     requires begins { at < length text.now }
-    requires signs { is_behind_operator ≡ true → (0 < at) × SignsFrom text.now at }
+    requires signs { is_after_operator ≡ true → (0 < at) × SignsFrom text.now at }
     ensures found { IfSome result (λ t. At text.now at t.0 t.1) }
     ensures within { IfSome result (λ t. (at < t.1) × (t.1 ≤ length text.now)) }
     ensures none { IfNone result (NeverCloses text.now at) }
 {
-    if is_behind_operator && begins_sign(&text[at..]) {
+    if is_after_operator && begins_sign(&text[at..]) {
         return Some((TokKind::Op, at + 1));
     }
     token_at(text, at)
 }
 
-/// Puts the token at this place behind the others, and gives its end.
+/// Puts the token at this place after the others, and gives its end.
 #[inline(never)]
 fn push_any(text: &[u8], toks: &mut Vec<Tok>, at: usize) -> Result<usize, LexError>
     requires short { length text.now < 2 ^ 32 }
@@ -183,7 +183,7 @@ pub fn lex(alloc: Global, text: &str) -> Result<Vec<Tok>, LexError>
     requires { length text.now < 2 ^ 32 }
     ensures ok { IfOk result (λ toks. Lexed text.now toks.items) }
     ensures err { IfErr result (λ e. IsCause text.now e) }
-    // Want of memory is the one other answer.
+    // Running out of memory is the one other answer.
     ensures lexed { (toks : List Tok) → Lexed text.now toks → OkOrNoMemory result (λ v. v.items ≡ toks) }
     ensures open { (at : ℕ) → OpenAt text.now at → IsOpenOrNoMemory result at }
 {

@@ -20,5 +20,6 @@ pub use error::LexError;
 pub use inside::terminals_in;
 pub use lexer::lex;
 pub use sound::is_sound;
-pub use spans::{cut, span_of};
+pub use spans::cut;
+pub use sql_token::span_of;
 pub use statements::Statements;

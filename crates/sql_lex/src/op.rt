@@ -34,7 +34,7 @@ pub fn begins_op(z: &[u8]) -> bool
     is_op(byte(z, 0)) && !begins_comment(byte(z, 0), byte(z, 1))
 }
 
-/// Whether a sign that begins no comment stands at the front.
+/// Whether a sign that begins no comment is at the front.
 pub fn begins_sign(z: &[u8]) -> bool
     ensures { result ≡ begins_sign z.now }
 {

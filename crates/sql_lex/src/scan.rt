@@ -14,6 +14,7 @@ use crate::comment::{comment_len, opens};
 use crate::dollar::{begins_dollar, dollar_len};
 use crate::op::{begins_comment, begins_op, op_len};
 use crate::quote::quoted_len;
+use memchr::memchr;
 use sql_token::TokKind;
 
 fn begins_word(b: u8) -> bool
@@ -90,6 +91,20 @@ pub fn run_end(kind: TokKind, z: &[u8], from: usize) -> usize
         end += 1;
     }
     end
+}
+
+/// The end of the line comment at the front: the first line feed, or the end of the text. It is not inlined, so that the
+/// lexer's loop stays small.
+#[inline(never)]
+fn line_end(z: &[u8]) -> usize
+    requires { 0 < length z.now }
+    ensures run { spec.IsRun TokKind.LineComment z.now 1 result }
+    ensures within { (0 < result) × (result ≤ length z.now) }
+{
+    match memchr(b'\n', &z[1..]) {
+        Some(n) => 1 + n,
+        None => z.len(),
+    }
 }
 
 /// The end of the longest run of this kind, where none goes on over the byte at `stop`.
@@ -175,8 +190,8 @@ fn str_len(z: &[u8]) -> Option<usize>
     quoted_len(b'\'', is_e(byte(z, 0)), z, str_body(z))
 }
 
-/// Whether this byte may stand behind the prefix letter of a token in quotes.
-fn is_behind_prefix(b: u8) -> bool
+/// Whether this byte may come after the prefix letter of a token in quotes.
+fn is_after_prefix(b: u8) -> bool
     ensures { result ≡ false → ((b == 39) ≡ false) × ((b == 38) ≡ false) }
 {
     b == b'\'' || b == b'&'
@@ -217,7 +232,7 @@ pub fn plain_kind(z: &[u8]) -> Option<TokKind>
         Some(TokKind::Word)
     } else if leads_punct(first) {
         Some(TokKind::Punct)
-    } else if is_letter(first) && !is_behind_prefix(byte(z, 1)) {
+    } else if is_letter(first) && !is_after_prefix(byte(z, 1)) {
         Some(TokKind::Word)
     } else {
         None
@@ -291,7 +306,7 @@ fn token_len(is_start: bool, kind: TokKind, z: &[u8]) -> Option<usize>
 {
     match kind {
         TokKind::Blank => Some(run_end(TokKind::Blank, z, blank_from(is_start, z))),
-        TokKind::LineComment => Some(run_end(TokKind::LineComment, z, 1)),
+        TokKind::LineComment => Some(line_end(z)),
         TokKind::Param => Some(run_end(TokKind::Param, z, 1)),
         TokKind::Number => Some(run_end(TokKind::Number, z, 1)),
         TokKind::Word => Some(run_end(TokKind::Word, z, 1)),

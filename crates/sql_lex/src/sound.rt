@@ -28,7 +28,7 @@ fn has_same_kind(round: bool, terminal: Terminal) -> bool
     }
 }
 
-/// Whether this may stand anywhere in a statement that may be read.
+/// Whether this may be anywhere in a statement that may be read.
 #[tactic(auto, unfolding(sql_token::specs::Terminal::is_unicode_name, sql_token::specs::Terminal::is_opener, sql_token::specs::Terminal::is_closer, sql_token::specs::Terminal::is_keyword))]
 fn stands_anywhere(terminal: Terminal) -> bool
     ensures { result ≡ true → StandsAnywhere terminal }

@@ -6,22 +6,9 @@ ghost use Rattle.sql_token.specs.Terminal.{terminals};
 ghost use Rattle.sql_token.specs.Token.{Lexed};
 
 use crate::statements::Statements;
-use sql_token::{Span, Terminal, Tok};
+use sql_token::{Span, Tok, span_of};
 use std::alloc::Global;
 use text_pos::NoMemory;
-
-/// From the first token to the last one; tokens 0 to 0 where there is none.
-pub fn span_of(statement: &[Terminal]) -> Span
-    ensures { result ≡ span_of statement.now }
-{
-    match statement {
-        [] => Span { first: 0, last: 0 },
-        [first, ..] => Span {
-            first: first.number,
-            last: statement[statement.len() - 1].number,
-        },
-    }
-}
 
 /// The statements of the text whose tokens these are, sound or not, each by the numbers of its
 /// first significant token and of its last one.

@@ -36,7 +36,7 @@ impl<'a> Model for Statements<'a> {
 
 impl<'a> Statements<'a> {
     /// All statements of the text whose tokens these are.
-    #[tactic(auto, using(crate::proofs::Walk::is_walk), unfolding(sql_token::specs::Depth::statements, sql_token::specs::Terminal::terminals))]
+    #[tactic(auto, using(crate::proofs::Walk::is_walk))]
     pub fn new(text: &'a str, toks: &'a [Tok]) -> Statements<'a>
         requires lexed { Lexed text.now toks.now }
         requires short { length text.now < 2 ^ 32 }
@@ -136,7 +136,7 @@ fn count_mark(opened: usize, closed: usize, mark: Terminal) -> Option<(usize, us
     }
 }
 
-/// Puts the terminals of the words from the token with this number on behind the others, over the white space between
+/// Puts the terminals of the words from the token with this number on after the others, over the white space between
 /// them, and gives the number of the next token that is neither.
 #[inline(always)]
 fn push_words(
@@ -165,7 +165,7 @@ fn push_words(
 }
 
 /// Puts the terminals of the statement that begins at the token with this number into the empty
-/// buffer, and gives the number of the token behind it.
+/// buffer, and gives the number of the token after it.
 fn take_first(
     text: &[u8],
     toks: &[Tok],

@@ -1,7 +1,7 @@
 //! What a token is to the grammar.
 
 ghost use Rattle.std.specs.Prelude.{◌≡◌, ◌≢◌, true, false, slice_index};
-ghost use Rattle.sql_keyword.specs.Slots.{keyword_of};
+ghost use Rattle.sql_keyword.specs.Find.{keyword_of};
 ghost use Rattle.sql_token.specs.Terminal as spec;
 
 use sql_keyword::keyword_of;

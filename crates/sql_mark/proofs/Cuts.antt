@@ -26,7 +26,7 @@ last_part mark e o c [] h = refl
 last_part mark e o c (t ∷ ts) h =
     last_step (o == c && mark e t ts) t ts _ _ _ (last_part mark (Some t) (o + one_if (is_opener t)) (c + one_if (is_closer t)) ts) h
 
--- The parts of a list whose first mark stands at n.
+-- The parts of a list whose first mark is at n.
 abbrev cut_at : Test → ℕ → List Terminal → Terminal → List (List Terminal)
 cut_at mark n ts d = take n ts ∷ split_from mark (Some (get_or ts n d)) 0 0 (drop (suc n) ts)
 

@@ -2,3 +2,4 @@ mod Names
 pub mod Opens
 pub mod Cuts
 pub mod Runs
+mod Heads

@@ -8,7 +8,7 @@ use crate::words::is_of_class;
 use sql_token::{Keyword, Terminal};
 use sql_tree::forms::WordClass;
 
-/// A word of an option that stands right behind neither NO nor a dot.
+/// A word of an option that comes right after neither NO nor a dot.
 #[tactic(auto, unfolding(sql_tree::specs::ActionPieces::sequence_option))]
 pub(crate) fn begins_sequence_option(
     earlier: Option<Terminal>,
@@ -26,7 +26,7 @@ pub(crate) fn begins_sequence_option(
     }
 }
 
-/// SET, or RESTART not right behind SET.
+/// SET, or RESTART not right after SET.
 #[tactic(auto, unfolding(sql_tree::specs::ActionPieces::identity_option))]
 pub(crate) fn begins_identity_option(
     earlier: Option<Terminal>,

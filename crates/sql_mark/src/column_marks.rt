@@ -118,9 +118,9 @@ fn is_bound(earlier: Option<Terminal>, t: Terminal) -> bool
             && (follows(Keyword::SET, earlier) || follows(Keyword::BY, earlier))
 }
 
-#[tactic(auto, unfolding(sql_tree::specs::ColumnMarks::kind_behind_name))]
-fn kind_behind_name(after: &[Terminal]) -> Option<ConKind>
-    ensures { result ≡ spec.kind_behind_name after.now }
+#[tactic(auto, unfolding(sql_tree::specs::ColumnMarks::kind_after_name))]
+fn kind_after_name(after: &[Terminal]) -> Option<ConKind>
+    ensures { result ≡ spec.kind_after_name after.now }
 {
     match after {
         [name, rest @ ..] if name.is_name() => first_kind(rest),
@@ -128,13 +128,13 @@ fn kind_behind_name(after: &[Terminal]) -> Option<ConKind>
     }
 }
 
-/// Whether a constraint of a column begins at `t`, which stands between `earlier` and `after`.
+/// Whether a constraint of a column begins at `t`, which is between `earlier` and `after`.
 #[tactic(auto, unfolding(sql_tree::specs::ColumnMarks::constraint_start))]
 pub(crate) fn begins_constraint(earlier: Option<Terminal>, t: Terminal, after: &[Terminal]) -> bool
     ensures { result ≡ spec.constraint_start earlier t after.now }
 {
     if t.is_keyword(Keyword::CONSTRAINT) {
-        kind_behind_name(after).is_some()
+        kind_after_name(after).is_some()
     } else {
         kind_led(t, after).is_some() && !is_bound(earlier, t)
     }
@@ -158,7 +158,7 @@ pub(crate) fn constraint_head(t: Terminal, after: &[Terminal]) -> usize
     ensures { result ≡ spec.constraint_head t after.now }
 {
     if t.is_keyword(Keyword::CONSTRAINT) {
-        kind_head(kind_behind_name(after)) + 2
+        kind_head(kind_after_name(after)) + 2
     } else {
         kind_head(kind_led(t, after))
     }

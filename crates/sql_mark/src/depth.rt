@@ -1,13 +1,13 @@
-//! What stands at depth 0 of a list of terminals.
+//! What is at depth 0 of a list of terminals.
 
 ghost use Rattle.std.specs.Prelude.{◌≡◌, ◌≤◌, length};
 ghost use Rattle.std.specs.Option.{option_copied};
 ghost use Rattle.sql_token.specs.Depth as spec;
 ghost use Rattle.sql_tree.specs.Split as split;
 
-use sql_token::{Keyword, Span, Symbol, Terminal};
+use sql_token::{Keyword, Symbol, Terminal};
 
-/// Whether the key word stands at depth 0, counted from the start of the list.
+/// Whether the key word is at depth 0, counted from the start of the list.
 #[tactic(auto, unfolding(sql_token::specs::Depth::has_keyword))]
 pub fn has_keyword(word: Keyword, terminals: &[Terminal]) -> bool
     ensures { result ≡ spec.has_keyword word terminals.now }
@@ -30,7 +30,7 @@ pub fn has_keyword(word: Keyword, terminals: &[Terminal]) -> bool
     false
 }
 
-/// How many terminals stand up to where as many closers as openers have come: all of a bracket list that stands first.
+/// How many terminals come up to where as many closers as openers have come: all of a bracket list that comes first.
 pub fn closing(terminals: &[Terminal]) -> usize
     ensures value { result ≡ split.closing 0 0 terminals.now }
     ensures within { result ≤ length terminals.now }
@@ -55,7 +55,7 @@ pub fn closing(terminals: &[Terminal]) -> usize
     count
 }
 
-/// Whether the key word stands first.
+/// Whether the key word comes first.
 pub fn begins_with(word: Keyword, terminals: &[Terminal]) -> bool
     ensures { result ≡ split.begins_with word terminals.now }
 {
@@ -65,7 +65,7 @@ pub fn begins_with(word: Keyword, terminals: &[Terminal]) -> bool
     }
 }
 
-/// Whether these two key words stand first.
+/// Whether these two key words come first.
 pub(crate) fn begins_with_both(word: Keyword, other: Keyword, after: &[Terminal]) -> bool
     ensures { result ≡ split.begins_with_both word other after.now }
 {
@@ -85,27 +85,14 @@ pub fn begins_list(terminals: &[Terminal]) -> bool
     }
 }
 
-/// What follows the bracket list `( .. )` that stands first.
-#[tactic(auto, unfolding(sql_tree::specs::Split::behind_list))]
-pub fn behind_list<'a>(terminals: &'a [Terminal]) -> Option<&'a [Terminal]>
-    ensures { option_copied result ≡ split.behind_list terminals.entry.now }
+/// What follows the bracket list `( .. )` that comes first.
+#[tactic(auto, unfolding(sql_tree::specs::Split::after_list))]
+pub fn after_list<'a>(terminals: &'a [Terminal]) -> Option<&'a [Terminal]>
+    ensures { option_copied result ≡ split.after_list terminals.entry.now }
 {
     if begins_list(terminals) {
         Some(&terminals[closing(terminals)..])
     } else {
         None
-    }
-}
-
-/// From the first token to the last one; tokens 0 to 0 where there is none.
-pub fn span_of(terminals: &[Terminal]) -> Span
-    ensures { result ≡ spec.span_of terminals.now }
-{
-    match terminals {
-        [] => Span { first: 0, last: 0 },
-        [first, ..] => Span {
-            first: first.number,
-            last: terminals[terminals.len() - 1].number,
-        },
     }
 }

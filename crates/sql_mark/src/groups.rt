@@ -1,4 +1,4 @@
-//! Bracket groups and paths that stand first in a list of terminals.
+//! Bracket groups and paths that come first in a list of terminals.
 
 ghost use Rattle.std.specs.Prelude.{◌≡◌, if◌then◌else◌};
 ghost use Rattle.std.specs.Option.{option_map, option_copied};
@@ -17,7 +17,7 @@ pub fn is_list(terminals: &[Terminal]) -> bool
     begins_list(terminals) && closing(terminals) == terminals.len()
 }
 
-/// What stands inside the bracket list that stands first; nothing, where none does.
+/// What is inside the bracket list that comes first; nothing, where none does.
 #[tactic(auto, unfolding(sql_tree::specs::Groups::inside_list))]
 pub fn inside_list(terminals: &[Terminal]) -> &[Terminal]
     ensures { result.now ≡ spec.inside_list terminals.now }
@@ -32,7 +32,7 @@ pub fn inside_list(terminals: &[Terminal]) -> &[Terminal]
     &terminals[1..end - 1]
 }
 
-/// What stands inside the one bracket list that this is; `None` where it is none, or where anything follows it.
+/// What is inside the one bracket list that this is; `None` where it is none, or where anything follows it.
 #[tactic(auto, unfolding(sql_tree::specs::Groups::is_list, sql_tree::specs::Groups::inside_list))]
 pub fn inside_alone<'a>(terminals: &'a [Terminal]) -> Option<&'a [Terminal]>
     ensures { option_copied result ≡ if spec.is_list terminals.entry.now then Some (spec.inside_list terminals.entry.now) else None }
@@ -67,7 +67,7 @@ pub fn is_square(terminals: &[Terminal]) -> bool
     begins_square(terminals) && closing(terminals) == terminals.len()
 }
 
-/// The last name of names alternating with dots behind a name of this number, and what is left behind them.
+/// The last name of names alternating with dots after a name of this number, and what is left after them.
 pub fn names_from<'a>(number: u32, left: &'a [Terminal]) -> (u32, &'a [Terminal])
     ensures { beside result ≡ names_end number left.entry.now }
 {
@@ -83,16 +83,16 @@ pub fn names_from<'a>(number: u32, left: &'a [Terminal]) -> (u32, &'a [Terminal]
     (last, rest)
 }
 
-/// The path that stands first, as many names as there are, and what follows it.
+/// The path that comes first, as many names as there are, and what follows it.
 #[tactic(auto, unfolding(sql_tree::specs::Groups::path_first))]
 pub fn path_first<'a>(terminals: &'a [Terminal]) -> Option<(Span, &'a [Terminal])>
     ensures { option_map path_beside result ≡ spec.path_first terminals.entry.now }
 {
     match terminals {
         [name, rest @ ..] if name.is_name() => {
-            let (last, behind) = names_from(name.number, rest);
+            let (last, after) = names_from(name.number, rest);
             let first = name.number;
-            Some((Span { first, last }, behind))
+            Some((Span { first, last }, after))
         }
         _ => None,
     }

@@ -1,14 +1,15 @@
 //! Lists of terminals, split at marks of depth 0. Depth is counted from the start of the list.
 
-ghost use Rattle.std.specs.Prelude.{◌≡◌, ◌≤◌, length};
+ghost use Rattle.std.specs.Prelude.{◌≡◌, ◌≤◌, length, None};
 ghost use Rattle.std.specs.Option.{option_copied};
+ghost use Rattle.sql_tree.specs.Pieces.{before_after_head};
 ghost use Rattle.sql_tree.specs.Split as spec;
 ghost use Rattle.sql_mark.specs.Marks.{test_of, opens_marks};
 
 use crate::action_marks::{begins_identity_option, begins_policy_part, begins_sequence_option};
 use crate::column_marks::{begins_constraint, is_type_end, is_value_end};
 use crate::depth::{begins_with, begins_with_both};
-use crate::write_marks::{WriteMark, begins_write};
+use crate::write_marks::{WriteMark, begins_write, is_clause_end, is_equals};
 use sql_token::{Keyword, Symbol, Terminal};
 use std::marker::Model;
 
@@ -19,7 +20,7 @@ pub enum Mark {
     Comma,
     /// The adjacent words NOT VALID.
     NotValid,
-    /// The word INTO behind neither the word AS nor a dot.
+    /// The word INTO after neither the word AS nor a dot.
     Into,
     /// SELECT, INSERT, UPDATE, DELETE, MERGE, VALUES or TABLE: what a statement led by WITH does.
     Verb,
@@ -127,7 +128,7 @@ fn begins_on_commit_drop(first: Terminal, after: &[Terminal]) -> bool
     first.is_keyword(Keyword::ON) && begins_with_both(Keyword::COMMIT, Keyword::DROP, after)
 }
 
-/// Whether the mark begins at `first`, which stands between `earlier` and `after`.
+/// Whether the mark begins at `first`, which is between `earlier` and `after`.
 #[inline(never)]
 #[tactic(auto, unfolding(sql_tree::specs::Split::comma, sql_tree::specs::Split::not_valid, sql_tree::specs::Split::into, sql_tree::specs::Split::verb, sql_tree::specs::Split::privileges, sql_tree::specs::Split::word, sql_tree::specs::Split::operator, sql_tree::specs::Split::cast, sql_tree::specs::Split::on_commit_drop, sql_tree::specs::ColumnMarks::type_end, sql_tree::specs::ColumnMarks::value_end))]
 fn begins(mark: Mark, earlier: Option<Terminal>, first: Terminal, after: &[Terminal]) -> bool
@@ -167,12 +168,7 @@ fn opens_marks(symbol: Symbol) -> bool
 /// The same as `begins`, told on the spot for commas, at which most lists are cut, and for symbols that begin no mark.
 #[inline(always)]
 #[tactic(auto, unfolding(sql_tree::specs::Split::comma), using(crate::proofs::Opens::no_mark))]
-pub(crate) fn begins_soon(
-    mark: Mark,
-    earlier: Option<Terminal>,
-    first: Terminal,
-    after: &[Terminal],
-) -> bool
+fn begins_soon(mark: Mark, earlier: Option<Terminal>, first: Terminal, after: &[Terminal]) -> bool
     ensures { result ≡ test_of mark earlier first after.now }
 {
     match mark {
@@ -181,21 +177,31 @@ pub(crate) fn begins_soon(
     }
 }
 
-/// How many terminals stand before the first mark of depth 0, where `earlier` stands before the list.
+// ---- how many terminals come before a mark
+
+/// How many terminals come before the first mark of depth 0 that is none of the first `head` terminals; all, where
+/// there is no such mark. `earlier` comes before the list.
 #[inline(always)]
-fn before_from(mark: Mark, earlier: Option<Terminal>, terminals: &[Terminal]) -> usize
-    ensures value { result ≡ spec.before_from (test_of mark) earlier 0 0 terminals.now }
+pub fn before_after_head(
+    mark: Mark,
+    head: usize,
+    earlier: Option<Terminal>,
+    terminals: &[Terminal],
+) -> usize
+    ensures value { result ≡ before_after_head (test_of mark) head earlier 0 0 terminals.now }
     ensures within { result ≤ length terminals.now }
 {
     let mut left = terminals;
+    let mut skip = head;
     let mut previous = earlier;
     let mut count = 0usize;
     let mut opened = 0usize;
     let mut closed = 0usize;
     while let [first, rest @ ..] = left {
-        if opened == closed && begins_soon(mark, previous, *first, rest) {
+        if skip == 0 && opened == closed && begins_soon(mark, previous, *first, rest) {
             return count;
         }
+        skip = skip.saturating_sub(1);
         if first.is_opener() {
             opened += 1;
         }
@@ -209,28 +215,87 @@ fn before_from(mark: Mark, earlier: Option<Terminal>, terminals: &[Terminal]) ->
     count
 }
 
-/// The same, in a loop of its own for commas, which looks at nothing but the symbols.
+/// How many terminals come before the first mark of depth 0, in a loop of its own for commas, which looks at nothing but
+/// the symbols.
 #[inline(always)]
+#[tactic(auto, using(crate::proofs::Heads::no_head))]
 fn before_next(mark: Mark, earlier: Option<Terminal>, terminals: &[Terminal]) -> usize
     ensures value { result ≡ spec.before_from (test_of mark) earlier 0 0 terminals.now }
     ensures within { result ≤ length terminals.now }
 {
     match mark {
-        Mark::Comma => before_from(Mark::Comma, earlier, terminals),
-        _ => before_from(mark, earlier, terminals),
+        Mark::Comma => before_after_head(Mark::Comma, 0, earlier, terminals),
+        _ => before_after_head(mark, 0, earlier, terminals),
     }
 }
 
-/// How many terminals stand before the first mark of depth 0; all, where there is none.
-#[tactic(auto, unfolding(sql_tree::specs::Split::before))]
+/// How many terminals come before the first `=` of depth 0.
+#[tactic(auto, unfolding(sql_tree::specs::Split::equals), using(crate::proofs::Heads::equals_alone))]
+fn before_equals(terminals: &[Terminal]) -> usize
+    ensures value { result ≡ spec.before_from spec.equals None 0 0 terminals.now }
+    ensures within { result ≤ length terminals.now }
+{
+    let mut left = terminals;
+    let mut count = 0usize;
+    let mut opened = 0usize;
+    let mut closed = 0usize;
+    while let [first, rest @ ..] = left {
+        if opened == closed && is_equals(first.symbol) {
+            return count;
+        }
+        if first.is_opener() {
+            opened += 1;
+        }
+        if first.is_closer() {
+            closed += 1;
+        }
+        count += 1;
+        left = rest;
+    }
+    count
+}
+
+/// How many terminals come before the end of a SET clause, at depth 0.
+#[tactic(auto, unfolding(sql_tree::specs::Split::clause_end), using(crate::proofs::Heads::clause_end_alone))]
+fn before_clause_end(terminals: &[Terminal]) -> usize
+    ensures value { result ≡ spec.before_from spec.clause_end None 0 0 terminals.now }
+    ensures within { result ≤ length terminals.now }
+{
+    let mut left = terminals;
+    let mut count = 0usize;
+    let mut opened = 0usize;
+    let mut closed = 0usize;
+    while let [first, rest @ ..] = left {
+        if opened == closed && is_clause_end(*first) {
+            return count;
+        }
+        if first.is_opener() {
+            opened += 1;
+        }
+        if first.is_closer() {
+            closed += 1;
+        }
+        count += 1;
+        left = rest;
+    }
+    count
+}
+
+/// How many terminals come before the first mark of depth 0; all, where there is none. What SET clauses are cut at has
+/// loops of its own.
+#[tactic(auto, unfolding(sql_tree::specs::Split::before), using(crate::proofs::Heads::no_head))]
 pub fn terminals_before(mark: Mark, terminals: &[Terminal]) -> usize
     ensures value { result ≡ spec.before (test_of mark) terminals.now }
     ensures within { result ≤ length terminals.now }
 {
-    before_from(mark, None, terminals)
+    match mark {
+        Mark::Write(WriteMark::Equals) => before_equals(terminals),
+        Mark::Write(WriteMark::ClauseEnd) => before_clause_end(terminals),
+        _ => before_after_head(mark, 0, None, terminals),
+    }
 }
 
-/// Whether the mark stands at depth 0.
+/// Whether the mark is at depth 0.
 pub fn has_mark(mark: Mark, terminals: &[Terminal]) -> bool
     ensures { result ≡ spec.has (test_of mark) terminals.now }
 {
@@ -245,7 +310,7 @@ pub fn from_mark(mark: Mark, terminals: &[Terminal]) -> &[Terminal]
     &terminals[count..]
 }
 
-/// What stands before the first mark of depth 0.
+/// What comes before the first mark of depth 0.
 pub fn until(mark: Mark, terminals: &[Terminal]) -> &[Terminal]
     ensures { result.now ≡ spec.until (test_of mark) terminals.now }
 {

@@ -7,44 +7,9 @@ ghost use Rattle.sql_tree.specs.Split.{uncons};
 ghost use Rattle.sql_mark.specs.Marks.{test_of, head_of};
 
 use crate::column_marks::constraint_head;
-use crate::parts::{Mark, begins_soon};
+use crate::parts::{Mark, before_after_head};
 use sql_token::Terminal;
 use std::marker::Model;
-
-/// How many terminals stand before the first mark of depth 0 that is none of the first `head` terminals; all, where
-/// there is no such mark. `earlier` stands before the list.
-pub fn before_behind(
-    mark: Mark,
-    head: usize,
-    earlier: Option<Terminal>,
-    terminals: &[Terminal],
-) -> usize
-    ensures value { result ≡ spec.before_behind (test_of mark) head earlier 0 0 terminals.now }
-    ensures within { result ≤ length terminals.now }
-{
-    let mut left = terminals;
-    let mut skip = head;
-    let mut previous = earlier;
-    let mut count = 0usize;
-    let mut opened = 0usize;
-    let mut closed = 0usize;
-    while let [first, rest @ ..] = left {
-        if skip == 0 && opened == closed && begins_soon(mark, previous, *first, rest) {
-            return count;
-        }
-        skip = skip.saturating_sub(1);
-        if first.is_opener() {
-            opened += 1;
-        }
-        if first.is_closer() {
-            closed += 1;
-        }
-        count += 1;
-        previous = Some(*first);
-        left = rest;
-    }
-    count
-}
 
 /// How many terminals of a piece's head follow its first one. No mark is looked for in a head.
 fn head_of(mark: Mark, first: Terminal, after: &[Terminal]) -> usize
@@ -64,7 +29,7 @@ fn piece_len(mark: Mark, terminals: &[Terminal]) -> usize
         [] => 0,
         [first, rest @ ..] => {
             let head = head_of(mark, *first, rest);
-            1 + before_behind(mark, head, Some(*first), rest)
+            1 + before_after_head(mark, head, Some(*first), rest)
         }
     }
 }
@@ -88,12 +53,12 @@ impl<'a> Model for Pieces<'a> {
 }
 
 impl<'a> Pieces<'a> {
-    /// The pieces of a list behind `earlier`. What stands before the first piece is left out.
+    /// The pieces of a list after `earlier`. What comes before the first piece is left out.
     #[tactic(auto, unfolding(sql_tree::specs::Pieces::pieces))]
     pub fn new(mark: Mark, earlier: Option<Terminal>, terminals: &'a [Terminal]) -> Pieces<'a>
         ensures { result ≡ spec.pieces (test_of mark) (head_of mark) earlier terminals.now }
     {
-        let count = before_behind(mark, 0, earlier, terminals);
+        let count = before_after_head(mark, 0, earlier, terminals);
         Pieces {
             mark,
             left: &terminals[count..],

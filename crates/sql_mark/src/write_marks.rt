@@ -26,7 +26,13 @@ pub enum WriteMark {
     TargetListEnd,
 }
 
-fn is_clause_end(t: Terminal) -> bool
+pub(crate) fn is_equals(symbol: Symbol) -> bool
+    ensures { result ≡ spec.is_equals_symbol symbol }
+{
+    matches!(symbol, Symbol::Equals)
+}
+
+pub(crate) fn is_clause_end(t: Terminal) -> bool
     ensures { result ≡ spec.is_clause_end t }
 {
     t.is_keyword(Keyword::FROM) || t.is_keyword(Keyword::WHERE) || t.is_keyword(Keyword::RETURNING)
@@ -69,7 +75,7 @@ pub(crate) fn begins_write(
     ensures { result ≡ write_test mark _earlier first after.now }
 {
     match mark {
-        WriteMark::Equals => matches!(first.symbol, Symbol::Equals),
+        WriteMark::Equals => is_equals(first.symbol),
         WriteMark::DoUpdateSet => {
             first.is_keyword(Keyword::DO) && begins_with_both(Keyword::UPDATE, Keyword::SET, after)
         }

@@ -15,7 +15,7 @@ unfolding cut_to
 cut_to_all zero s h = refl
 cut_to_all (suc n) s h = grind (arith, nat_tests)
 
--- behind n bytes that end on a boundary the cut is all of them
+-- after n bytes that end on a boundary the cut is all of them
 pub cut_to_here : (n : ℕ) (s : List ℕ) → ends_on_boundary s n ≡ true → cut_to n s ≡ take n s
 unfolding cut_to
 cut_to_here zero s h = refl
@@ -39,7 +39,7 @@ test_from_boundary s n b = by_place (cases_lt n (length s)) (cases_lt (get_or s 
     by_place (inl inside) (inl low) = grind (arith, nat_tests)
     by_place (inl inside) (inr high) = let lead : 192 ≤ get_or s n 0 = b.1 inside high in grind (arith, nat_tests)
 
--- what a list has left behind its element at len
+-- what a list has left after its element at len
 pub rest_more : (xs rest : List ℕ) (len b : ℕ) → drop len xs ≡ b ∷ rest → rest ≡ drop (len + 1) xs
 rest_more [] rest zero b e = absurd (cc)
 rest_more [] rest (suc len) b e = absurd (cc)

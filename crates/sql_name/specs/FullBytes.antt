@@ -4,7 +4,7 @@ use Rattle.std.specs.Char.{to_ascii_lowercase}
 use Rattle.sql_name.specs.declared.full_bytes.FullBytes.{FullBytes}
 use Rattle.sql_name.specs.Name.{unquoted}
 
--- the full text that these bytes give, behind the opening `"` or in a word
+-- the full text that these bytes give, after the opening `"` or in a word
 unfoldable pub full_from : Bool → List ℕ → List ℕ
 full_from is_quoted bs = if is_quoted then unquoted bs else map to_ascii_lowercase bs
 

@@ -7,7 +7,7 @@ abbrev pub quote : ℕ
 quote = 34
 
 unfoldable mutual
-  -- what stands behind an opening `"`: `""` is one `"`, and a `"` that is not doubled ends it
+  -- what comes after an opening `"`: `""` is one `"`, and a `"` that is not doubled ends it
   pub unquoted : List ℕ → List ℕ
   unquoted [] = []
   unquoted (c ∷ bs) = if c == quote then after_quote bs else c ∷ unquoted bs

@@ -1,9 +1,6 @@
-//! Reads the front of every form, by the rows of its table.
+//! The parts of a text as spans of its tokens: the elements of a table's list, the constraints of a domain, and the
+//! actions of an ALTER statement.
 #![tactic(auto)]
 
-mod reader;
-mod rows;
-mod tables;
-
-pub use reader::{behind_word, behind_words};
-pub use rows::{nothing_kept, read_anything, read_front, read_whole};
+pub use sql_action::read_actions;
+pub use sql_column::{read_domain, read_elems};

@@ -36,9 +36,9 @@ ErrOrNoMemory (Err (Unterminated at)) e = Unterminated at ≡ e
 ErrOrNoMemory (Err (Syntax at)) e = Syntax at ≡ e
 
 -- these statements, and then those of the reading
-abbrev pub behind : List Stmt → Result (List Stmt) ℕ → Result (List Stmt) ℕ
-behind before (Ok stmts) = Ok (before ++ stmts)
-behind before (Err first) = Err first
+abbrev pub after : List Stmt → Result (List Stmt) ℕ → Result (List Stmt) ℕ
+after before (Ok stmts) = Ok (before ++ stmts)
+after before (Err first) = Err first
 
 -- what the walk over the statements answers
 abbrev pub Reads : Result (List Stmt) ℕ → Result (List Stmt) Stop → Type 0

@@ -6,7 +6,7 @@ use Rattle.sql_tree.specs.declared.nodes.Body.{Body}
 use Rattle.sql_tree.specs.declared.nodes.Body.TheVariants as body
 use Rattle.sql_tree.specs.declared.nodes.Elem.{Elem}
 
--- by what its front kept, whether ON COMMIT DROP stands in its tail, and the elements of its list
+-- by what its front kept, whether ON COMMIT DROP is in its tail, and the elements of its list
 abbrev pub table_of : Captures → Bool → List Elem → Option Body
 table_of c on_commit_drop elems =
     option_and_then (λ word. option_and_then (λ path. Some (body.Table c.temp c.guarded on_commit_drop word path elems)) c.path) c.word

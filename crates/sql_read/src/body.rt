@@ -10,9 +10,11 @@ ghost use Rattle.sql_read.specs.Table.{table_of};
 use sql_action::read_actions_of;
 use sql_column::{drops_on_commit, read_domain_constraints, read_elements};
 use sql_mark::has_keyword;
-use sql_tail::{is_full_vacuum, last_cascade, lock_mode, parameter, read_paths, vacuum_tables};
+use sql_tail::{
+    is_full_vacuum, last_cascade, lock_mode, parameter, read_paths, reindex, vacuum_tables,
+};
 use sql_token::{Keyword, Terminal};
-use sql_tree::forms::{Captures, Shape};
+use sql_tree::forms::{BodyShape, Captures};
 use sql_tree::{Body, Elem, StmtKind};
 use sql_write::{read_table_write, read_targets, read_view_definition};
 use sqlite_items::{Boxed, Items};
@@ -21,44 +23,48 @@ use text_pos::NoMemory;
 
 /// What is kept of the statements of a kind.
 #[inline(always)]
-#[tactic(auto, unfolding(sql_tree::specs::Statement::shape_of))]
-pub(crate) fn shape_of(kind: StmtKind) -> Shape
-    ensures { result ≡ spec.shape_of kind }
+#[tactic(auto, unfolding(sql_tree::specs::Statement::body_shape_of))]
+pub(crate) fn body_shape_of(kind: StmtKind) -> BodyShape
+    ensures { result ≡ spec.body_shape_of kind }
 {
     match kind {
-        StmtKind::Commit | StmtKind::Rollback => Shape::End,
-        StmtKind::CreateTable | StmtKind::CreateForeignTable => Shape::Table,
-        StmtKind::SelectInto => Shape::Into,
-        StmtKind::CreateIndex => Shape::Index,
-        StmtKind::DropIndex | StmtKind::DropTable | StmtKind::DropType => Shape::Drop,
-        StmtKind::Reindex => Shape::Reindex,
-        StmtKind::AlterTable | StmtKind::AlterForeignTable | StmtKind::AlterIndex => Shape::Alter,
-        StmtKind::AlterView | StmtKind::AlterMaterializedView => Shape::Alter,
-        StmtKind::AlterType | StmtKind::AlterDomain | StmtKind::AlterSequence => Shape::Alter,
-        StmtKind::AlterFunction | StmtKind::AlterProcedure | StmtKind::AlterRoutine => Shape::Alter,
-        StmtKind::AlterAggregate | StmtKind::AlterPolicy | StmtKind::AlterTrigger => Shape::Alter,
-        StmtKind::AlterRole | StmtKind::AlterUser | StmtKind::AlterGroup => Shape::Alter,
-        StmtKind::AlterDatabase | StmtKind::AlterSchema | StmtKind::AlterExtension => Shape::Alter,
-        StmtKind::AlterPublication | StmtKind::AlterSystem => Shape::Alter,
-        StmtKind::AlterDefaultPrivileges => Shape::Alter,
-        StmtKind::CreateDomain => Shape::Domain,
-        StmtKind::CreateType | StmtKind::CreateSequence => Shape::Made,
-        StmtKind::CreateView | StmtKind::CreateMaterializedView => Shape::View,
+        StmtKind::Commit | StmtKind::Rollback => BodyShape::End,
+        StmtKind::CreateTable | StmtKind::CreateForeignTable => BodyShape::Table,
+        StmtKind::SelectInto => BodyShape::Into,
+        StmtKind::CreateIndex => BodyShape::Index,
+        StmtKind::DropIndex | StmtKind::DropTable | StmtKind::DropType => BodyShape::Drop,
+        StmtKind::Reindex => BodyShape::Reindex,
+        StmtKind::AlterTable | StmtKind::AlterForeignTable | StmtKind::AlterIndex =>
+            BodyShape::Alter,
+        StmtKind::AlterView | StmtKind::AlterMaterializedView => BodyShape::Alter,
+        StmtKind::AlterType | StmtKind::AlterDomain | StmtKind::AlterSequence => BodyShape::Alter,
+        StmtKind::AlterFunction | StmtKind::AlterProcedure | StmtKind::AlterRoutine =>
+            BodyShape::Alter,
+        StmtKind::AlterAggregate | StmtKind::AlterPolicy | StmtKind::AlterTrigger =>
+            BodyShape::Alter,
+        StmtKind::AlterRole | StmtKind::AlterUser | StmtKind::AlterGroup => BodyShape::Alter,
+        StmtKind::AlterDatabase | StmtKind::AlterSchema | StmtKind::AlterExtension =>
+            BodyShape::Alter,
+        StmtKind::AlterPublication | StmtKind::AlterSystem => BodyShape::Alter,
+        StmtKind::AlterDefaultPrivileges => BodyShape::Alter,
+        StmtKind::CreateDomain => BodyShape::Domain,
+        StmtKind::CreateType | StmtKind::CreateSequence => BodyShape::Made,
+        StmtKind::CreateView | StmtKind::CreateMaterializedView => BodyShape::View,
         StmtKind::CreateFunction | StmtKind::CreateProcedure | StmtKind::CreateAggregate =>
-            Shape::Code,
-        StmtKind::CreateTrigger | StmtKind::CreateRule => Shape::Code,
-        StmtKind::Truncate => Shape::Truncate,
-        StmtKind::Set => Shape::Setting,
-        StmtKind::Lock => Shape::Locking,
-        StmtKind::Refresh => Shape::Refresh,
-        StmtKind::Vacuum => Shape::Vacuum,
-        StmtKind::Cluster => Shape::Cluster,
-        StmtKind::Insert | StmtKind::Update | StmtKind::Merge => Shape::Write,
-        _ => Shape::Kept,
+            BodyShape::Code,
+        StmtKind::CreateTrigger | StmtKind::CreateRule => BodyShape::Code,
+        StmtKind::Truncate => BodyShape::Truncate,
+        StmtKind::Set => BodyShape::Setting,
+        StmtKind::Lock => BodyShape::Locking,
+        StmtKind::Refresh => BodyShape::Refresh,
+        StmtKind::Vacuum => BodyShape::Vacuum,
+        StmtKind::Cluster => BodyShape::Cluster,
+        StmtKind::Insert | StmtKind::Update | StmtKind::Merge => BodyShape::Write,
+        _ => BodyShape::Kept,
     }
 }
 
-/// CREATE TABLE, or CREATE TABLE AS where the word AS stands behind its path.
+/// CREATE TABLE, or CREATE TABLE AS where the word AS comes after its path.
 pub(crate) fn table_kind(left: &[Terminal]) -> StmtKind
     ensures { result ≡ spec.table_kind left.now }
 {
@@ -70,9 +76,9 @@ pub(crate) fn table_kind(left: &[Terminal]) -> StmtKind
 }
 
 /// The kind of a statement, by that of its row and by what its form leaves open.
-#[tactic(auto, unfolding(sql_tree::specs::Statement::kind_of))]
-pub(crate) fn kind_of(kind: StmtKind, kept: &Captures, left: &[Terminal]) -> StmtKind
-    ensures { result ≡ spec.kind_of kind (at kept.now left.now) }
+#[tactic(auto, unfolding(sql_tree::specs::Statement::final_kind))]
+pub(crate) fn final_kind(kind: StmtKind, kept: &Captures, left: &[Terminal]) -> StmtKind
+    ensures { result ≡ spec.final_kind kind (at kept.now left.now) }
 {
     match kind {
         StmtKind::CreateTable => table_kind(left),
@@ -109,7 +115,7 @@ pub(crate) fn index_body(kept: &Captures) -> Option<Body>
 }
 
 /// Of CREATE TYPE and CREATE SEQUENCE.
-pub(crate) fn made_body(kept: &Captures) -> Option<Body>
+fn made_body(kept: &Captures) -> Option<Body>
     ensures { result ≡ spec.made_body kept.now }
 {
     let path = kept.path?;
@@ -120,7 +126,7 @@ pub(crate) fn made_body(kept: &Captures) -> Option<Body>
 }
 
 /// Of CREATE FUNCTION, PROCEDURE, AGGREGATE, TRIGGER and RULE.
-pub(crate) fn code_body(kept: &Captures) -> Body
+fn code_body(kept: &Captures) -> Body
     ensures { result ≡ body.Code kept.now.replace }
 {
     Body::Code {
@@ -129,7 +135,7 @@ pub(crate) fn code_body(kept: &Captures) -> Body
 }
 
 /// Of TRUNCATE.
-pub(crate) fn truncate_body(left: &[Terminal]) -> Body
+fn truncate_body(left: &[Terminal]) -> Body
     ensures { result ≡ body.Truncate (tails.last_cascade left.now) }
 {
     Body::Truncate {
@@ -138,7 +144,7 @@ pub(crate) fn truncate_body(left: &[Terminal]) -> Body
 }
 
 /// Of SET.
-pub(crate) fn setting_body(left: &[Terminal]) -> Body
+fn setting_body(left: &[Terminal]) -> Body
     ensures { result ≡ body.Setting (tails.parameter left.now) }
 {
     Body::Setting {
@@ -147,7 +153,7 @@ pub(crate) fn setting_body(left: &[Terminal]) -> Body
 }
 
 /// Of LOCK.
-pub(crate) fn locking_body(left: &[Terminal]) -> Body
+fn locking_body(left: &[Terminal]) -> Body
     ensures { result ≡ body.Locking (tails.lock_mode left.now) }
 {
     Body::Locking {
@@ -156,7 +162,7 @@ pub(crate) fn locking_body(left: &[Terminal]) -> Body
 }
 
 /// Of REFRESH MATERIALIZED VIEW.
-pub(crate) fn refresh_body(kept: &Captures) -> Body
+fn refresh_body(kept: &Captures) -> Body
     ensures { result ≡ body.Refresh (is_some kept.now.concurrently) }
 {
     Body::Refresh {
@@ -165,7 +171,7 @@ pub(crate) fn refresh_body(kept: &Captures) -> Body
 }
 
 /// Of VACUUM.
-pub(crate) fn vacuum_body(left: &[Terminal]) -> Body
+fn vacuum_body(left: &[Terminal]) -> Body
     ensures { result ≡ spec.vacuum_body left.now }
 {
     Body::Vacuum {
@@ -175,7 +181,7 @@ pub(crate) fn vacuum_body(left: &[Terminal]) -> Body
 }
 
 /// Of CLUSTER.
-pub(crate) fn cluster_body(kept: &Captures) -> Body
+fn cluster_body(kept: &Captures) -> Body
     ensures { result ≡ spec.cluster_body kept.now }
 {
     Body::Cluster {
@@ -186,7 +192,7 @@ pub(crate) fn cluster_body(kept: &Captures) -> Body
 
 // ---- bodies that hold lists
 
-/// A table, by what its front kept, whether ON COMMIT DROP stands in its tail, and the elements of its list.
+/// A table, by what its front kept, whether ON COMMIT DROP is in its tail, and the elements of its list.
 pub(crate) fn table_of(kept: &Captures, on_commit_drop: bool, elems: Items<Elem>) -> Option<Body>
     ensures { result ≡ table_of kept.now on_commit_drop elems }
 {
@@ -215,11 +221,7 @@ pub(crate) fn table_body(
 }
 
 /// Of SELECT INTO: its table, and what its query gives, by what follows the word SELECT.
-pub(crate) fn into_body(
-    alloc: Global,
-    kept: &Captures,
-    query: &[Terminal],
-) -> Result<Option<Body>, NoMemory>
+fn into_body(alloc: Global, kept: &Captures, query: &[Terminal]) -> Result<Option<Body>, NoMemory>
     ensures { IfOk result (λ body. body ≡ spec.into_body kept.now query.now) }
 {
     let Some(path) = kept.path else {
@@ -232,11 +234,7 @@ pub(crate) fn into_body(
 }
 
 /// Of DROP INDEX, DROP TABLE and DROP TYPE: all paths.
-pub(crate) fn drop_body(
-    alloc: Global,
-    kept: &Captures,
-    left: &[Terminal],
-) -> Result<Option<Body>, NoMemory>
+fn drop_body(alloc: Global, kept: &Captures, left: &[Terminal]) -> Result<Option<Body>, NoMemory>
     ensures { IfOk result (λ body. body ≡ spec.drop_body (at kept.now left.now)) }
 {
     let Some(word) = kept.word else {
@@ -254,7 +252,7 @@ pub(crate) fn drop_body(
 }
 
 /// Of ALTER: its path, where its form has one, and its actions. `None` where they are none of its kind.
-pub(crate) fn alter_body(
+fn alter_body(
     alloc: Global,
     kind: StmtKind,
     kept: &Captures,
@@ -272,7 +270,7 @@ pub(crate) fn alter_body(
 }
 
 /// Of CREATE DOMAIN: its constraints. `None` where its tail is no type and constraints.
-pub(crate) fn domain_body(alloc: Global, left: &[Terminal]) -> Result<Option<Body>, NoMemory>
+fn domain_body(alloc: Global, left: &[Terminal]) -> Result<Option<Body>, NoMemory>
     ensures { IfOk result (λ body. body ≡ spec.domain_body left.now) }
 {
     match read_domain_constraints(alloc, left)? {
@@ -282,7 +280,7 @@ pub(crate) fn domain_body(alloc: Global, left: &[Terminal]) -> Result<Option<Bod
 }
 
 /// Of CREATE VIEW and CREATE MATERIALIZED VIEW.
-pub(crate) fn view_body(alloc: Global, kept: &Captures, left: &[Terminal]) -> Result<Body, NoMemory>
+fn view_body(alloc: Global, kept: &Captures, left: &[Terminal]) -> Result<Body, NoMemory>
     ensures { IfOk result (λ body. body ≡ spec.view_body (at kept.now left.now)) }
 {
     let definition = read_view_definition(alloc, kept.replace, left)?;
@@ -290,7 +288,7 @@ pub(crate) fn view_body(alloc: Global, kept: &Captures, left: &[Terminal]) -> Re
 }
 
 /// Of INSERT, UPDATE and MERGE.
-pub(crate) fn write_body(
+fn write_body(
     alloc: Global,
     kind: StmtKind,
     kept: &Captures,
@@ -303,4 +301,41 @@ pub(crate) fn write_body(
     };
     let write = read_table_write(alloc, kind, path, left)?;
     Ok(Some(Body::Write(Boxed::new(alloc, write)?)))
+}
+
+/// What the form of a kind keeps, by what was kept and left of its front, and by `query`, what follows its first word.
+/// `Ok(None)` where the tail is none of its kind.
+#[inline(never)]
+#[tactic(auto, unfolding(sql_tree::specs::Statement::body_by))]
+pub(crate) fn read_body(
+    alloc: Global,
+    shape: BodyShape,
+    kind: StmtKind,
+    query: &[Terminal],
+    kept: &Captures,
+    left: &[Terminal],
+) -> Result<Option<Body>, NoMemory>
+    ensures { IfOk result (λ body. body ≡ spec.body_by shape kind (at kept.now left.now) query.now) }
+{
+    match shape {
+        BodyShape::Kept => Ok(Some(Body::Kept)),
+        BodyShape::End => Ok(Some(end_body(kept))),
+        BodyShape::Table => table_body(alloc, kept, left),
+        BodyShape::Into => into_body(alloc, kept, query),
+        BodyShape::Index => Ok(index_body(kept)),
+        BodyShape::Drop => drop_body(alloc, kept, left),
+        BodyShape::Reindex => Ok(reindex(left)),
+        BodyShape::Alter => alter_body(alloc, kind, kept, left),
+        BodyShape::Domain => domain_body(alloc, left),
+        BodyShape::Made => Ok(made_body(kept)),
+        BodyShape::View => Ok(Some(view_body(alloc, kept, left)?)),
+        BodyShape::Code => Ok(Some(code_body(kept))),
+        BodyShape::Truncate => Ok(Some(truncate_body(left))),
+        BodyShape::Setting => Ok(Some(setting_body(left))),
+        BodyShape::Locking => Ok(Some(locking_body(left))),
+        BodyShape::Refresh => Ok(Some(refresh_body(kept))),
+        BodyShape::Vacuum => Ok(Some(vacuum_body(left))),
+        BodyShape::Cluster => Ok(Some(cluster_body(kept))),
+        BodyShape::Write => write_body(alloc, kind, kept, left),
+    }
 }

@@ -14,7 +14,7 @@ use sqlite_items::Items;
 use std::alloc::{AllocError, Global};
 use text_pos::NoMemory;
 
-/// Why reading stopped: at the statement that begins with this token, or for want of memory.
+/// Why reading stopped: at the statement that begins with this token, or because memory ran out.
 #[derive(Clone, Copy, Debug, PartialEq, Eq)]
 pub enum Stop {
     NoForm { first: u32 },
@@ -113,7 +113,7 @@ pub fn parse<'t>(alloc: Global, text: &'t str) -> Result<Parse<'t>, LintError>
     ensures ok { IfOk result (IsTreeOf text.entry.now) }
     ensures err { IfErr result (IsCause text.entry.now) }
 
-    // Want of memory is the one answer whose coming is left open.
+    // Running out of memory is the one answer whose coming is left open.
     ensures too_long { (result ≡ Err LintError.TooLong) ↔ (2 ^ 32 ≤ length text.entry.now) }
     ensures valid { (tree : Tree) → IsTreeOf text.entry.now tree → OkOrNoMemory result (λ p. p ≡ tree) }
     ensures unterminated { (at : ℕ) → length text.entry.now < 2 ^ 32 → OpenAt text.entry.now at

@@ -4,15 +4,15 @@
 ghost use Rattle.std.specs.Prelude.{◌<◌, ◌^◌, length};
 
 use crate::terminals::terminals_of;
+use sql_form::{nothing_kept, read_front};
 use sql_mark::has_keyword;
-use sql_part::{nothing_kept, read_front};
 use sql_token::{Keyword as K, Span};
 use sql_tree::forms::Captures;
 use std::alloc::Global;
 use std::test::Fail;
 
-/// A first word, what stands behind it, and the form that reads it: the kind, how many tokens the form leaves open, and
-/// what it keeps, by token numbers. What stands behind the word begins with a blank, so that no number is 0.
+/// A first word, what comes after it, and the form that reads it: the kind, how many tokens the form leaves open, and
+/// what it keeps, by token numbers. What comes after the word begins with a blank, so that no number is 0.
 const FRONTS: &[(K, &str, &str)] = &[
     (
         K::BEGIN,
@@ -24,9 +24,13 @@ const FRONTS: &[(K, &str, &str)] = &[
     (K::START, " transaction", "Begin left 0 open"),
     (K::START, " read only", "none"),
     (K::COMMIT, "", "Commit left 0"),
-    (K::COMMIT, " work", "Commit left 0"),
-    (K::COMMIT, " work and chain", "Commit left 0 chain"),
-    (K::COMMIT, " transaction and no chain", "Commit left 0"),
+    (K::COMMIT, " work", "Commit left 0 word 1"),
+    (K::COMMIT, " work and chain", "Commit left 0 word 1 chain"),
+    (
+        K::COMMIT,
+        " transaction and no chain",
+        "Commit left 0 word 1",
+    ),
     (K::COMMIT, " and chain", "Commit left 0 chain"),
     (K::COMMIT, " and no chain", "Commit left 0"),
     (K::COMMIT, " and no", "none"),
@@ -35,7 +39,11 @@ const FRONTS: &[(K, &str, &str)] = &[
     (K::COMMIT, " work transaction", "none"),
     (K::END, " and chain work", "none"),
     (K::END, "", "Commit left 0"),
-    (K::ROLLBACK, " transaction and no chain", "Rollback left 0"),
+    (
+        K::ROLLBACK,
+        " transaction and no chain",
+        "Rollback left 0 word 1",
+    ),
     (K::ROLLBACK, " and chain", "Rollback left 0 chain"),
     (K::ABORT, "", "Rollback left 0"),
     (
@@ -158,7 +166,7 @@ const FRONTS: &[(K, &str, &str)] = &[
     (K::SELECT, " a", "Select left 1 open"),
 ];
 
-/// A text, and whether the word AS stands in it outside all brackets.
+/// A text, and whether the word AS is in it outside all brackets.
 const AS_OUTSIDE: &[(&str, bool)] = &[
     ("a as b", true),
     ("AS", true),
@@ -221,7 +229,7 @@ fn shown(alloc: Global, left: usize, kept: Captures) -> Result<String, Fail> {
     Ok(out)
 }
 
-// The form that reads what stands behind a word, in the form of the rows.
+// The form that reads what comes after a word, in the form of the rows.
 fn front_of(alloc: Global, first: K, text: &str) -> Result<String, Fail>
     requires { length text.now < 2 ^ 32 }
 {

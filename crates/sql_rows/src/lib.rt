@@ -7,6 +7,8 @@ mod fronts;
 #[cfg(test)]
 mod keywords;
 #[cfg(test)]
+mod large;
+#[cfg(test)]
 mod names;
 #[cfg(test)]
 mod paths;

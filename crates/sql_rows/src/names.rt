@@ -44,7 +44,7 @@ const SAME: &[(&str, &str, bool)] = &[
     ("\"é\"", "é", true),
 ];
 
-/// What stands behind 62 letters of two names, and whether both are cut to the same text.
+/// What comes after 62 letters of two names, and whether both are cut to the same text.
 const CUT: &[(&str, &str, bool)] = &[
     ("b", "b", true),
     ("b", "c", false),
@@ -59,7 +59,7 @@ const CUT: &[(&str, &str, bool)] = &[
     ("Bé", "b日", true),
 ];
 
-/// Two names, and how the first one stands to the second one.
+/// Two names, and how the first one is there to the second one.
 const ORDER: &[(&str, &str, Ordering)] = &[
     ("a", "b", Ordering::Less),
     ("B", "a", Ordering::Greater),

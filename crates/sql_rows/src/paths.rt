@@ -7,7 +7,7 @@ use std::alloc::Global;
 use std::cmp::Ordering;
 use std::test::Fail;
 
-/// A text of two statements, and how the path of the first one stands to the path of the second one.
+/// A text of two statements, and how the path of the first one is there to the path of the second one.
 const ROWS: &[(&str, Option<Ordering>)] = &[
     (
         "CREATE TABLE t (); CREATE INDEX ON T (a);",
@@ -62,7 +62,7 @@ fn path_of(s: &Stmt) -> Option<Span> {
     }
 }
 
-// How the paths of two statements stand to each other, where there are two.
+// How the paths of two statements are there to each other, where there are two.
 fn compared(alloc: Global, text: &str) -> Result<Option<Ordering>, Fail> {
     match parse(alloc, text) {
         Ok(p) => match p.tree().stmts.as_slice() {

@@ -7,7 +7,7 @@ use sql_token::Terminal;
 use std::alloc::Global;
 use std::test::Fail;
 
-/// A text, and the numbers of the first and the last token of each statement, each pair with a blank behind it.
+/// A text, and the numbers of the first and the last token of each statement, each pair with a blank after it.
 const SPANS: &[(&str, &str)] = &[
     ("", ""),
     (" -- a\n/* b */ ", ""),
@@ -55,7 +55,7 @@ const SOUND: &[(&str, &str)] = &[
     ("atomic begin", "y"),
 ];
 
-/// How deep brackets stand in each other, and whether the statement is sound.
+/// How deep brackets are in each other, and whether the statement is sound.
 const DEPTHS: &[(usize, &str)] = &[(1, "y"), (127, "y"), (128, "y"), (129, "n"), (200, "n")];
 
 // The statements of a text, by the call that gives them all.
@@ -112,7 +112,7 @@ fn push_times(text: &mut String, piece: &str, times: usize) -> Result<(), Fail> 
     Ok(())
 }
 
-/// A text with round brackets that stand so deep in each other between its front and its back. It serves the tests, so
+/// A text with round brackets that are there so deep in each other between its front and its back. It serves the tests, so
 /// no clause is owed.
 pub fn nested(alloc: Global, front: &str, depth: usize, back: &str) -> Result<String, Fail> {
     let mut text = String::from_str(alloc, front)?;

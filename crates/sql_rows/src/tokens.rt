@@ -7,7 +7,7 @@ use sql_token::TokKind;
 use std::alloc::Global;
 use std::test::Fail;
 
-/// A text and its tokens: a letter for each kind, and the place behind the token in bytes; or `!` and the place of the
+/// A text and its tokens: a letter for each kind, and the place after the token in bytes; or `!` and the place of the
 /// token that never closes.
 const ROWS: &[(&str, &str)] = &[
     ("", ""),

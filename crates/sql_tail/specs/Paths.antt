@@ -5,7 +5,7 @@ use Rattle.sql_token.specs.Terminal.{is_dot, is_name}
 use Rattle.sql_tree.specs.Split.{is_comma_symbol}
 use denote.Bor.{Bor}
 
--- whether a comma stands before it, its number, and what follows
+-- whether a comma comes before it, its number, and what follows
 unfoldable pub next_name : List Terminal → Option (Bool × ℕ × List Terminal)
 next_name [] = None
 next_name (d ∷ []) = None

@@ -3,7 +3,7 @@
 ghost use Rattle.std.specs.Prelude.{◌≡◌, map};
 ghost use Rattle.sql_tree.specs.Tails as spec;
 
-use sql_part::{behind_word, behind_words};
+use sql_form::{after_word, after_words};
 use sql_token::{Keyword, Terminal};
 use sql_tree::LockMode;
 use sql_tree::other_forms::LOCK_MODES;
@@ -20,15 +20,15 @@ fn ends(terminals: &[Terminal]) -> bool
     }
 }
 
-/// Whether these words and MODE stand first, and then nothing or NOWAIT.
+/// Whether these words and MODE come first, and then nothing or NOWAIT.
 #[tactic(auto, unfolding(sql_tree::specs::Tails::is_mode))]
 fn is_mode(words: &[Keyword], terminals: &[Terminal]) -> bool
     ensures { result ≡ spec.is_mode words.now terminals.now }
 {
-    let Some(behind) = behind_words(words, terminals) else {
+    let Some(after) = after_words(words, terminals) else {
         return false;
     };
-    match behind_word(Keyword::MODE, behind) {
+    match after_word(Keyword::MODE, after) {
         Some(rest) => ends(rest),
         None => false,
     }

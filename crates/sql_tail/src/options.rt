@@ -1,4 +1,4 @@
-//! Options in brackets, and words that may stand.
+//! Options in brackets, and words that may be.
 
 ghost use Rattle.std.specs.Prelude.{◌≡◌};
 ghost use Rattle.sql_tree.specs.Tails as spec;
@@ -18,10 +18,10 @@ pub(crate) enum OptionTest {
     Full,
 }
 
-/// What follows the bracket list that may stand first.
-#[tactic(auto, unfolding(sql_tree::specs::Tails::behind_options))]
-pub(crate) fn behind_options(terminals: &[Terminal]) -> &[Terminal]
-    ensures { result.now ≡ spec.behind_options terminals.now }
+/// What follows the bracket list that may come first.
+#[tactic(auto, unfolding(sql_tree::specs::Tails::after_options))]
+pub(crate) fn after_options(terminals: &[Terminal]) -> &[Terminal]
+    ensures { result.now ≡ spec.after_options terminals.now }
 {
     if begins_list(terminals) {
         &terminals[closing(terminals)..]
@@ -30,10 +30,10 @@ pub(crate) fn behind_options(terminals: &[Terminal]) -> &[Terminal]
     }
 }
 
-/// What follows this word, which may stand first.
-#[tactic(auto, unfolding(sql_tree::specs::Tails::behind_flag))]
-pub(crate) fn behind_flag(word: Keyword, terminals: &[Terminal]) -> &[Terminal]
-    ensures { result.now ≡ spec.behind_flag word terminals.now }
+/// What follows this word, which may come first.
+#[tactic(auto, unfolding(sql_tree::specs::Tails::after_flag))]
+pub(crate) fn after_flag(word: Keyword, terminals: &[Terminal]) -> &[Terminal]
+    ensures { result.now ≡ spec.after_flag word terminals.now }
 {
     match terminals {
         [first, rest @ ..] if first.is_keyword(word) => rest,
@@ -72,7 +72,7 @@ fn passes(test: OptionTest, option: &[Terminal]) -> bool
     }
 }
 
-/// Whether one of the options, which stand with commas between them, passes the test.
+/// Whether one of the options, which are there with commas between them, passes the test.
 #[tactic(auto, unfolding(sql_tree::specs::Tails::any_option))]
 pub(crate) fn any_option(test: OptionTest, inside: &[Terminal]) -> bool
     ensures { result ≡ spec.any_option (test_of test) inside.now }

@@ -11,7 +11,7 @@ use sqlite_items::Items;
 use std::alloc::Global;
 use text_pos::NoMemory;
 
-/// The name behind a comma or a dot: whether it is a comma, the number of the name, and what follows.
+/// The name after a comma or a dot: whether it is a comma, the number of the name, and what follows.
 #[tactic(auto, unfolding(crate::specs::Paths::next_name))]
 fn next_name<'a>(terminals: &'a [Terminal]) -> Option<(bool, u32, &'a [Terminal])>
     ensures value { option_map beside result ≡ next_name terminals.entry.now }
@@ -28,7 +28,7 @@ fn next_name<'a>(terminals: &'a [Terminal]) -> Option<(bool, u32, &'a [Terminal]
     }
 }
 
-/// The first path and those that follow it, each behind a comma, as far as they go; `left` is what stands behind the
+/// The first path and those that follow it, each after a comma, as far as they go; `left` is what comes after the
 /// first one.
 #[tactic(auto, using(crate::proofs::NextPaths::name_follows, crate::proofs::NextPaths::none_follows))]
 pub fn read_paths(alloc: Global, path: Span, left: &[Terminal]) -> Result<Items<Span>, NoMemory>

@@ -3,7 +3,7 @@
 ghost use Rattle.std.specs.Prelude.{◌≡◌};
 ghost use Rattle.sql_tree.specs.Tails as spec;
 
-use crate::options::{OptionTest, any_option, behind_flag, behind_options};
+use crate::options::{OptionTest, after_flag, after_options, any_option};
 use crate::paths::whole_path;
 use sql_mark::{begins_with, inside_list};
 use sql_token::{Keyword, Symbol, Terminal};
@@ -40,7 +40,7 @@ fn reindex_object(inside: &[Terminal], terminals: &[Terminal]) -> Option<Body>
         [] => None,
         [word, rest @ ..] => {
             let target = target_symbol(word.symbol)?;
-            let path = whole_path(behind_flag(Keyword::CONCURRENTLY, rest))?;
+            let path = whole_path(after_flag(Keyword::CONCURRENTLY, rest))?;
             Some(Body::Reindex {
                 target,
                 word: word.number,
@@ -59,5 +59,5 @@ fn reindex_object(inside: &[Terminal], terminals: &[Terminal]) -> Option<Body>
 pub fn reindex(terminals: &[Terminal]) -> Option<Body>
     ensures { result ≡ spec.reindex terminals.now }
 {
-    reindex_object(inside_list(terminals), behind_options(terminals))
+    reindex_object(inside_list(terminals), after_options(terminals))
 }

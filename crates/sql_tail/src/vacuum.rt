@@ -3,7 +3,7 @@
 ghost use Rattle.std.specs.Prelude.{◌≡◌};
 ghost use Rattle.sql_tree.specs.Tails as spec;
 
-use crate::options::{OptionTest, any_option, behind_flag, behind_options};
+use crate::options::{OptionTest, after_flag, after_options, any_option};
 use sql_mark::{begins_with, inside_list};
 use sql_token::{Keyword, Span, Terminal};
 
@@ -12,7 +12,7 @@ use sql_token::{Keyword, Span, Terminal};
 pub fn is_full_vacuum(terminals: &[Terminal]) -> bool
     ensures { result ≡ spec.is_full_vacuum terminals.now }
 {
-    begins_with(Keyword::FULL, behind_options(terminals))
+    begins_with(Keyword::FULL, after_options(terminals))
         || any_option(OptionTest::Full, inside_list(terminals))
 }
 
@@ -28,8 +28,8 @@ fn some_span(terminals: &[Terminal]) -> Option<Span>
     }
 }
 
-fn behind_either(word: Keyword, other: Keyword, terminals: &[Terminal]) -> &[Terminal]
-    ensures { result.now ≡ spec.behind_either word other terminals.now }
+fn after_either(word: Keyword, other: Keyword, terminals: &[Terminal]) -> &[Terminal]
+    ensures { result.now ≡ spec.after_either word other terminals.now }
 {
     match terminals {
         [first, rest @ ..] if first.is_keyword(word) || first.is_keyword(other) => rest,
@@ -42,8 +42,8 @@ fn behind_either(word: Keyword, other: Keyword, terminals: &[Terminal]) -> &[Ter
 pub fn vacuum_tables(terminals: &[Terminal]) -> Option<Span>
     ensures { result ≡ spec.vacuum_tables terminals.now }
 {
-    let behind_full = behind_flag(Keyword::FULL, behind_options(terminals));
-    let behind_freeze = behind_flag(Keyword::FREEZE, behind_full);
-    let behind_verbose = behind_flag(Keyword::VERBOSE, behind_freeze);
-    some_span(behind_either(Keyword::ANALYZE, Keyword::ANALYSE, behind_verbose))
+    let after_full = after_flag(Keyword::FULL, after_options(terminals));
+    let after_freeze = after_flag(Keyword::FREEZE, after_full);
+    let after_verbose = after_flag(Keyword::VERBOSE, after_freeze);
+    some_span(after_either(Keyword::ANALYZE, Keyword::ANALYSE, after_verbose))
 }

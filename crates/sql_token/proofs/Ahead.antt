@@ -1,4 +1,4 @@
--- A run stays where another text has the same bytes up to one behind the byte that ends it.
+-- A run stays where another text has the same bytes up to one after the byte that ends it.
 use Rattle.std.proofs.Common.{◌≡◌, ℕ, ◌+◌, ◌-◌, ◌<◌, ◌≤◌, length, get_or, sym, refl, ap, ◌∙◌, arith}
 use Rattle.std.specs.Prelude.{not, ◌==◌, ◌&&◌}
 use Rattle.std.specs.Char.{is_ascii_digit}

@@ -149,7 +149,7 @@ first_ascii_of s z k kind other no_blank =
 
 -- ---- the last byte
 
--- The token's last byte is ASCII, or the byte behind it, or the token is a byte order mark.
+-- The token's last byte is ASCII, or the byte after it, or the token is a byte order mark.
 abbrev EndsWhole : Bool → Text → ℕ → Type 0
 EndsWhole s z n = (get_or z (n - 1) 0 < 128) ⊎ ((n < length z → get_or z n 0 < 128) ⊎ ((n ≡ 3) × ((s && begins_mark z) ≡ true)))
 
@@ -281,13 +281,13 @@ token_end t i j k u here =
     let before = here.before in
     let within = here.within in
     elim (ends_whole (i == 0) k (drop i t) (j - i) here.kind here.takes (omega arith)) [
-      | inl last ↦ behind last
+      | inl last ↦ past last
       | inr (inl next) ↦ ahead next
       | inr (inr (three, mark)) ↦ marked three (start_flag i (begins_mark (drop i t)) mark)
     ]
   where
-    behind : get_or (drop i t) (j - i - 1) 0 < 128 → IsCharBoundary t j
-    behind last =
+    past : get_or (drop i t) (j - i - 1) 0 < 128 → IsCharBoundary t j
+    past last =
         let before = here.before in
         let within = here.within in
         let place : i + (j - i - 1) ≡ j - 1 = omega arith in

@@ -4,3 +4,5 @@ pub mod QuoteLaws
 pub mod Reread
 pub mod Ahead
 pub mod Boundaries
+pub mod Chunks
+pub mod Statements

@@ -1,4 +1,4 @@
--- Behind a change that keeps the rest of the text, the tokens stay.
+-- After a change that keeps the rest of the text, the tokens stay.
 use Rattle.std.proofs.Common.{◌≡◌, ℕ, ◌+◌, ◌-◌, ◌<◌, Bool, false, length, drop, length-drop, sym, ap, ◌∙◌, subst, arith}
 use Rattle.std.proofs.lemmas.Grind.{common_steps}
 use Rattle.std.specs.Prelude.{◌==◌}

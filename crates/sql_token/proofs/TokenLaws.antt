@@ -80,7 +80,7 @@ not_both t ks a p (ls, q, r) =
     let same = (one_way t 0 (length t) a ks ls p (stuck_end t) q r.never).1 in
     absurd (omega arith)
 
--- the texts of tokens and the rest behind them
+-- the texts of tokens and the rest after them
 texts_join : (t : Text) (i j : ℕ) (ks : List Tok) → Leads t i ks j → flat_map (text_of t) ks ++ drop j t ≡ drop i t
 texts_join t i j [] p = ap (λ (x : ℕ). drop x t) (sym p)
 texts_join t i j (k ∷ ks) p =

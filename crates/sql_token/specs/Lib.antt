@@ -1,4 +1,5 @@
 pub mod Boundary
+pub mod Chunks
 pub mod Comment
 pub mod Depth
 pub mod Quote

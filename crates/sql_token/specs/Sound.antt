@@ -3,22 +3,15 @@
 use Rattle.std.specs.Prelude.{ℕ, suc, zero, ◌+◌, ◌==◌, Bool, true, false, not, ◌&&◌, nat_lt, if◌then◌else◌, List, [], ◌∷◌, Option, Some, None}
 use Rattle.sql_keyword.specs.declared.words.TheConstants.Keyword as keyword
 use Rattle.sql_token.specs.declared.terminal.Terminal.{Terminal}
+pub use Rattle.sql_token.specs.Depth.{opened, closed}
 use Rattle.sql_token.specs.Terminal.{is_opener, is_closer, is_round, is_unicode_name, is_keyword}
-
-abbrev pub opened : List Terminal → ℕ
-opened [] = 0
-opened (t ∷ ts) = if is_opener t then suc (opened ts) else opened ts
-
-abbrev pub closed : List Terminal → ℕ
-closed [] = 0
-closed (t ∷ ts) = if is_closer t then suc (closed ts) else closed ts
 
 abbrev pub same : Bool → Bool → Bool
 same true b = b
 same false b = not b
 
--- The terminals before are given from the last to the first. Counting back, this is the opener that the next
--- closer matches, where d openers that are still open are to be passed by first.
+-- The terminals before are given from the last to the first. Counting back, this is the opener that the next closer
+-- matches: the last one that is still open. The next d openers are passed by first, since closers after them match them.
 abbrev pub partner : ℕ → List Terminal → Option Terminal
 partner d [] = None
 partner zero (t ∷ earlier) = if is_opener t then Some t else (if is_closer t then partner 1 earlier else partner zero earlier)
@@ -33,7 +26,7 @@ unfoldable pub begins_atomic : Terminal → List Terminal → Bool
 begins_atomic t [] = false
 begins_atomic t (u ∷ us) = is_keyword keyword.BEGIN t && is_keyword keyword.ATOMIC u
 
--- whether t may stand after the terminals before, and before those after
+-- whether t may come after the terminals before, and before those after
 abbrev pub may_stand : List Terminal → Terminal → List Terminal → Bool
 may_stand earlier t ts =
     if is_unicode_name t then false

@@ -2,7 +2,7 @@
 use Rattle.std.specs.Prelude.{ℕ, ◌+◌, ◌==◌, Bool, true, false, ◌&&◌, if◌then◌else◌, List, [], ◌∷◌, length, slice_index, Option, Some, None}
 use Rattle.sql_keyword.specs.declared.words.Keyword.{Keyword}
 use Rattle.sql_keyword.specs.Same.{same_keyword}
-use Rattle.sql_keyword.specs.Slots.{keyword_of}
+use Rattle.sql_keyword.specs.Find.{keyword_of}
 use Rattle.sql_token.specs.declared.token.Tok.{Tok}
 use Rattle.sql_token.specs.declared.token.TokKind.{TokKind}
 use Rattle.sql_token.specs.declared.token.TokKind.TheVariants as k

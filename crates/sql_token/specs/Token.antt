@@ -34,7 +34,7 @@ begins_mark z = slice_index z 0 == 239 && slice_index z 1 == 187 && slice_index 
 abbrev pub begins_number : Text → Bool
 begins_number z = is_ascii_digit (slice_index z 0) || (slice_index z 0 == 46 && is_ascii_digit (slice_index z 1))
 
--- a byte that a number goes on over whatever stands beside it
+-- a byte that a number goes on over whatever is beside it
 abbrev pub is_in_number : ℕ → Bool
 is_in_number b = is_ascii_alphanumeric b || b == 95 || b == 46
 
@@ -136,7 +136,7 @@ kind_of is_start z =
     else (if is_punct (slice_index z 0) then Punct
     else Other)))))))))))
 
--- where the run of a Blank goes on: behind a byte order mark, which stands at the start of the text alone, or its first byte
+-- where the run of a Blank goes on: after a byte order mark, which is at the start of the text alone, or its first byte
 abbrev pub blank_from : Bool → Text → ℕ
 blank_from is_start z = if is_start && begins_mark z then 3 else 1
 
@@ -156,7 +156,7 @@ Takes is_start Op z n = IsOp z n
 Takes is_start Punct z n = n ≡ 1
 Takes is_start Other z n = n ≡ 1
 
--- a kind whose token begins where its opening mark stands, whether or not it closes
+-- a kind whose token begins where its opening mark is there, whether or not it closes
 abbrev pub is_closing : TokKind → Bool
 is_closing BlockComment = true
 is_closing Str = true
@@ -206,5 +206,5 @@ OneLexed = (t : Text) (ks ls : List Tok) → Lexed t ks → Lexed t ls → ks �
 abbrev pub OneOpen : Type 0
 OneOpen = (t : Text) (a b : ℕ) → OpenAt t a → OpenAt t b → a ≡ b
 
-abbrev pub NotBoth : Type 0
-NotBoth = (t : Text) (ks : List Tok) (at : ℕ) → Lexed t ks → OpenAt t at → ⊥
+abbrev pub NeverLexedAndOpen : Type 0
+NeverLexedAndOpen = (t : Text) (ks : List Tok) (at : ℕ) → Lexed t ks → OpenAt t at → ⊥

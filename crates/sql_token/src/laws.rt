@@ -1,13 +1,13 @@
 //! Laws of the definitions.
 
 ghost use Rattle.sql_token.specs.Boundary.{KeepsCharacters};
-ghost use Rattle.sql_token.specs.Token.{Joins, OneLexed, OneOpen, NotBoth};
+ghost use Rattle.sql_token.specs.Token.{Joins, OneLexed, OneOpen, NeverLexedAndOpen};
 
 /// A text has at most one list of tokens or one place where a token never closes.
 pub fn one_answer()
     ensures lexed { OneLexed }
     ensures open { OneOpen }
-    ensures not_both { NotBoth }
+    ensures not_both { NeverLexedAndOpen }
 {}
 
 /// The texts of its tokens join to the text.

@@ -7,9 +7,11 @@
 #![tactic(auto)]
 
 pub mod laws;
+mod spans;
 mod terminal;
 mod token;
 
+pub use spans::span_of;
 pub use sql_keyword::{Keyword, keyword_of, same_keyword};
 pub use terminal::{Symbol, Terminal};
 pub use token::{Span, Tok, TokKind};

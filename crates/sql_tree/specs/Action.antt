@@ -18,10 +18,10 @@ use Rattle.sql_tree.specs.declared.nodes.Action.{Action}
 use Rattle.sql_tree.specs.declared.nodes.Column.{Column}
 use Rattle.sql_tree.specs.declared.nodes.Constraint.{Constraint}
 use Rattle.sql_tree.specs.declared.nodes.Piece.{Piece}
-use Rattle.sql_tree.specs.Forms.{State, ActionRow, behind_word, either_of, first_whole}
+use Rattle.sql_tree.specs.Forms.{State, ActionRow, after_word, either_of, first_whole}
 use Rattle.sql_tree.specs.Split.{begins_with, comma, split, all_of}
 use Rattle.sql_tree.specs.Column.{column}
-use Rattle.sql_tree.specs.Constraint.{behind_two, table_constraint}
+use Rattle.sql_tree.specs.Constraint.{after_two, table_constraint}
 use Rattle.sql_tree.specs.ActionPieces.{pieces_of, attributes, column_option}
 use Rattle.sql_tree.specs.ActionRows.{first_rows_at, own_rows, general_rows_at}
 
@@ -42,24 +42,24 @@ adding ts constraint = record {
   pieces = [];
 }
 
-abbrev pub adding_behind : List Terminal → List Terminal → Option Action
-adding_behind ts rest = option_and_then (λ constraint. Some (adding ts constraint)) (table_constraint rest)
+abbrev pub adding_after : List Terminal → List Terminal → Option Action
+adding_after ts rest = option_and_then (λ constraint. Some (adding ts constraint)) (table_constraint rest)
 
 -- ADD and a table constraint
 unfoldable pub add_constraint : List Terminal → Option Action
-add_constraint ts = option_and_then (adding_behind ts) (behind_word keyword.ADD ts)
+add_constraint ts = option_and_then (adding_after ts) (after_word keyword.ADD ts)
 
 -- CHECK, NOT NULL or CONSTRAINT
 unfoldable pub begins_domain_constraint : List Terminal → Bool
-begins_domain_constraint ts = begins_with keyword.CHECK ts || begins_with keyword.CONSTRAINT ts || is_some (behind_two keyword.NOT keyword.NULL ts)
+begins_domain_constraint ts = begins_with keyword.CHECK ts || begins_with keyword.CONSTRAINT ts || is_some (after_two keyword.NOT keyword.NULL ts)
 
-abbrev pub behind_add : Option (List Terminal) → Bool
-behind_add None = false
-behind_add (Some rest) = begins_domain_constraint rest
+abbrev pub after_add : Option (List Terminal) → Bool
+after_add None = false
+after_add (Some rest) = begins_domain_constraint rest
 
 -- A domain takes only some constraints.
 unfoldable pub takes_constraint : StmtKind → List Terminal → Bool
-takes_constraint stmt.AlterDomain ts = behind_add (behind_word keyword.ADD ts)
+takes_constraint stmt.AlterDomain ts = after_add (after_word keyword.ADD ts)
 takes_constraint kind ts = true
 
 unfoldable pub added_constraint : StmtKind → List Terminal → Option Action
@@ -108,32 +108,32 @@ by_rows rows ts = option_and_then (λ f. built ts f.0 f.1) (first_whole rows ts)
 
 -- ---- where an action begins
 
-unfoldable pub behind_name : List Terminal → Option (List Terminal)
-behind_name [] = None
-behind_name (t ∷ ts) = if is_name t then Some ts else None
+unfoldable pub after_name : List Terminal → Option (List Terminal)
+after_name [] = None
+after_name (t ∷ ts) = if is_name t then Some ts else None
 
 abbrev pub list_or : Option (List Terminal) → List Terminal → List Terminal
 list_or None other = other
 list_or (Some rest) other = rest
 
--- behind ALTER [COLUMN] name
-unfoldable pub behind_column : List Terminal → Option (List Terminal)
-behind_column ts = option_and_then (λ rest. behind_name (list_or (behind_word keyword.COLUMN rest) rest)) (behind_word keyword.ALTER ts)
+-- after ALTER [COLUMN] name
+unfoldable pub after_column : List Terminal → Option (List Terminal)
+after_column ts = option_and_then (λ rest. after_name (list_or (after_word keyword.COLUMN rest) rest)) (after_word keyword.ALTER ts)
 
-abbrev pub behind_in_database : List Terminal → Option (List Terminal)
-behind_in_database ts = option_and_then behind_name (behind_two keyword.IN keyword.DATABASE ts)
+abbrev pub after_in_database : List Terminal → Option (List Terminal)
+after_in_database ts = option_and_then after_name (after_two keyword.IN keyword.DATABASE ts)
 
--- behind IN DATABASE name, where that stands
-unfoldable pub behind_database : List Terminal → List Terminal
-behind_database ts = list_or (behind_in_database ts) ts
+-- after IN DATABASE name, where that is present
+unfoldable pub after_database : List Terminal → List Terminal
+after_database ts = list_or (after_in_database ts) ts
 
 -- What the rows of a kind of statement read of an action, with which it then begins.
 unfoldable pub own_part : StmtKind → List Terminal → Option (List Terminal)
-own_part stmt.AlterView ts = behind_column ts
-own_part stmt.AlterRole ts = Some (behind_database ts)
-own_part stmt.AlterUser ts = Some (behind_database ts)
-own_part stmt.AlterDatabase ts = Some (behind_database ts)
-own_part stmt.AlterSystem ts = Some (behind_database ts)
+own_part stmt.AlterView ts = after_column ts
+own_part stmt.AlterRole ts = Some (after_database ts)
+own_part stmt.AlterUser ts = Some (after_database ts)
+own_part stmt.AlterDatabase ts = Some (after_database ts)
+own_part stmt.AlterSystem ts = Some (after_database ts)
 own_part kind ts = Some ts
 
 -- ---- actions
@@ -161,10 +161,10 @@ takes_options stmt.AlterUser = true
 takes_options stmt.AlterDatabase = true
 takes_options kind = false
 
--- Options of roles and databases are what has no other form, behind the word WITH where that stands.
+-- Options of roles and databases are what has no other form, after the word WITH where that is present.
 unfoldable pub options : StmtKind → List Terminal → Option Action
 options kind ts =
-    if takes_options kind then by_rows (map (λ r. (r.0, r.1.now)) OPTIONS) (list_or (behind_word keyword.WITH ts) ts) else None
+    if takes_options kind then by_rows (map (λ r. (r.0, r.1.now)) OPTIONS) (list_or (after_word keyword.WITH ts) ts) else None
 
 unfoldable pub unlisted_action : StmtKind → List Terminal → Option Action
 unlisted_action kind ts = either_of (options kind ts) (by_rows (map (λ r. (r.0, r.1.now)) OTHER) ts)
@@ -192,3 +192,12 @@ one_action kind tail = all_of (action kind) (tail ∷ [])
 -- The actions of an ALTER statement of this kind, by what its form leaves open: None where they are none.
 unfoldable pub actions_of : StmtKind → List Terminal → Option (List Action)
 actions_of kind tail = if has_several kind then several_actions kind tail else one_action kind tail
+
+-- The tail of ALTER DEFAULT PRIVILEGES begins with GRANT or REVOKE: what comes before is its front.
+abbrev pub begins_tail : StmtKind → List Terminal → Bool
+begins_tail stmt.AlterDefaultPrivileges ts = begins_with keyword.GRANT ts || begins_with keyword.REVOKE ts
+begins_tail kind ts = true
+
+-- The actions of a tail that is given alone: None also where it is no tail of this kind.
+unfoldable pub actions_alone : StmtKind → List Terminal → Option (List Action)
+actions_alone kind tail = if begins_tail kind tail then actions_of kind tail else None

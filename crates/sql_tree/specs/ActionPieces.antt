@@ -45,7 +45,7 @@ is_word_symbol (s.Keyword w) = true
 is_word_symbol s.Word = true
 is_word_symbol _ = false
 
--- NOT ENFORCED, NOT DEFERRABLE, or INITIALLY with a word behind it
+-- NOT ENFORCED, NOT DEFERRABLE, or INITIALLY with a word after it
 unfoldable pub is_pair : Terminal → Terminal → Bool
 is_pair t u =
     (is_keyword keyword.NOT t && (is_keyword keyword.ENFORCED u || is_keyword keyword.DEFERRABLE u))

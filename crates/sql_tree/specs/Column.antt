@@ -22,7 +22,7 @@ use Rattle.sql_tree.specs.Constraint.{is_exclusion, table_constraint, column_con
 
 -- ---- columns
 
--- the type that stands first
+-- the type that comes first
 abbrev pub type_in : List Terminal → Option ColType
 type_in ts = column_type (take (type_len ts) ts)
 
@@ -73,11 +73,11 @@ element (t ∷ ts) =
 abbrev pub listed : List Terminal → List Elem
 listed inside = map element (split comma inside)
 
--- The elements of the list that stands directly behind a table's path. An empty list has no element.
+-- The elements of the list that comes directly after a table's path. An empty list has no element.
 unfoldable pub elements : List Terminal → List Elem
 elements tail = if is_empty (inside_list tail) then [] else listed (inside_list tail)
 
--- whether ON COMMIT DROP stands behind a table's path
+-- whether ON COMMIT DROP comes after a table's path
 unfoldable pub drops_on_commit : List Terminal → Bool
 drops_on_commit tail = has on_commit_drop tail
 

@@ -89,15 +89,15 @@ is_bound earlier t =
     is_keyword keyword.NULL t && follows keyword.SET earlier
     || is_keyword keyword.DEFAULT t && (follows keyword.SET earlier || follows keyword.BY earlier)
 
--- the kind of a constraint behind its name
-unfoldable pub kind_behind_name : List Terminal → Option ConKind
-kind_behind_name [] = None
-kind_behind_name (t ∷ ts) = if is_name t then first_kind ts else None
+-- the kind of a constraint after its name
+unfoldable pub kind_after_name : List Terminal → Option ConKind
+kind_after_name [] = None
+kind_after_name (t ∷ ts) = if is_name t then first_kind ts else None
 
 -- The word CONSTRAINT begins a constraint where a name and the words of a kind follow it.
 unfoldable pub constraint_start : Option Terminal → Terminal → List Terminal → Bool
 constraint_start earlier t after =
-    if is_keyword keyword.CONSTRAINT t then is_some (kind_behind_name after)
+    if is_keyword keyword.CONSTRAINT t then is_some (kind_after_name after)
     else is_some (kind_led t after) && not (is_bound earlier t)
 
 -- How many terminals of the head follow the first word of a kind. The first token of a default's expression is
@@ -111,4 +111,4 @@ kind_head _ = 0
 -- how many terminals of a constraint's head follow its first one
 unfoldable pub constraint_head : Terminal → List Terminal → ℕ
 constraint_head t after =
-    if is_keyword keyword.CONSTRAINT t then kind_head (kind_behind_name after) + 2 else kind_head (kind_led t after)
+    if is_keyword keyword.CONSTRAINT t then kind_head (kind_after_name after) + 2 else kind_head (kind_led t after)

@@ -19,7 +19,7 @@ use Rattle.sql_tree.specs.Split.{before, has, closing, begins_with, begins_list}
 use Rattle.sql_tree.specs.Groups.{is_empty, is_list, is_open_square_symbol, path_first}
 use Rattle.sql_tree.specs.ColumnMarks.{type_end}
 
--- how many terminals of a column behind its name are its type
+-- how many terminals of a column after its name are its type
 unfoldable pub type_len : List Terminal → ℕ
 type_len ts = before type_end ts
 
@@ -45,16 +45,16 @@ abbrev pub with_arguments : TyKind → ℕ → List Terminal → List Terminal �
 with_arguments kind name ts rest =
     option_and_then (λ args. Some (plain_of kind name (span_of ts) args false)) (arguments rest)
 
--- what follows the word VARYING, where it stands
-unfoldable pub behind_varying : List Terminal → List Terminal
-behind_varying ts = if begins_with keyword.VARYING ts then drop 1 ts else ts
+-- what follows the word VARYING, where it is present
+unfoldable pub after_varying : List Terminal → List Terminal
+after_varying ts = if begins_with keyword.VARYING ts then drop 1 ts else ts
 
 -- CHARACTER or CHAR, which is Varchar with VARYING
 abbrev pub character_kind : List Terminal → TyKind
 character_kind rest = if begins_with keyword.VARYING rest then Varchar else Character
 
 unfoldable pub character_type : List Terminal → List Terminal → Option ColType
-character_type ts rest = with_arguments (character_kind rest) (span_of ts).first ts (behind_varying rest)
+character_type ts rest = with_arguments (character_kind rest) (span_of ts).first ts (after_varying rest)
 
 -- DOUBLE PRECISION
 unfoldable pub double_type : List Terminal → List Terminal → Option ColType
@@ -66,7 +66,7 @@ abbrev pub is_time_zone : List Terminal → Bool
 is_time_zone [] = false
 is_time_zone (t ∷ ts) = is_keyword keyword.TIME t && begins_with keyword.ZONE ts && length ts == 1
 
--- Whether the type is WITH TIME ZONE. None where something else than WITH or WITHOUT TIME ZONE, or nothing, stands.
+-- Whether the type is WITH TIME ZONE. None where something else than WITH or WITHOUT TIME ZONE, or nothing, is there.
 unfoldable pub zone : List Terminal → Option Bool
 zone [] = Some false
 zone (t ∷ ts) =
@@ -90,7 +90,7 @@ unfoldable pub word_type : Keyword → List Terminal → List Terminal → Optio
 word_type (k.Other others.Varchar) ts rest = with_arguments Varchar (span_of ts).first ts rest
 word_type (k.Other others.Character) ts rest = character_type ts rest
 word_type (k.Other others.Char) ts rest = character_type ts rest
-word_type (k.Other others.Bit) ts rest = with_arguments Bit (span_of ts).first ts (behind_varying rest)
+word_type (k.Other others.Bit) ts rest = with_arguments Bit (span_of ts).first ts (after_varying rest)
 word_type (k.Other others.Double) ts rest = double_type ts rest
 word_type (k.Other others.Time) ts rest = time_type Time ts rest
 word_type (k.Other others.Timestamp) ts rest = time_type Timestamp ts rest
@@ -116,11 +116,11 @@ plain_type (t ∷ ts) = either_of (symbol_type t.symbol (t ∷ ts) ts) (path_typ
 unfoldable pub no_group : Option Terminal → Terminal → List Terminal → Bool
 no_group earlier t after = not (is_open_square_symbol t.symbol)
 
--- from where on nothing but bracket groups [ .. ] stands
+-- from where on nothing but bracket groups [ .. ] is there
 unfoldable pub only_groups : Option Terminal → Terminal → List Terminal → Bool
 only_groups earlier t after = not (has no_group (t ∷ after))
 
--- how many terminals stand before the bracket groups [ .. ] that end a list
+-- how many terminals come before the bracket groups [ .. ] that end a list
 unfoldable pub before_groups : List Terminal → ℕ
 before_groups ts = before only_groups ts
 
@@ -135,7 +135,7 @@ array_of ts inner = option_and_then (λ ty. Some (arrayed ts ty)) (plain_type in
 unfoldable pub array_by_groups : List Terminal → Option ColType
 array_by_groups ts = if nat_lt (before_groups ts) (length ts) then array_of ts (take (before_groups ts) ts) else None
 
--- whether the word stands last
+-- whether the word comes last
 unfoldable pub ends_with : Keyword → List Terminal → Bool
 ends_with w ts = begins_with w (drop (length ts - 1) ts)
 

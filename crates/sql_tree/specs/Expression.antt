@@ -16,7 +16,7 @@ use Rattle.sql_tree.specs.Groups.{is_empty, is_list, is_square, inside_list, pat
 
 -- ---- IS NOT NULL
 
--- the terminal that stands n before the end
+-- the terminal that is there n before the end
 abbrev pub from_end : ℕ → List Terminal → Terminal
 from_end n ts = slice_index_or ts (length ts - n) nothing
 
@@ -41,7 +41,7 @@ all_full_of (x ∷ xs) = if is_empty x then false else all_full_of xs
 unfoldable pub all_full : List Terminal → Bool
 all_full ts = all_full_of (split operator ts)
 
--- The mark behind n terminals decides, and it is of what stands before it. Neither side is empty.
+-- The mark after n terminals decides, and it is of what comes before it. Neither side is empty.
 unfoldable pub cast_at : List Terminal → ℕ → Shape
 cast_at ts n =
     if is_keyword keyword.COLLATE (slice_index_or ts n nothing)

@@ -13,8 +13,8 @@ use Rattle.sql_token.specs.declared.terminal.Terminal.{Terminal}
 use Rattle.sql_token.specs.Terminal.{is_keyword, is_name, is_dot}
 use Rattle.sql_tree.specs.declared.kinds.StmtKind.{StmtKind}
 use Rattle.sql_tree.specs.declared.kinds.ActionKind.{ActionKind}
-use Rattle.sql_tree.specs.declared.forms.Mark.{Mark}
-use Rattle.sql_tree.specs.declared.forms.Mark.TheVariants as m
+use Rattle.sql_tree.specs.declared.forms.Fact.{Fact}
+use Rattle.sql_tree.specs.declared.forms.Fact.TheVariants as m
 use Rattle.sql_tree.specs.declared.forms.Phrase.{Phrase}
 use Rattle.sql_tree.specs.declared.forms.Phrase.TheVariants as phrase
 use Rattle.sql_tree.specs.declared.forms.Part.{Part}
@@ -27,7 +27,7 @@ use Rattle.sql_tree.specs.declared.create_forms.TheConstants.{CREATE_RELATION, C
 use Rattle.sql_tree.specs.declared.alter_forms.TheConstants.{ALTER_RELATION, ALTER_CODE, ALTER_DATA_TYPE, ALTER_SERVICE, ALTER_OTHER}
 use Rattle.sql_tree.specs.declared.drop_forms.TheConstants.{DROP_RELATION, DROP_CODE, DROP_DATA_TYPE, DROP_SERVICE, DROP_OTHER}
 use Rattle.sql_tree.specs.declared.other_forms.TheConstants.{START, COMMIT, END, ROLLBACK, ABORT, SELECT, INSERT, UPDATE, MERGE, SET, RESET, PREPARE, COMMENT, IMPORT, SECURITY, REFRESH, CLUSTER}
-use Rattle.sql_tree.specs.Split.{from_mark, into, privileges, behind_list}
+use Rattle.sql_tree.specs.Split.{from_mark, into, privileges, after_list}
 use Rattle.sql_tree.specs.Words.{is_of_class}
 
 -- what is kept so far, and the terminals that are left
@@ -40,7 +40,7 @@ at c ts = record { kept = c; left = ts }
 
 -- ---- steps
 
--- the terminals behind one that passes the test, which is kept
+-- the terminals after one that passes the test, which is kept
 abbrev pub one : (Terminal → Bool) → (Terminal → Captures → Captures) → Captures → List Terminal → Option State
 one test keep c [] = None
 one test keep c (t ∷ ts) = if test t then Some (at (keep t c) ts) else None
@@ -57,7 +57,7 @@ name_kept t c = record c { name = Some t.number }
 abbrev pub concurrently_kept : Terminal → Captures → Captures
 concurrently_kept t c = record c { concurrently = Some t.number }
 
-abbrev pub tell : Mark → Captures → Captures
+abbrev pub tell : Fact → Captures → Captures
 tell m.Nothing c = c
 tell m.Unique c = record c { unique = true }
 tell m.Guarded c = record c { guarded = true }
@@ -79,24 +79,24 @@ words_of phrase.AndNoChain = keyword.AND ∷ keyword.NO ∷ keyword.CHAIN ∷ []
 words_of phrase.OrReplace = keyword.OR ∷ keyword.REPLACE ∷ []
 words_of phrase.SetData = keyword.SET ∷ keyword.DATA ∷ []
 
--- the terminals behind this word
-abbrev pub behind_word : Keyword → List Terminal → Option (List Terminal)
-behind_word w [] = None
-behind_word w (t ∷ ts) = if is_keyword w t then Some ts else None
+-- the terminals after this word
+abbrev pub after_word : Keyword → List Terminal → Option (List Terminal)
+after_word w [] = None
+after_word w (t ∷ ts) = if is_keyword w t then Some ts else None
 
--- the terminals behind these words, which stand one after another
-abbrev pub behind_words : List Keyword → List Terminal → Option (List Terminal)
-behind_words [] ts = Some ts
-behind_words (w ∷ ws) ts = option_and_then (behind_words ws) (behind_word w ts)
+-- the terminals after these words, which come one after another
+abbrev pub after_words : List Keyword → List Terminal → Option (List Terminal)
+after_words [] ts = Some ts
+after_words (w ∷ ws) ts = option_and_then (after_words ws) (after_word w ts)
 
-abbrev pub take_phrase : Phrase → Mark → Captures → List Terminal → Option State
-take_phrase f mark c ts = option_and_then (λ rest. Some (at (tell mark c) rest)) (behind_words (words_of f) ts)
+abbrev pub take_phrase : Phrase → Fact → Captures → List Terminal → Option State
+take_phrase f mark c ts = option_and_then (λ rest. Some (at (tell mark c) rest)) (after_words (words_of f) ts)
 
 abbrev pub either_of : {A : Type 0} → Option A → Option A → Option A
 either_of (Some s) other = Some s
 either_of None other = other
 
--- names alternating with dots behind a name of number n: the last name's number, and what is left
+-- names alternating with dots after a name of number n: the last name's number, and what is left
 abbrev pub names_end : ℕ → List Terminal → ℕ × List Terminal
 names_end n [] = (n, [])
 names_end n (d ∷ []) = (n, d ∷ [])
@@ -145,7 +145,7 @@ is_star_symbol _ = false
 abbrev pub take_star : Captures → List Terminal → State
 take_star c ts = or_here (one (λ t. is_star_symbol t.symbol) nothing_kept c ts) c ts
 
--- what stands behind the INTO of a SELECT
+-- what comes after the INTO of a SELECT
 abbrev pub take_into : Captures → List Terminal → Option State
 take_into c ts = one (is_keyword keyword.INTO) nothing_kept c (from_mark into ts)
 
@@ -155,7 +155,7 @@ is_str_symbol _ = false
 
 -- a bracket list, all of it
 abbrev pub take_list : Captures → List Terminal → Option State
-take_list c ts = option_and_then (λ rest. Some (at c rest)) (behind_list ts)
+take_list c ts = option_and_then (λ rest. Some (at c rest)) (after_list ts)
 
 -- what is left, where it is something
 abbrev pub some_left : Captures → List Terminal → Option State
@@ -170,7 +170,7 @@ take_rest c ts = at (opened c) ts
 
 -- ---- parts and rows
 
--- what a part takes: None where it does not stand
+-- what a part takes: None where it is missing
 unfoldable pub take_part : Part → Captures → List Terminal → Option State
 take_part (p.Word w) c ts = one (is_keyword w) nothing_kept c ts
 take_part (p.AnyOf class) c ts = one (is_of_class class) nothing_kept c ts
@@ -178,7 +178,7 @@ take_part (p.Object w) c ts = one (is_keyword w) word_kept c ts
 take_part (p.MaybeObject w) c ts = Some (or_here (one (is_keyword w) word_kept c ts) c ts)
 take_part (p.Tell mark) c ts = Some (at (tell mark c) ts)
 take_part (p.Flag w mark) c ts = Some (or_here (one (is_keyword w) (λ t c. tell mark c) c ts) c ts)
-take_part (p.Either v w) c ts = Some (or_here (one (λ t. is_keyword v t || is_keyword w t) nothing_kept c ts) c ts)
+take_part (p.Either v w) c ts = Some (or_here (one (λ t. is_keyword v t || is_keyword w t) word_kept c ts) c ts)
 take_part (p.Maybe f mark) c ts = Some (or_here (take_phrase f mark c ts) c ts)
 take_part p.Chain c ts = Some (take_chain c ts)
 take_part p.Concurrently c ts = Some (take_concurrently c ts)
@@ -205,7 +205,7 @@ in_turn (x ∷ xs) c ts = option_and_then (λ s. in_turn xs s.kept s.left) (take
 abbrev pub all_taken : State → Option State
 all_taken s = if s.kept.open_ended || length s.left == 0 then Some s else None
 
--- a kind, its lead words behind the first, and what follows them
+-- a kind, its lead words after the first, and what follows them
 abbrev pub Row : Type 0
 Row = StmtKind × List Part × List Part
 
@@ -233,7 +233,7 @@ fresh = record {
   open_ended = false;
 }
 
--- the first row whose lead words stand
+-- the first row whose lead words match
 abbrev pub first_led : List Row → List Terminal → Option (StmtKind × State)
 first_led [] ts = None
 first_led (r ∷ rs) ts = led_or (in_turn r.1 fresh ts) r (first_led rs ts)
@@ -249,7 +249,7 @@ first_whole (r ∷ rs) ts = either_of (finished r.0 r.1 (at fresh ts)) (first_wh
 
 -- ---- tables of rows
 
--- the family of the object that this word names, or that may stand before it
+-- the family of the object that this word names, or that may come before it
 unfoldable pub family_of : Keyword → Family
 family_of (k.Object objects.Table) = family.Relation
 family_of (k.Other others.Temp) = family.Relation

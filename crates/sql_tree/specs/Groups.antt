@@ -1,4 +1,4 @@
--- Bracket groups and paths that stand first in a list of terminals.
+-- Bracket groups and paths that come first in a list of terminals.
 use Rattle.std.specs.Prelude.{◌-◌, ◌==◌, Bool, true, false, ◌&&◌, if◌then◌else◌, List, [], ◌∷◌, length, take, drop, Option, Some, None}
 use Rattle.sql_token.specs.declared.token.Span.{Span}
 use Rattle.sql_token.specs.declared.terminal.Symbol.{Symbol}
@@ -16,7 +16,7 @@ is_empty (x ∷ xs) = false
 unfoldable pub is_list : List Terminal → Bool
 is_list ts = begins_list ts && closing 0 0 ts == length ts
 
--- What stands inside the bracket list that stands first: nothing where none does.
+-- What is inside the bracket list that comes first: nothing where none does.
 unfoldable pub inside_list : List Terminal → List Terminal
 inside_list ts = if begins_list ts then take (closing 0 0 ts - 2) (drop 1 ts) else []
 
@@ -32,7 +32,7 @@ begins_square (t ∷ ts) = is_open_square_symbol t.symbol
 unfoldable pub is_square : List Terminal → Bool
 is_square ts = begins_square ts && closing 0 0 ts == length ts
 
--- The path that stands first, as many names as there are, and what follows it.
+-- The path that comes first, as many names as there are, and what follows it.
 unfoldable pub path_first : List Terminal → Option (Span × List Terminal)
 path_first [] = None
 path_first (t ∷ ts) =

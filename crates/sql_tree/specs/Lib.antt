@@ -17,3 +17,5 @@ pub mod ColumnType
 pub mod Column
 pub mod Write
 pub mod Tails
+pub mod Nodes
+pub mod Leads

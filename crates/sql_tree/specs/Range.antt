@@ -9,7 +9,7 @@ abbrev pub token_at : List Tok → ℕ → Tok
 token_at toks i = slice_index_or toks i no_token
 
 -- From the start of the first token to the end of the last one. A range runs forward: it is empty where the last token
--- stands before the first one.
+-- comes before the first one.
 abbrev pub span_range_of : List Tok → ℕ → ℕ → Range
 span_range_of toks first last =
     record { start = (token_at toks first).start; end = max (token_at toks first).start (token_at toks last).end }

@@ -11,9 +11,11 @@ use Rattle.sql_token.specs.declared.terminal.Symbol.{Symbol}
 use Rattle.sql_token.specs.declared.terminal.Symbol.TheVariants as s
 use Rattle.sql_token.specs.declared.terminal.Terminal.{Terminal}
 use Rattle.sql_token.specs.Terminal.{is_keyword, is_dot, is_opener, is_closer}
+pub use Rattle.sql_token.specs.Chunks.{chunks_after}
+unfoldable pub use Rattle.sql_token.specs.Chunks.{chunks}
 use Rattle.sql_token.specs.Depth.{one_if, onto}
 
--- Whether a mark begins at a terminal, told by the terminal before it in the list, itself, and those after it.
+-- Whether a mark begins at a terminal, known by the terminal before it in the list, itself, and those after it.
 abbrev pub Test : Type 0
 Test = Option Terminal → Terminal → List Terminal → Bool
 
@@ -39,7 +41,7 @@ abbrev pub is_as_or_dot : Option Terminal → Bool
 is_as_or_dot None = false
 is_as_or_dot (Some t) = is_keyword keyword.AS t || is_dot t
 
--- the word INTO behind neither the word AS nor a dot
+-- the word INTO after neither the word AS nor a dot
 unfoldable pub into : Option Terminal → Terminal → List Terminal → Bool
 into earlier t after = is_keyword keyword.INTO t && not (is_as_or_dot earlier)
 
@@ -170,7 +172,7 @@ target_list_end earlier t after = ends_targets t.symbol
 
 -- ---- depth 0
 
--- How many terminals stand before the first mark of depth 0, all where there is none. Before them stand `earlier`,
+-- How many terminals come before the first mark of depth 0, all where there is none. Before them are there `earlier`,
 -- o openers and c closers.
 abbrev pub before_from : Test → Option Terminal → ℕ → ℕ → List Terminal → ℕ
 before_from mark earlier o c [] = 0
@@ -181,7 +183,7 @@ before_from mark earlier o c (t ∷ ts) =
 unfoldable pub before : Test → List Terminal → ℕ
 before mark ts = before_from mark None 0 0 ts
 
--- whether the mark stands at depth 0
+-- whether the mark is at depth 0
 abbrev pub has : Test → List Terminal → Bool
 has mark ts = nat_lt (before mark ts) (length ts)
 
@@ -201,17 +203,7 @@ split mark ts = split_from mark None 0 0 ts
 
 -- ---- chunks
 
--- the chunks of what follows the first n terminals
-abbrev pub chunks_behind : (List Terminal → ℕ) → ℕ → List Terminal → List (List Terminal)
-chunks_behind len n [] = []
-chunks_behind len zero (t ∷ ts) = take (len (t ∷ ts)) (t ∷ ts) ∷ chunks_behind len (len (t ∷ ts) - 1) ts
-chunks_behind len (suc n) (t ∷ ts) = chunks_behind len n ts
-
--- A list cut into chunks, of which `len` says how many terminals the first has: the others are those of what follows it.
-unfoldable pub chunks : (List Terminal → ℕ) → List Terminal → List (List Terminal)
-chunks len ts = chunks_behind len 0 ts
-
--- where the first has a terminal
+-- Chunks follow one another: the first, where it has a terminal, and those of what follows it.
 abbrev pub ChunksFollow : Type 0
 ChunksFollow =
     (len : List Terminal → ℕ) (t : Terminal) (ts : List Terminal) → 1 ≤ len (t ∷ ts) →
@@ -219,7 +211,7 @@ ChunksFollow =
 
 -- ---- bracket lists
 
--- How many terminals stand up to where as many closers as openers have come, where o openers and c closers stood
+-- How many terminals come up to where as many closers as openers have come, where o openers and c closers stood
 -- earlier.
 abbrev pub closing : ℕ → ℕ → List Terminal → ℕ
 closing o c [] = 0
@@ -235,11 +227,11 @@ abbrev pub begins_list : List Terminal → Bool
 begins_list [] = false
 begins_list (t ∷ ts) = is_open_round_symbol t.symbol
 
--- what follows the bracket list ( .. ) that stands first
-unfoldable pub behind_list : List Terminal → Option (List Terminal)
-behind_list ts = if begins_list ts then Some (drop (closing 0 0 ts) ts) else None
+-- what follows the bracket list ( .. ) that comes first
+unfoldable pub after_list : List Terminal → Option (List Terminal)
+after_list ts = if begins_list ts then Some (drop (closing 0 0 ts) ts) else None
 
--- what stands before the first mark of depth 0
+-- what comes before the first mark of depth 0
 abbrev pub until : Test → List Terminal → List Terminal
 until mark ts = take (before mark ts) ts
 

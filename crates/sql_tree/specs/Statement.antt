@@ -18,8 +18,8 @@ use Rattle.sql_tree.specs.declared.forms.Captures.{Captures}
 use Rattle.sql_tree.specs.declared.nodes.Body.{Body}
 use Rattle.sql_tree.specs.declared.nodes.Body.TheVariants as body
 use Rattle.sql_tree.specs.declared.nodes.Stmt.{Stmt}
-use Rattle.sql_tree.specs.declared.forms.Shape.{Shape}
-use Rattle.sql_tree.specs.declared.forms.Shape.TheVariants as shape
+use Rattle.sql_tree.specs.declared.forms.BodyShape.{BodyShape}
+use Rattle.sql_tree.specs.declared.forms.BodyShape.TheVariants as shape
 use Rattle.sql_tree.specs.Forms.{State, led_by, anything}
 use Rattle.sql_tree.specs.Split.{from_mark, verb}
 use Rattle.sql_tree.specs.Action.{actions_of}
@@ -36,68 +36,68 @@ without_semicolon ts = if is_semicolon (last_of ts) then take (length ts - 1) ts
 
 -- ---- what is known of a statement whose front was read
 
--- CREATE TABLE with the word AS behind its path makes its rows by a query.
+-- CREATE TABLE with the word AS after its path makes its rows by a query.
 abbrev pub table_kind : List Terminal → StmtKind
 table_kind tail = if has_keyword keyword.AS tail then stmt.CreateTableAs else stmt.CreateTable
 
-unfoldable pub kind_of : StmtKind → State → StmtKind
-kind_of stmt.CreateTable s = table_kind s.left
-kind_of kind s = kind
+unfoldable pub final_kind : StmtKind → State → StmtKind
+final_kind stmt.CreateTable s = table_kind s.left
+final_kind kind s = kind
 
-unfoldable pub shape_of : StmtKind → Shape
-shape_of stmt.Commit = shape.End
-shape_of stmt.Rollback = shape.End
-shape_of stmt.CreateTable = shape.Table
-shape_of stmt.CreateForeignTable = shape.Table
-shape_of stmt.SelectInto = shape.Into
-shape_of stmt.CreateIndex = shape.Index
-shape_of stmt.DropIndex = shape.Drop
-shape_of stmt.DropTable = shape.Drop
-shape_of stmt.DropType = shape.Drop
-shape_of stmt.Reindex = shape.Reindex
-shape_of stmt.AlterAggregate = shape.Alter
-shape_of stmt.AlterDatabase = shape.Alter
-shape_of stmt.AlterDefaultPrivileges = shape.Alter
-shape_of stmt.AlterDomain = shape.Alter
-shape_of stmt.AlterExtension = shape.Alter
-shape_of stmt.AlterForeignTable = shape.Alter
-shape_of stmt.AlterFunction = shape.Alter
-shape_of stmt.AlterGroup = shape.Alter
-shape_of stmt.AlterIndex = shape.Alter
-shape_of stmt.AlterMaterializedView = shape.Alter
-shape_of stmt.AlterPolicy = shape.Alter
-shape_of stmt.AlterProcedure = shape.Alter
-shape_of stmt.AlterPublication = shape.Alter
-shape_of stmt.AlterRole = shape.Alter
-shape_of stmt.AlterRoutine = shape.Alter
-shape_of stmt.AlterSchema = shape.Alter
-shape_of stmt.AlterSequence = shape.Alter
-shape_of stmt.AlterSystem = shape.Alter
-shape_of stmt.AlterTable = shape.Alter
-shape_of stmt.AlterTrigger = shape.Alter
-shape_of stmt.AlterType = shape.Alter
-shape_of stmt.AlterUser = shape.Alter
-shape_of stmt.AlterView = shape.Alter
-shape_of stmt.CreateDomain = shape.Domain
-shape_of stmt.CreateType = shape.Made
-shape_of stmt.CreateSequence = shape.Made
-shape_of stmt.CreateView = shape.View
-shape_of stmt.CreateMaterializedView = shape.View
-shape_of stmt.CreateFunction = shape.Code
-shape_of stmt.CreateProcedure = shape.Code
-shape_of stmt.CreateTrigger = shape.Code
-shape_of stmt.CreateRule = shape.Code
-shape_of stmt.CreateAggregate = shape.Code
-shape_of stmt.Truncate = shape.Truncate
-shape_of stmt.Set = shape.Setting
-shape_of stmt.Lock = shape.Locking
-shape_of stmt.Refresh = shape.Refresh
-shape_of stmt.Vacuum = shape.Vacuum
-shape_of stmt.Cluster = shape.Cluster
-shape_of stmt.Insert = shape.Write
-shape_of stmt.Update = shape.Write
-shape_of stmt.Merge = shape.Write
-shape_of _ = shape.Kept
+unfoldable pub body_shape_of : StmtKind → BodyShape
+body_shape_of stmt.Commit = shape.End
+body_shape_of stmt.Rollback = shape.End
+body_shape_of stmt.CreateTable = shape.Table
+body_shape_of stmt.CreateForeignTable = shape.Table
+body_shape_of stmt.SelectInto = shape.Into
+body_shape_of stmt.CreateIndex = shape.Index
+body_shape_of stmt.DropIndex = shape.Drop
+body_shape_of stmt.DropTable = shape.Drop
+body_shape_of stmt.DropType = shape.Drop
+body_shape_of stmt.Reindex = shape.Reindex
+body_shape_of stmt.AlterAggregate = shape.Alter
+body_shape_of stmt.AlterDatabase = shape.Alter
+body_shape_of stmt.AlterDefaultPrivileges = shape.Alter
+body_shape_of stmt.AlterDomain = shape.Alter
+body_shape_of stmt.AlterExtension = shape.Alter
+body_shape_of stmt.AlterForeignTable = shape.Alter
+body_shape_of stmt.AlterFunction = shape.Alter
+body_shape_of stmt.AlterGroup = shape.Alter
+body_shape_of stmt.AlterIndex = shape.Alter
+body_shape_of stmt.AlterMaterializedView = shape.Alter
+body_shape_of stmt.AlterPolicy = shape.Alter
+body_shape_of stmt.AlterProcedure = shape.Alter
+body_shape_of stmt.AlterPublication = shape.Alter
+body_shape_of stmt.AlterRole = shape.Alter
+body_shape_of stmt.AlterRoutine = shape.Alter
+body_shape_of stmt.AlterSchema = shape.Alter
+body_shape_of stmt.AlterSequence = shape.Alter
+body_shape_of stmt.AlterSystem = shape.Alter
+body_shape_of stmt.AlterTable = shape.Alter
+body_shape_of stmt.AlterTrigger = shape.Alter
+body_shape_of stmt.AlterType = shape.Alter
+body_shape_of stmt.AlterUser = shape.Alter
+body_shape_of stmt.AlterView = shape.Alter
+body_shape_of stmt.CreateDomain = shape.Domain
+body_shape_of stmt.CreateType = shape.Made
+body_shape_of stmt.CreateSequence = shape.Made
+body_shape_of stmt.CreateView = shape.View
+body_shape_of stmt.CreateMaterializedView = shape.View
+body_shape_of stmt.CreateFunction = shape.Code
+body_shape_of stmt.CreateProcedure = shape.Code
+body_shape_of stmt.CreateTrigger = shape.Code
+body_shape_of stmt.CreateRule = shape.Code
+body_shape_of stmt.CreateAggregate = shape.Code
+body_shape_of stmt.Truncate = shape.Truncate
+body_shape_of stmt.Set = shape.Setting
+body_shape_of stmt.Lock = shape.Locking
+body_shape_of stmt.Refresh = shape.Refresh
+body_shape_of stmt.Vacuum = shape.Vacuum
+body_shape_of stmt.Cluster = shape.Cluster
+body_shape_of stmt.Insert = shape.Write
+body_shape_of stmt.Update = shape.Write
+body_shape_of stmt.Merge = shape.Write
+body_shape_of _ = shape.Kept
 
 abbrev pub table_body : State → Option Body
 table_body s =
@@ -144,7 +144,7 @@ abbrev pub write_body : StmtKind → State → Option Body
 write_body kind s = option_and_then (λ path. Some (body.Write (table_write kind path s.left))) s.kept.path
 
 -- What the form of a kind keeps, by what follows the first word: None where the tail is none of its kind.
-unfoldable pub body_by : Shape → StmtKind → State → List Terminal → Option Body
+unfoldable pub body_by : BodyShape → StmtKind → State → List Terminal → Option Body
 body_by shape.Kept kind s ts = Some body.Kept
 body_by shape.End kind s ts = Some (end_body s.kept)
 body_by shape.Table kind s ts = table_body s
@@ -165,9 +165,9 @@ body_by shape.Vacuum kind s ts = Some (vacuum_body s.left)
 body_by shape.Cluster kind s ts = Some (cluster_body s.kept)
 body_by shape.Write kind s ts = write_body kind s
 
--- the kind and the body of a statement of which so much was kept and left, of those terminals behind its first word
+-- the kind and the body of a statement of which so much was kept and left, of those terminals after its first word
 unfoldable pub told : List Terminal → StmtKind × State → Option (StmtKind × Body)
-told ts f = option_and_then (λ b. Some (kind_of f.0 f.1, b)) (body_by (shape_of f.0) f.0 f.1 ts)
+told ts f = option_and_then (λ b. Some (final_kind f.0 f.1, b)) (body_by (body_shape_of f.0) f.0 f.1 ts)
 
 -- ---- the first word
 
@@ -257,5 +257,5 @@ abbrev pub OneFault : Type 0
 OneFault = (t : Text) (a b : ℕ) → IsSyntaxAt t a → IsSyntaxAt t b → a ≡ b
 
 -- A text that has a tree has no such statement.
-abbrev pub NotBoth : Type 0
-NotBoth = (a : Tree) (t : Text) (at : ℕ) → a.text ≡ t → IsTree a → IsSyntaxAt t at → ⊥
+abbrev pub NeverTreeAndFault : Type 0
+NeverTreeAndFault = (a : Tree) (t : Text) (at : ℕ) → a.text ≡ t → IsTree a → IsSyntaxAt t at → ⊥

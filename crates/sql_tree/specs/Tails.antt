@@ -1,6 +1,6 @@
 -- What follows the lead words of a statement, where no row can say it (PostgreSQL manual: DROP TABLE, REINDEX, VACUUM,
 -- TRUNCATE, SET, LOCK).
-use Rattle.std.specs.Prelude.{ℕ, ◌-◌, nat_lt, Bool, true, false, ◌&&◌, ◌||◌, if◌then◌else◌, List, [], ◌∷◌, length, map, drop, slice_index_or, Option, Some, None}
+use Rattle.std.specs.Prelude.{ℕ, zero, suc, ◌-◌, nat_lt, Bool, true, false, ◌&&◌, ◌||◌, if◌then◌else◌, List, [], ◌∷◌, length, map, drop, slice_index_or, Option, Some, None}
 use Rattle.std.specs.Option.{option_and_then}
 use Rattle.std.specs.List.{list_any}
 use Rattle.sql_keyword.specs.declared.words.Keyword.{Keyword}
@@ -11,7 +11,7 @@ use Rattle.sql_token.specs.declared.token.Span.{Span}
 use Rattle.sql_token.specs.declared.terminal.Symbol.{Symbol}
 use Rattle.sql_token.specs.declared.terminal.Symbol.TheVariants as s
 use Rattle.sql_token.specs.declared.terminal.Terminal.{Terminal}
-use Rattle.sql_token.specs.Terminal.{is_keyword, is_name, is_dot}
+use Rattle.sql_token.specs.Terminal.{is_keyword}
 use Rattle.sql_token.specs.Depth.{span_of, nothing}
 use Rattle.sql_tree.specs.declared.nodes.Body.{Body}
 use Rattle.sql_tree.specs.declared.nodes.Body.TheVariants as body
@@ -19,7 +19,7 @@ use Rattle.sql_tree.specs.declared.nodes.LockMode.{LockMode}
 use Rattle.sql_tree.specs.declared.nodes.ReindexTarget.{ReindexTarget}
 use Rattle.sql_tree.specs.declared.nodes.ReindexTarget.TheVariants as target
 use Rattle.sql_tree.specs.declared.other_forms.TheConstants.{LOCK_MODES}
-use Rattle.sql_tree.specs.Forms.{behind_word, behind_words, either_of}
+use Rattle.sql_tree.specs.Forms.{names_end, after_word, after_words, either_of}
 use Rattle.sql_tree.specs.Groups.{inside_list, path_first}
 use Rattle.sql_tree.specs.Split.{comma, split, begins_with, begins_list, closing, is_comma_symbol}
 
@@ -28,14 +28,27 @@ from_to first last = record { first = first; last = last }
 
 -- ---- paths
 
--- The paths with commas between them, as far as they go, where the names from `first` to `last` of one were read.
+-- a comma and a path, where they come first, and what follows them
+abbrev pub comma_path : List Terminal → Option (Span × List Terminal)
+comma_path [] = None
+comma_path (t ∷ ts) = if is_comma_symbol t.symbol then path_first ts else None
+
+abbrev pub path_and_more : (List Terminal → List Span) → Option (Span × List Terminal) → List Span
+path_and_more more None = []
+path_and_more more (Some (path, rest)) = path ∷ more rest
+
+-- the paths that follow, each after a comma, as far as they go, and n of them at most
+abbrev pub paths_after : ℕ → List Terminal → List Span
+paths_after zero ts = []
+paths_after (suc n) ts = path_and_more (paths_after n) (comma_path ts)
+
+-- a path from the name `first` on, which ends at the last of its names, and the paths that follow
+abbrev pub path_then : ℕ → ℕ × List Terminal → List Span
+path_then first (last, rest) = from_to first last ∷ paths_after (length rest) rest
+
+-- A path, of which the names from `first` to `last` were read, and then a comma and a path as often as they come.
 abbrev pub paths_from : ℕ → ℕ → List Terminal → List Span
-paths_from first last [] = from_to first last ∷ []
-paths_from first last (d ∷ []) = from_to first last ∷ []
-paths_from first last (d ∷ t ∷ ts) =
-    if is_dot d && is_name t then paths_from first t.number ts
-    else (if is_comma_symbol d.symbol && is_name t then from_to first last ∷ paths_from t.number t.number ts
-    else from_to first last ∷ [])
+paths_from first last ts = path_then first (names_end last ts)
 
 abbrev pub all_read : Span × List Terminal → Option (Option Span)
 all_read (path, []) = Some (Some path)
@@ -48,18 +61,18 @@ whole_path (t ∷ ts) = option_and_then all_read (path_first (t ∷ ts))
 
 -- ---- options in brackets
 
--- what follows the bracket list that stands first, or all where none stands
-unfoldable pub behind_options : List Terminal → List Terminal
-behind_options ts = if begins_list ts then drop (closing 0 0 ts) ts else ts
+-- what follows the bracket list that comes first, or all where there is none
+unfoldable pub after_options : List Terminal → List Terminal
+after_options ts = if begins_list ts then drop (closing 0 0 ts) ts else ts
 
 -- whether one of the options is like this
 unfoldable pub any_option : (List Terminal → Bool) → List Terminal → Bool
 any_option test inside = list_any test (split comma inside)
 
--- the terminals behind this word, where it stands first
-unfoldable pub behind_flag : Keyword → List Terminal → List Terminal
-behind_flag w [] = []
-behind_flag w (t ∷ ts) = if is_keyword w t then ts else t ∷ ts
+-- the terminals after this word, where it comes first
+unfoldable pub after_flag : Keyword → List Terminal → List Terminal
+after_flag w [] = []
+after_flag w (t ∷ ts) = if is_keyword w t then ts else t ∷ ts
 
 -- ---- REINDEX
 
@@ -92,11 +105,11 @@ unfoldable pub reindex_object : List Terminal → List Terminal → Option Body
 reindex_object inside [] = None
 reindex_object inside (t ∷ ts) =
     option_and_then (λ found. option_and_then (λ path.
-    Some (reindex_body inside t ts found path)) (whole_path (behind_flag keyword.CONCURRENTLY ts))) (target_symbol t.symbol)
+    Some (reindex_body inside t ts found path)) (whole_path (after_flag keyword.CONCURRENTLY ts))) (target_symbol t.symbol)
 
 -- [( options )], the word of what is rebuilt, [CONCURRENTLY], [path], and nothing more
 unfoldable pub reindex : List Terminal → Option Body
-reindex ts = reindex_object (inside_list ts) (behind_options ts)
+reindex ts = reindex_object (inside_list ts) (after_options ts)
 
 -- ---- VACUUM
 
@@ -116,20 +129,20 @@ is_full (t ∷ v ∷ []) = is_keyword keyword.FULL t && is_on v
 is_full (t ∷ v ∷ u ∷ ts) = false
 
 unfoldable pub is_full_vacuum : List Terminal → Bool
-is_full_vacuum ts = begins_with keyword.FULL (behind_options ts) || any_option is_full (inside_list ts)
+is_full_vacuum ts = begins_with keyword.FULL (after_options ts) || any_option is_full (inside_list ts)
 
 abbrev pub some_span : List Terminal → Option Span
 some_span [] = None
 some_span (t ∷ ts) = Some (span_of (t ∷ ts))
 
-abbrev pub behind_either : Keyword → Keyword → List Terminal → List Terminal
-behind_either v w [] = []
-behind_either v w (t ∷ ts) = if is_keyword v t || is_keyword w t then ts else t ∷ ts
+abbrev pub after_either : Keyword → Keyword → List Terminal → List Terminal
+after_either v w [] = []
+after_either v w (t ∷ ts) = if is_keyword v t || is_keyword w t then ts else t ∷ ts
 
 -- what follows [( options )] [FULL] [FREEZE] [VERBOSE] [ANALYZE or ANALYSE], where it is something
 unfoldable pub vacuum_tables : List Terminal → Option Span
 vacuum_tables ts =
-    some_span (behind_either keyword.ANALYZE keyword.ANALYSE (behind_flag keyword.VERBOSE (behind_flag keyword.FREEZE (behind_flag keyword.FULL (behind_options ts)))))
+    some_span (after_either keyword.ANALYZE keyword.ANALYSE (after_flag keyword.VERBOSE (after_flag keyword.FREEZE (after_flag keyword.FULL (after_options ts)))))
 
 -- ---- TRUNCATE
 
@@ -172,7 +185,7 @@ does_end (Some rest) = ends rest
 
 -- these words and MODE, and then nothing or NOWAIT
 unfoldable pub is_mode : List Keyword → List Terminal → Bool
-is_mode ws ts = does_end (option_and_then (behind_word keyword.MODE) (behind_words ws ts))
+is_mode ws ts = does_end (option_and_then (after_word keyword.MODE) (after_words ws ts))
 
 abbrev pub mode_by : List (LockMode × List Keyword) → List Terminal → Option LockMode
 mode_by [] ts = None
@@ -181,7 +194,11 @@ mode_by (r ∷ rs) ts = if is_mode r.1 ts then Some r.0 else mode_by rs ts
 unfoldable pub mode_of : List Terminal → Option LockMode
 mode_of ts = mode_by (map (λ r. (r.0, r.1.now)) LOCK_MODES) ts
 
--- the mode between IN and MODE, at the end
+-- what follows the last one of this word
+abbrev pub after_last : Keyword → List Terminal → Option (List Terminal)
+after_last w [] = None
+after_last w (t ∷ ts) = either_of (after_last w ts) (after_word w (t ∷ ts))
+
+-- the mode between the last word IN and MODE, at the end
 abbrev pub lock_mode : List Terminal → Option LockMode
-lock_mode [] = None
-lock_mode (t ∷ ts) = if is_keyword keyword.IN t then either_of (mode_of ts) (lock_mode ts) else lock_mode ts
+lock_mode ts = option_and_then mode_of (after_last keyword.IN ts)

@@ -19,23 +19,23 @@ use Rattle.sql_tree.specs.declared.nodes.SetPart.{SetPart}
 use Rattle.sql_tree.specs.declared.nodes.Target.{Target}
 use Rattle.sql_tree.specs.declared.nodes.TableWrite.{TableWrite}
 use Rattle.sql_tree.specs.declared.nodes.ViewDefinition.{ViewDefinition}
-use Rattle.sql_tree.specs.Forms.{names_end, behind_word, behind_words}
+use Rattle.sql_tree.specs.Forms.{names_end, after_word, after_words}
 use Rattle.sql_tree.specs.Groups.{is_open_square_symbol, is_list, inside_list}
-use Rattle.sql_tree.specs.Split.{Test, comma, word, equals, do_update_set, then_update_set, then_insert, clause_end, merge_clause_end, target_list_end, begins_list, behind_list, has, until, from_mark, split, all_of}
+use Rattle.sql_tree.specs.Split.{Test, comma, word, equals, do_update_set, then_update_set, then_insert, clause_end, merge_clause_end, target_list_end, begins_list, after_list, has, until, from_mark, split, all_of}
 
 -- ---- names with accessors: `.name` and `[..]`
 
-abbrev pub is_behind_dot : Option Terminal → Bool
-is_behind_dot None = false
-is_behind_dot (Some earlier) = is_dot earlier
+abbrev pub is_after_dot : Option Terminal → Bool
+is_after_dot None = false
+is_after_dot (Some earlier) = is_dot earlier
 
 abbrev pub begins_name : List Terminal → Bool
 begins_name [] = false
 begins_name (t ∷ ts) = is_name t
 
--- `[`, a dot with a name behind it, or a name behind a dot
+-- `[`, a dot with a name after it, or a name after a dot
 abbrev pub is_accessor : Option Terminal → Terminal → List Terminal → Bool
-is_accessor earlier t after = is_open_square_symbol t.symbol || (is_dot t && begins_name after) || (is_name t && is_behind_dot earlier)
+is_accessor earlier t after = is_open_square_symbol t.symbol || (is_dot t && begins_name after) || (is_name t && is_after_dot earlier)
 
 -- what is no part of the accessors of a name
 unfoldable pub no_accessor : Option Terminal → Terminal → List Terminal → Bool
@@ -56,7 +56,7 @@ targets_between ts = filter_map target (split comma ts)
 
 -- ---- SET clauses
 
--- what stands before the first `=`: nothing where none stands
+-- what comes before the first `=`: nothing where there is none
 unfoldable pub assigned : List Terminal → List Terminal
 assigned ts = if has equals ts then until equals ts else []
 
@@ -82,11 +82,11 @@ abbrev pub others : {A : Type 0} → List A → List A
 others [] = []
 others (x ∷ xs) = xs
 
--- the clauses behind DO UPDATE SET or THEN UPDATE SET; one also ends where the next begins
+-- the clauses after DO UPDATE SET or THEN UPDATE SET; one also ends where the next begins
 unfoldable pub set_clauses : Test → Test → List Terminal → List (List SetPart)
 set_clauses mark end tail = map (λ part. set_clause end (drop 2 part)) (others (split mark tail))
 
--- the clause of an UPDATE, behind the first word SET
+-- the clause of an UPDATE, after the first word SET
 unfoldable pub update_clause : List Terminal → List (List SetPart)
 update_clause tail = if has (word keyword.SET) tail then set_clause clause_end (drop 1 (from_mark (word keyword.SET) tail)) ∷ [] else []
 
@@ -114,25 +114,25 @@ abbrev pub begins_query : List Terminal → Bool
 begins_query [] = false
 begins_query (t ∷ ts) = is_query_symbol t.symbol
 
--- the columns of the bracket list that stands first, which is no query
+-- the columns of the bracket list that comes first, which is no query
 unfoldable pub column_list : List Terminal → Option (List Target)
 column_list ts =
     if begins_list ts && not (begins_query (inside_list ts)) then Some (targets_between (inside_list ts)) else None
 
-abbrev pub behind_name : List Terminal → List Terminal → List Terminal
-behind_name ts [] = ts
-behind_name ts (t ∷ rest) = if is_name t then rest else ts
+abbrev pub after_name : List Terminal → List Terminal → List Terminal
+after_name ts [] = ts
+after_name ts (t ∷ rest) = if is_name t then rest else ts
 
--- what follows `AS name`, where it stands first
-unfoldable pub behind_alias : List Terminal → List Terminal
-behind_alias [] = []
-behind_alias (t ∷ ts) = if is_keyword keyword.AS t then behind_name (t ∷ ts) ts else t ∷ ts
+-- what follows `AS name`, where it comes first
+unfoldable pub after_alias : List Terminal → List Terminal
+after_alias [] = []
+after_alias (t ∷ ts) = if is_keyword keyword.AS t then after_name (t ∷ ts) ts else t ∷ ts
 
 unfoldable pub insert_lists : List Terminal → List (List Target)
 insert_lists tail = filter_map (λ part. column_list (drop 1 part)) (others (split then_insert tail))
 
 unfoldable pub lists_of : StmtKind → List Terminal → List (List Target)
-lists_of stmt.Insert tail = option_to_list (column_list (behind_alias tail))
+lists_of stmt.Insert tail = option_to_list (column_list (after_alias tail))
 lists_of stmt.Merge tail = insert_lists tail
 lists_of kind tail = []
 
@@ -142,13 +142,13 @@ table_write kind path tail = record { path = path; sets = sets_of kind tail; lis
 
 -- ---- targets of queries
 
-abbrev pub name_behind_as : List Terminal → Option ℕ
-name_behind_as (a ∷ t ∷ []) = if is_keyword keyword.AS a && is_name t then Some t.number else None
-name_behind_as _ = None
+abbrev pub name_after_as : List Terminal → Option ℕ
+name_after_as (a ∷ t ∷ []) = if is_keyword keyword.AS a && is_name t then Some t.number else None
+name_after_as _ = None
 
 -- the name of a closing `AS name`
 unfoldable pub alias_name : List Terminal → Option ℕ
-alias_name ts = name_behind_as (drop (length ts - 2) ts)
+alias_name ts = name_after_as (drop (length ts - 2) ts)
 
 abbrev pub last_name : ℕ × List Terminal → Option ℕ
 last_name p = if length p.1 == 0 then Some p.0 else None
@@ -169,17 +169,17 @@ abbrev pub left_or : List Terminal → Option (List Terminal) → List Terminal
 left_or ts (Some rest) = rest
 left_or ts None = ts
 
--- what follows ALL, DISTINCT or DISTINCT ON ( .. ), where one of them stands first
-unfoldable pub behind_distinct : List Terminal → List Terminal
-behind_distinct [] = []
-behind_distinct (t ∷ ts) =
+-- what follows ALL, DISTINCT or DISTINCT ON ( .. ), where one of them comes first
+unfoldable pub after_distinct : List Terminal → List Terminal
+after_distinct [] = []
+after_distinct (t ∷ ts) =
     if is_keyword keyword.ALL t then ts
-    else (if is_keyword keyword.DISTINCT t then left_or ts (option_and_then behind_list (behind_word keyword.ON ts))
+    else (if is_keyword keyword.DISTINCT t then left_or ts (option_and_then after_list (after_word keyword.ON ts))
     else t ∷ ts)
 
 -- The targets of a query that have a name, by what follows its word SELECT.
 unfoldable pub targets : List Terminal → List Target
-targets ts = filter_map query_target (split comma (until target_list_end (behind_distinct ts)))
+targets ts = filter_map query_target (split comma (until target_list_end (after_distinct ts)))
 
 -- ---- views
 
@@ -187,7 +187,7 @@ unfoldable pub column_name : List Terminal → Option Target
 column_name (t ∷ []) = if is_name t then Some (target_named t.number false) else None
 column_name _ = None
 
--- the names of the bracket list that stands first, where it holds nothing but names
+-- the names of the bracket list that comes first, where it holds nothing but names
 unfoldable pub view_columns : List Terminal → Option (List Target)
 view_columns tail = if begins_list tail then all_of column_name (split comma (inside_list tail)) else None
 
@@ -195,9 +195,9 @@ abbrev pub targets_of_select : Option (List Terminal) → List Target
 targets_of_select None = []
 targets_of_select (Some ts) = targets ts
 
--- the targets of the query behind the first AS, where it begins with SELECT
+-- the targets of the query after the first AS, where it begins with SELECT
 unfoldable pub view_targets : List Terminal → List Target
-view_targets ts = targets_of_select (behind_words (keyword.AS ∷ keyword.SELECT ∷ []) (from_mark (word keyword.AS) ts))
+view_targets ts = targets_of_select (after_words (keyword.AS ∷ keyword.SELECT ∷ []) (from_mark (word keyword.AS) ts))
 
 abbrev pub named_or : {A : Type 0} → List A → Option (List A) → List A
 named_or other None = other

@@ -10,7 +10,7 @@ use crate::forms::Part::{
     self, AnyName, AnyOf, Either, Flag, List, Maybe, MaybeObject, Name, Object, Path, Rest, Str,
     Tail, Word,
 };
-use crate::forms::{Mark, Phrase, WordClass};
+use crate::forms::{Fact, Phrase, WordClass};
 use crate::kinds::{ActionKind as A, PieceKind as P};
 use sql_token::Keyword as K;
 
@@ -22,7 +22,7 @@ pub type PieceRows = &'static [(P, &'static [Part])];
 pub enum PieceList {
     /// Of ALTER CONSTRAINT.
     ConstraintOptions,
-    /// Of an identity column, behind ALTER COLUMN.
+    /// Of an identity column, after ALTER COLUMN.
     IdentityOptions,
     /// Of ALTER SEQUENCE.
     SequenceOptions,
@@ -61,17 +61,17 @@ pub const TYPE: [(A, &[Part]); 4] = [
         &[
             Word(K::ADD),
             Object(K::VALUE),
-            Maybe(Phrase::IfNotExists, Mark::Guarded),
+            Maybe(Phrase::IfNotExists, Fact::Guarded),
             Str,
-            Flag(K::BEFORE, Mark::Placed),
-            Flag(K::AFTER, Mark::Placed),
+            Flag(K::BEFORE, Fact::Placed),
+            Flag(K::AFTER, Fact::Placed),
             Rest,
         ],
     ),
     (A::Attributes, &[Tail]),
 ];
 
-/// ALTER DOMAIN, and ALTER VIEW behind the name of a column.
+/// ALTER DOMAIN, and ALTER VIEW after the name of a column.
 pub const DOMAIN: [(A, &[Part]); 4] = [
     (A::SetDefault, &[Word(K::SET), Word(K::DEFAULT), Rest]),
     (A::DropDefault, &[Word(K::DROP), Word(K::DEFAULT)]),
@@ -124,7 +124,7 @@ pub const ADD: [(A, &[Part]); 1] = [(
     &[
         Word(K::ADD),
         MaybeObject(K::COLUMN),
-        Maybe(Phrase::IfNotExists, Mark::Guarded),
+        Maybe(Phrase::IfNotExists, Fact::Guarded),
         Tail,
     ],
 )];
@@ -136,7 +136,7 @@ pub const DROP: [(A, &[Part]); 2] = [
         &[
             Word(K::DROP),
             Object(K::CONSTRAINT),
-            Maybe(Phrase::IfExists, Mark::Guarded),
+            Maybe(Phrase::IfExists, Fact::Guarded),
             Name,
             Rest,
         ],
@@ -146,7 +146,7 @@ pub const DROP: [(A, &[Part]); 2] = [
         &[
             Word(K::DROP),
             MaybeObject(K::COLUMN),
-            Maybe(Phrase::IfExists, Mark::Guarded),
+            Maybe(Phrase::IfExists, Fact::Guarded),
             Name,
             Rest,
         ],
@@ -183,7 +183,7 @@ pub const VALIDATE: [(A, &[Part]); 1] = [(
     &[Word(K::VALIDATE), Object(K::CONSTRAINT), Path],
 )];
 
-/// DETACH. Where no word follows the path, it is the end of the action.
+/// DETACH. What may follow the path is one of two words, and its number is kept.
 pub const DETACH: [(A, &[Part]); 1] = [(
     A::DetachPartition,
     &[
@@ -292,7 +292,7 @@ pub const CLUSTER: [(A, &[Part]); 1] = [(A::ClusterOn, &[Word(K::CLUSTER), Word(
 
 // ---- read after all others
 
-/// What is left of ALTER ROLE, USER and DATABASE, behind the word WITH where it stands.
+/// What is left of ALTER ROLE, USER and DATABASE, after the word WITH where it is present.
 pub const OPTIONS: [(A, &[Part]); 1] = [(A::Options, &[Tail])];
 
 /// Anything.
@@ -311,7 +311,7 @@ pub const COLUMN_OPTION: [(P, &[Part]); 12] = [
     (P::DropDefault, &[Word(K::DROP), Word(K::DEFAULT)]),
     (
         P::SetType,
-        &[Maybe(Phrase::SetData, Mark::Nothing), Word(K::TYPE), Rest],
+        &[Maybe(Phrase::SetData, Fact::Nothing), Word(K::TYPE), Rest],
     ),
     (P::SetStatistics, &[Word(K::SET), Word(K::STATISTICS), Rest]),
     (P::SetOptions, &[Word(K::SET), List]),

@@ -3,7 +3,7 @@
 use crate::forms::Part::{
     self, Flag, Maybe, MaybeList, Name, Path, Privileges, Rest, Star, Tail, Word,
 };
-use crate::forms::{Mark, Phrase};
+use crate::forms::{Fact, Phrase};
 use crate::kinds::StmtKind::{
     self, AlterAggregate, AlterCollation, AlterConversion, AlterDatabase, AlterDefaultPrivileges,
     AlterDomain, AlterEventTrigger, AlterExtension, AlterForeignDataWrapper, AlterForeignTable,
@@ -23,8 +23,8 @@ pub const ALTER_RELATION: [(StmtKind, &[Part], &[Part]); 8] = [
         AlterTable,
         &[Word(K::TABLE)],
         &[
-            Maybe(Phrase::IfExists, Mark::Guarded),
-            Flag(K::ONLY, Mark::Nothing),
+            Maybe(Phrase::IfExists, Fact::Guarded),
+            Flag(K::ONLY, Fact::Nothing),
             Path,
             Star,
             Tail,
@@ -33,24 +33,24 @@ pub const ALTER_RELATION: [(StmtKind, &[Part], &[Part]); 8] = [
     (
         AlterIndex,
         &[Word(K::INDEX)],
-        &[Maybe(Phrase::IfExists, Mark::Guarded), Path, Tail],
+        &[Maybe(Phrase::IfExists, Fact::Guarded), Path, Tail],
     ),
     (
         AlterView,
         &[Word(K::VIEW)],
-        &[Maybe(Phrase::IfExists, Mark::Guarded), Path, Tail],
+        &[Maybe(Phrase::IfExists, Fact::Guarded), Path, Tail],
     ),
     (
         AlterSequence,
         &[Word(K::SEQUENCE)],
-        &[Maybe(Phrase::IfExists, Mark::Guarded), Path, Tail],
+        &[Maybe(Phrase::IfExists, Fact::Guarded), Path, Tail],
     ),
     (
         AlterMaterializedView,
         &[Word(K::MATERIALIZED), Word(K::VIEW)],
         &[
-            Maybe(Phrase::IfExists, Mark::Guarded),
-            Flag(K::ONLY, Mark::Nothing),
+            Maybe(Phrase::IfExists, Fact::Guarded),
+            Flag(K::ONLY, Fact::Nothing),
             Path,
             Star,
             Tail,
@@ -60,8 +60,8 @@ pub const ALTER_RELATION: [(StmtKind, &[Part], &[Part]); 8] = [
         AlterForeignTable,
         &[Word(K::FOREIGN), Word(K::TABLE)],
         &[
-            Maybe(Phrase::IfExists, Mark::Guarded),
-            Flag(K::ONLY, Mark::Nothing),
+            Maybe(Phrase::IfExists, Fact::Guarded),
+            Flag(K::ONLY, Fact::Nothing),
             Path,
             Star,
             Tail,
@@ -115,7 +115,7 @@ pub const ALTER_CODE: [(StmtKind, &[Part], &[Part]); 9] = [
     ),
     (
         AlterLanguage,
-        &[Flag(K::PROCEDURAL, Mark::Nothing), Word(K::LANGUAGE)],
+        &[Flag(K::PROCEDURAL, Fact::Nothing), Word(K::LANGUAGE)],
         &[Rest],
     ),
 ];
@@ -125,12 +125,12 @@ pub const ALTER_DATA_TYPE: [(StmtKind, &[Part], &[Part]); 6] = [
     (
         AlterType,
         &[Word(K::TYPE)],
-        &[Maybe(Phrase::IfExists, Mark::Guarded), Path, Tail],
+        &[Maybe(Phrase::IfExists, Fact::Guarded), Path, Tail],
     ),
     (
         AlterDomain,
         &[Word(K::DOMAIN)],
-        &[Maybe(Phrase::IfExists, Mark::Guarded), Path, Tail],
+        &[Maybe(Phrase::IfExists, Fact::Guarded), Path, Tail],
     ),
     (AlterCollation, &[Word(K::COLLATION)], &[Rest]),
     (

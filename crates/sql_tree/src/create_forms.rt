@@ -3,7 +3,7 @@
 use crate::forms::Part::{
     self, Concurrently, Flag, IndexName, Maybe, Mods, Object, Path, Rest, Tail, Word,
 };
-use crate::forms::{Mark, Phrase};
+use crate::forms::{Fact, Phrase};
 use crate::kinds::StmtKind::{
     self, CreateAccessMethod, CreateAggregate, CreateCast, CreateCollation, CreateConversion,
     CreateDatabase, CreateDomain, CreateEventTrigger, CreateExtension, CreateForeignDataWrapper,
@@ -22,39 +22,39 @@ pub const CREATE_RELATION: [(StmtKind, &[Part], &[Part]); 8] = [
     (
         CreateTable,
         &[Mods, Object(K::TABLE)],
-        &[Maybe(Phrase::IfNotExists, Mark::Guarded), Path, Rest],
+        &[Maybe(Phrase::IfNotExists, Fact::Guarded), Path, Rest],
     ),
     (
         CreateIndex,
-        &[Flag(K::UNIQUE, Mark::Unique), Object(K::INDEX)],
+        &[Flag(K::UNIQUE, Fact::Unique), Object(K::INDEX)],
         &[
             Concurrently,
             IndexName,
             Word(K::ON),
-            Flag(K::ONLY, Mark::Nothing),
+            Flag(K::ONLY, Fact::Nothing),
             Path,
             Rest,
         ],
     ),
     (
         CreateView,
-        &[Mods, Flag(K::RECURSIVE, Mark::Nothing), Word(K::VIEW)],
+        &[Mods, Flag(K::RECURSIVE, Fact::Nothing), Word(K::VIEW)],
         &[Path, Rest],
     ),
     (
         CreateSequence,
         &[Mods, Word(K::SEQUENCE)],
-        &[Maybe(Phrase::IfNotExists, Mark::Guarded), Path, Rest],
+        &[Maybe(Phrase::IfNotExists, Fact::Guarded), Path, Rest],
     ),
     (
         CreateMaterializedView,
         &[Word(K::MATERIALIZED), Word(K::VIEW)],
-        &[Maybe(Phrase::IfNotExists, Mark::Guarded), Path, Rest],
+        &[Maybe(Phrase::IfNotExists, Fact::Guarded), Path, Rest],
     ),
     (
         CreateForeignTable,
         &[Word(K::FOREIGN), Object(K::TABLE)],
-        &[Maybe(Phrase::IfNotExists, Mark::Guarded), Path, Rest],
+        &[Maybe(Phrase::IfNotExists, Fact::Guarded), Path, Rest],
     ),
     (
         CreateForeignDataWrapper,
@@ -68,19 +68,19 @@ pub const CREATE_RELATION: [(StmtKind, &[Part], &[Part]); 8] = [
     ),
 ];
 
-/// Functions, triggers, rules, policies, languages, and views behind OR REPLACE.
+/// Functions, triggers, rules, policies, languages, and views after OR REPLACE.
 pub const CREATE_CODE: [(StmtKind, &[Part], &[Part]); 10] = [
     (
         CreateFunction,
-        &[Maybe(Phrase::OrReplace, Mark::Replace), Word(K::FUNCTION)],
+        &[Maybe(Phrase::OrReplace, Fact::Replace), Word(K::FUNCTION)],
         &[Rest],
     ),
     (
         CreateView,
         &[
-            Maybe(Phrase::OrReplace, Mark::Replace),
+            Maybe(Phrase::OrReplace, Fact::Replace),
             Mods,
-            Flag(K::RECURSIVE, Mark::Nothing),
+            Flag(K::RECURSIVE, Fact::Nothing),
             Word(K::VIEW),
         ],
         &[Path, Rest],
@@ -88,26 +88,26 @@ pub const CREATE_CODE: [(StmtKind, &[Part], &[Part]); 10] = [
     (
         CreateTrigger,
         &[
-            Maybe(Phrase::OrReplace, Mark::Replace),
-            Flag(K::CONSTRAINT, Mark::Nothing),
+            Maybe(Phrase::OrReplace, Fact::Replace),
+            Flag(K::CONSTRAINT, Fact::Nothing),
             Word(K::TRIGGER),
         ],
         &[Rest],
     ),
     (
         CreateProcedure,
-        &[Maybe(Phrase::OrReplace, Mark::Replace), Word(K::PROCEDURE)],
+        &[Maybe(Phrase::OrReplace, Fact::Replace), Word(K::PROCEDURE)],
         &[Rest],
     ),
     (CreatePolicy, &[Word(K::POLICY)], &[Rest]),
     (
         CreateAggregate,
-        &[Maybe(Phrase::OrReplace, Mark::Replace), Word(K::AGGREGATE)],
+        &[Maybe(Phrase::OrReplace, Fact::Replace), Word(K::AGGREGATE)],
         &[Rest],
     ),
     (
         CreateRule,
-        &[Maybe(Phrase::OrReplace, Mark::Replace), Word(K::RULE)],
+        &[Maybe(Phrase::OrReplace, Fact::Replace), Word(K::RULE)],
         &[Rest],
     ),
     (
@@ -117,15 +117,15 @@ pub const CREATE_CODE: [(StmtKind, &[Part], &[Part]); 10] = [
     ),
     (
         CreateTransform,
-        &[Maybe(Phrase::OrReplace, Mark::Replace), Word(K::TRANSFORM)],
+        &[Maybe(Phrase::OrReplace, Fact::Replace), Word(K::TRANSFORM)],
         &[Rest],
     ),
     (
         CreateLanguage,
         &[
-            Maybe(Phrase::OrReplace, Mark::Replace),
-            Flag(K::TRUSTED, Mark::Nothing),
-            Flag(K::PROCEDURAL, Mark::Nothing),
+            Maybe(Phrase::OrReplace, Fact::Replace),
+            Flag(K::TRUSTED, Fact::Nothing),
+            Flag(K::PROCEDURAL, Fact::Nothing),
             Word(K::LANGUAGE),
         ],
         &[Rest],
@@ -138,7 +138,7 @@ pub const CREATE_DATA_TYPE: [(StmtKind, &[Part], &[Part]); 7] = [
     (
         CreateDomain,
         &[Word(K::DOMAIN)],
-        &[Path, Flag(K::AS, Mark::Nothing), Tail],
+        &[Path, Flag(K::AS, Fact::Nothing), Tail],
     ),
     (CreateCast, &[Word(K::CAST)], &[Rest]),
     (CreateCollation, &[Word(K::COLLATION)], &[Rest]),
@@ -179,7 +179,7 @@ pub const CREATE_OTHER: [(StmtKind, &[Part], &[Part]); 9] = [
     (CreateStatistics, &[Word(K::STATISTICS)], &[Rest]),
     (
         CreateConversion,
-        &[Flag(K::DEFAULT, Mark::Nothing), Word(K::CONVERSION)],
+        &[Flag(K::DEFAULT, Fact::Nothing), Word(K::CONVERSION)],
         &[Rest],
     ),
     (

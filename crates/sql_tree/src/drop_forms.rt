@@ -1,7 +1,7 @@
 //! The rows of DROP, by families of objects.
 
 use crate::forms::Part::{self, Concurrently, Flag, Maybe, Object, Path, Rest, Word};
-use crate::forms::{Mark, Phrase};
+use crate::forms::{Fact, Phrase};
 use crate::kinds::StmtKind::{
     self, DropAccessMethod, DropAggregate, DropCast, DropCollation, DropConversion, DropDatabase,
     DropDomain, DropEventTrigger, DropExtension, DropForeignDataWrapper, DropForeignTable,
@@ -19,14 +19,14 @@ pub const DROP_RELATION: [(StmtKind, &[Part], &[Part]); 8] = [
     (
         DropTable,
         &[Object(K::TABLE)],
-        &[Maybe(Phrase::IfExists, Mark::Guarded), Path, Rest],
+        &[Maybe(Phrase::IfExists, Fact::Guarded), Path, Rest],
     ),
     (
         DropIndex,
         &[Object(K::INDEX)],
         &[
             Concurrently,
-            Maybe(Phrase::IfExists, Mark::Guarded),
+            Maybe(Phrase::IfExists, Fact::Guarded),
             Path,
             Rest,
         ],
@@ -72,7 +72,7 @@ pub const DROP_CODE: [(StmtKind, &[Part], &[Part]); 10] = [
     (DropTransform, &[Word(K::TRANSFORM)], &[Rest]),
     (
         DropLanguage,
-        &[Flag(K::PROCEDURAL, Mark::Nothing), Word(K::LANGUAGE)],
+        &[Flag(K::PROCEDURAL, Fact::Nothing), Word(K::LANGUAGE)],
         &[Rest],
     ),
 ];
@@ -82,7 +82,7 @@ pub const DROP_DATA_TYPE: [(StmtKind, &[Part], &[Part]); 7] = [
     (
         DropType,
         &[Object(K::TYPE)],
-        &[Maybe(Phrase::IfExists, Mark::Guarded), Path, Rest],
+        &[Maybe(Phrase::IfExists, Fact::Guarded), Path, Rest],
     ),
     (DropDomain, &[Word(K::DOMAIN)], &[Rest]),
     (DropCast, &[Word(K::CAST)], &[Rest]),

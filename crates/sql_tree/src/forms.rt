@@ -1,19 +1,19 @@
 //! The forms of statements as data: a form is a row of a table, and one reader reads every row.
 //!
-//! A row has the kind of its statements, the lead words behind the first word, and what follows them. The rows of a
-//! first word stand in one table, those of CREATE, ALTER and DROP in one table for each family of objects; a statement
-//! is read by the first row of its table whose lead words stand, so a longer lead stands before a shorter one that
+//! A row has the kind of its statements, the lead words after the first word, and what follows them. The rows of a
+//! first word are in one table, those of CREATE, ALTER and DROP in one table for each family of objects; a statement
+//! is read by the first row of its table whose lead words match, so a longer lead comes before a shorter one that
 //! begins it. The definitions (`specs/Forms.antt`) and the code read the same tables.
 //!
 //! The forms are those of the PostgreSQL manual, part VI, SQL Commands, as far as the linter looks into them. A
-//! statement that it doesn't look into has a row with its lead words and anything behind them.
+//! statement that it doesn't look into has a row with its lead words and anything after them.
 
 use crate::kinds::{ActionKind, StmtKind};
 use sql_token::{Keyword as K, Span};
 
-/// What a form tells by words that stand or do not.
+/// What a form tells by words that are there or do not.
 #[derive(Clone, Copy, PartialEq, Eq)]
-pub enum Mark {
+pub enum Fact {
     /// Nothing is told.
     Nothing,
     /// UNIQUE.
@@ -24,9 +24,9 @@ pub enum Mark {
     Chain,
     /// OR REPLACE.
     Replace,
-    /// PREPARED, or TO behind ROLLBACK.
+    /// PREPARED, or TO after ROLLBACK.
     NotPlain,
-    /// BEFORE or AFTER behind a new value.
+    /// BEFORE or AFTER after a new value.
     Placed,
 }
 
@@ -50,7 +50,7 @@ pub enum WordClass {
     FunctionOption,
 }
 
-/// A part of a form. A part in square brackets is optional, and taken wherever it stands.
+/// A part of a form. A part in square brackets is optional, and taken wherever it is.
 #[derive(Clone, Copy, PartialEq, Eq)]
 pub enum Part {
     /// This word.
@@ -61,21 +61,21 @@ pub enum Part {
     Object(K),
     /// `[WORD]`: its number is kept.
     MaybeObject(K),
-    /// `[WORD]`, told by the mark.
-    Flag(K, Mark),
+    /// `[WORD]`, known by the mark.
+    Flag(K, Fact),
     /// Nothing at all: the mark is told.
-    Tell(Mark),
-    /// `[A or B]`.
+    Tell(Fact),
+    /// `[A or B]`: its number is kept.
     Either(K, K),
-    /// `[PHRASE]`, told by the mark.
-    Maybe(Phrase, Mark),
+    /// `[PHRASE]`, known by the mark.
+    Maybe(Phrase, Fact),
     /// `[AND CHAIN or AND NO CHAIN]`: the first is told.
     Chain,
     /// `[CONCURRENTLY]`: its number is kept.
     Concurrently,
     /// `[[IF NOT EXISTS] name]`, where the name is not the word ON: its number is kept.
     IndexName,
-    /// Any of GLOBAL, LOCAL, TEMP, TEMPORARY, UNLOGGED, as many as stand.
+    /// Any of GLOBAL, LOCAL, TEMP, TEMPORARY, UNLOGGED, as many as there are.
     Mods,
     /// A name: its number is kept.
     Name,
@@ -119,14 +119,14 @@ pub struct Captures {
     pub open_ended: bool,
 }
 
-/// A table of rows: kind, lead words behind the first, what follows.
+/// A table of rows: kind, lead words after the first, what follows.
 pub type Rows = &'static [(StmtKind, &'static [Part], &'static [Part])];
 
 /// A table of rows of ALTER actions: kind, and all that the action is made of. An action is read by the first row that
 /// reads it whole.
 pub type ActionRows = &'static [(ActionKind, &'static [Part])];
 
-/// Objects by the word that names them, or that may stand before it: each family has a table of rows of CREATE, one of
+/// Objects by the word that names them, or that may come before it: each family has a table of rows of CREATE, one of
 /// ALTER and one of DROP.
 #[derive(Clone, Copy, PartialEq, Eq)]
 pub enum Family {
@@ -144,7 +144,7 @@ pub enum Family {
 
 /// What is kept of the statements of a kind: a variant of `Body` each.
 #[derive(Clone, Copy, PartialEq, Eq)]
-pub enum Shape {
+pub enum BodyShape {
     Kept,
     End,
     Table,

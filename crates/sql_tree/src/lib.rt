@@ -22,4 +22,5 @@ pub use nodes::{
 pub use parse::Parse;
 pub use path::NamePath;
 pub use shape::Shape;
+pub use sql_name::{FullName, Name};
 pub use sql_token::{Keyword, Span, Symbol, Terminal, Tok, TokKind};

@@ -157,7 +157,7 @@ pub struct Action {
     pub last: u32,
     pub name: Option<u32>,
     pub path: Option<Span>,
-    /// The word COLUMN, CONSTRAINT or the like.
+    /// The word COLUMN, CONSTRAINT or the like; CONCURRENTLY or FINALIZE of DETACH PARTITION.
     pub word: Option<u32>,
     /// IF EXISTS or IF NOT EXISTS.
     pub guarded: bool,
@@ -186,7 +186,7 @@ pub struct TableWrite {
 }
 
 /// What the linter knows of a statement. `word` is the word of the object, as TABLE; `guarded` tells IF EXISTS or
-/// IF NOT EXISTS. What is large and rare stands in a box, and small fields stand first, so that a list of statements
+/// IF NOT EXISTS. What is large and rare is in a box, and small fields come first, so that a list of statements
 /// stays small.
 #[derive(Drop)]
 pub enum Body {
@@ -286,7 +286,7 @@ pub enum Body {
 }
 
 /// A statement: its kind, the numbers of its first and last token, and what is known of it. The last token is its
-/// semicolon where one stands.
+/// semicolon where one is there.
 #[derive(Drop)]
 pub struct Stmt {
     pub kind: StmtKind,

@@ -1,7 +1,7 @@
 //! The rows of all other statements whose first word alone doesn't tell their kind, or that have a form, by their first
 //! words.
 
-use crate::forms::Mark;
+use crate::forms::Fact;
 use crate::forms::Part::{
     self, Chain, Concurrently, Either, Flag, Into, MaybeList, Mods, Name, Path, Rest, Tell, Word,
 };
@@ -18,7 +18,7 @@ pub const START: [(StmtKind, &[Part], &[Part]); 1] = [(Begin, &[Word(K::TRANSACT
 
 /// COMMIT.
 pub const COMMIT: [(StmtKind, &[Part], &[Part]); 2] = [
-    (Commit, &[Word(K::PREPARED)], &[Tell(Mark::NotPlain), Rest]),
+    (Commit, &[Word(K::PREPARED)], &[Tell(Fact::NotPlain), Rest]),
     (Commit, &[], &[Either(K::WORK, K::TRANSACTION), Chain]),
 ];
 
@@ -34,12 +34,12 @@ pub const ROLLBACK: [(StmtKind, &[Part], &[Part]); 3] = [
     (
         Rollback,
         &[Word(K::PREPARED)],
-        &[Tell(Mark::NotPlain), Rest],
+        &[Tell(Fact::NotPlain), Rest],
     ),
     (
         Rollback,
         &[Either(K::WORK, K::TRANSACTION), Word(K::TO)],
-        &[Tell(Mark::NotPlain), Rest],
+        &[Tell(Fact::NotPlain), Rest],
     ),
     (Rollback, &[], &[Either(K::WORK, K::TRANSACTION), Chain]),
 ];
@@ -55,7 +55,7 @@ pub const ABORT: [(StmtKind, &[Part], &[Part]); 1] = [(
 pub const SELECT: [(StmtKind, &[Part], &[Part]); 2] = [
     (
         SelectInto,
-        &[Into, Mods, Flag(K::TABLE, Mark::Nothing), Path],
+        &[Into, Mods, Flag(K::TABLE, Fact::Nothing), Path],
         &[Rest],
     ),
     (Select, &[], &[Rest]),
@@ -68,14 +68,14 @@ pub const INSERT: [(StmtKind, &[Part], &[Part]); 1] = [(Insert, &[], &[Word(K::I
 pub const UPDATE: [(StmtKind, &[Part], &[Part]); 1] = [(
     Update,
     &[],
-    &[Flag(K::ONLY, Mark::Nothing), Path, Rest],
+    &[Flag(K::ONLY, Fact::Nothing), Path, Rest],
 )];
 
 /// MERGE.
 pub const MERGE: [(StmtKind, &[Part], &[Part]); 1] = [(
     Merge,
     &[],
-    &[Word(K::INTO), Flag(K::ONLY, Mark::Nothing), Path, Rest],
+    &[Word(K::INTO), Flag(K::ONLY, Fact::Nothing), Path, Rest],
 )];
 
 /// SET. A SESSION that AUTHORIZATION follows is not the optional one.
@@ -102,7 +102,7 @@ pub const SET: [(StmtKind, &[Part], &[Part]); 7] = [
     ),
     (
         SetTransaction,
-        &[Flag(K::LOCAL, Mark::Nothing), Word(K::TRANSACTION)],
+        &[Flag(K::LOCAL, Fact::Nothing), Word(K::TRANSACTION)],
         &[Rest],
     ),
     (
@@ -154,18 +154,18 @@ pub const REFRESH: [(StmtKind, &[Part], &[Part]); 1] = [(
     &[Word(K::MATERIALIZED), Word(K::VIEW), Concurrently, Rest],
 )];
 
-/// CLUSTER: an index ON its table, or a table and perhaps an index behind USING, or all tables.
+/// CLUSTER: an index ON its table, or a table and perhaps an index after USING, or all tables.
 pub const CLUSTER: [(StmtKind, &[Part], &[Part]); 4] = [
     (
         Cluster,
-        &[Flag(K::VERBOSE, Mark::Nothing), Name, Word(K::ON)],
+        &[Flag(K::VERBOSE, Fact::Nothing), Name, Word(K::ON)],
         &[Path],
     ),
     (
         Cluster,
         &[
             MaybeList,
-            Flag(K::VERBOSE, Mark::Nothing),
+            Flag(K::VERBOSE, Fact::Nothing),
             Path,
             Word(K::USING),
         ],
@@ -173,10 +173,10 @@ pub const CLUSTER: [(StmtKind, &[Part], &[Part]); 4] = [
     ),
     (
         Cluster,
-        &[MaybeList, Flag(K::VERBOSE, Mark::Nothing), Path],
+        &[MaybeList, Flag(K::VERBOSE, Fact::Nothing), Path],
         &[],
     ),
-    (Cluster, &[MaybeList, Flag(K::VERBOSE, Mark::Nothing)], &[]),
+    (Cluster, &[MaybeList, Flag(K::VERBOSE, Fact::Nothing)], &[]),
 ];
 
 /// The modes of LOCK: the words between IN and MODE.

@@ -11,10 +11,13 @@ use smallvec::SmallVec;
 use sql_name::Name;
 use sql_token::{Span, TokKind};
 use std::alloc::Global;
+use std::cmp::Ordering;
+use std::hash::{Hash, Hasher};
 use text_pos::NoMemory;
 
-/// The names of a path, which borrow from the text. Two paths are equal where their names are, one by one.
-#[derive(Debug, PartialEq, Eq, PartialOrd, Ord, Hash, Drop)]
+/// The names of a path, which borrow from the text. Two paths are equal where their names are, one by one; paths are ordered
+/// by the first names that differ. Only what PostgreSQL tells names apart by counts.
+#[derive(Debug, Drop)]
 pub struct NamePath<'t> {
     names: SmallVec<Name<'t>, 2>,
 }
@@ -29,7 +32,7 @@ fn is_name_kind(kind: TokKind) -> bool
     }
 }
 
-/// Puts the name behind the others, where token `i` is one.
+/// Puts the name after the others, where token `i` is one.
 fn push_token<'t>(
     names: &mut SmallVec<Name<'t>, 2>,
     p: &Parse<'t>,
@@ -49,7 +52,7 @@ fn push_token<'t>(
 }
 
 impl<'t> NamePath<'t> {
-    /// The names among the tokens of a span. Two names stand in place: a longer path takes memory.
+    /// The names among the tokens of a span. Two names are in place: a longer path takes memory.
     pub fn of(alloc: Global, p: &Parse<'t>, span: Span) -> Result<NamePath<'t>, NoMemory>
         ensures names { IfOk result (λ path. names_of path ≡ path_cuts p.now.text p.now.toks span) }
         ensures short { length (path_cuts p.now.text p.now.toks span) ≤ 2 → IsOk result }
@@ -60,5 +63,78 @@ impl<'t> NamePath<'t> {
             push_token(&mut names, p, i)?;
         }
         Ok(NamePath { names })
+    }
+}
+
+impl<'t> PartialEq for NamePath<'t> {
+    ghost use Rattle.std.proofs.Common.{rules};
+    ghost use Rattle.std.specs.Cmp.Rules.{comparing};
+    ghost use Rattle.sql_tree.specs.PathNames.{names_eq};
+
+    ghost eq = { names_eq };
+
+    ghost laws = { Prim.search (comparing, rules) };
+
+    fn eq(&self, other: &NamePath<'t>) -> bool {
+        self.names == other.names
+    }
+}
+
+impl<'t> Eq for NamePath<'t> {
+    ghost use Rattle.std.proofs.Common.{rules};
+    ghost use Rattle.std.specs.Cmp.Rules.{comparing};
+
+    ghost laws = { Prim.search (comparing, rules) };
+}
+
+impl<'t> PartialOrd for NamePath<'t> {
+    ghost use Rattle.std.proofs.Common.{rules};
+    ghost use Rattle.std.specs.Cmp.{partial_order_from_own_ties};
+    ghost use Rattle.std.specs.Cmp.Lexicographic.{lists_ties, slice_cmp, texts_ties};
+    ghost use Rattle.std.specs.Cmp.Rules.{comparing};
+    ghost use Rattle.std.specs.Ordering.{as_partial_cmp, nat_cmp};
+    ghost use Rattle.sql_tree.specs.PathNames.{names_cmp, names_of};
+
+    ghost partial_cmp = { as_partial_cmp names_cmp };
+
+    ghost laws = { partial_order_from_own_ties (Prim.search (comparing, rules)) (λ a b. lists_ties (slice_cmp nat_cmp) texts_ties (names_of a) (names_of b)) };
+
+    fn partial_cmp(&self, other: &NamePath<'t>) -> Option<Ordering> {
+        Some(self.cmp(other))
+    }
+}
+
+impl<'t> Ord for NamePath<'t> {
+    ghost use Rattle.std.proofs.Common.{rules};
+    ghost use Rattle.std.specs.Cmp.Lexicographic.{lists_ties, slice_cmp, texts_ties};
+    ghost use Rattle.std.specs.Cmp.Rules.{comparing};
+    ghost use Rattle.std.specs.Ordering.{nat_cmp};
+    ghost use Rattle.sql_tree.specs.PathNames.{names_cmp, names_of};
+
+    ghost cmp = { names_cmp };
+
+    ghost total = { Prim.search (comparing, rules) };
+
+    ghost matches_partial_cmp = { Prim.search (comparing, rules) };
+
+    ghost matches_eq = { λ a b. lists_ties (slice_cmp nat_cmp) texts_ties (names_of a) (names_of b) };
+
+    fn cmp(&self, other: &NamePath<'t>) -> Ordering {
+        self.names.cmp(&other.names)
+    }
+}
+
+impl<'t> Hash for NamePath<'t> {
+    ghost use Rattle.std.proofs.Common.{rules};
+    ghost use Rattle.std.specs.Cmp.Rules.{hashing};
+    ghost use Rattle.std.specs.Hash.{on_Alike, items_Alike};
+    ghost use Rattle.sql_tree.specs.PathNames.{names_of, names_writes};
+
+    ghost hash_input = { names_writes };
+
+    ghost respects_eq = { (on_Alike names_of (items_Alike (record { fed = Prim.search (hashing, rules) }))).fed };
+
+    fn hash<H: Hasher>(&self, state: &mut H) {
+        self.names.hash(state);
     }
 }

@@ -2,7 +2,7 @@
 
 use sql_token::Span;
 
-/// A reading of an expression (PostgreSQL manual, section 4.2), told by its own terminals alone. Places and lengths count
+/// A reading of an expression (PostgreSQL manual, section 4.2), known by its own terminals alone. Places and lengths count
 /// terminals: `from` is where an inner expression begins, and `len` how long it is.
 #[derive(Clone, Copy, PartialEq, Eq)]
 pub enum Shape {

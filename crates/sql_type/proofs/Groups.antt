@@ -8,7 +8,7 @@ use Rattle.sql_tree.specs.Split.{Test, before_from, before, has}
 use Rattle.sql_tree.specs.ColumnType.{no_group, only_groups, before_groups}
 
 -- Of n terminals, the first `kept` are no part of the groups that end them. A further one, outside brackets or inside, is
--- no part of such a group where it stands outside and opens none, or where none has begun.
+-- no part of such a group where it is present outside and opens none, or where none has begun.
 abbrev pub kept_from : ℕ → ℕ → ℕ → ℕ → List Terminal → ℕ
 kept_from kept n o c [] = kept
 kept_from kept n o c (t ∷ ts) =
@@ -27,7 +27,7 @@ shifted mark e o c k (t ∷ ts) =
     let closed : c + k + one_if (is_closer t) ≡ c + one_if (is_closer t) + k = omega arith in
     rw (same_depth o c k, opened, closed, shifted mark (Some t) (o + one_if (is_opener t)) (c + one_if (is_closer t)) k ts) refl
 
--- What is kept before t and behind it, where x terminals of those behind stand before the first that is no group, and g
+-- What is kept before t and after it, where x terminals of those after come before the first that is no group, and g
 -- before the groups that end them.
 abbrev kept_with : Bool → Bool → ℕ → ℕ → ℕ
 kept_with b q kept n = if (if b then not q else kept == n) then n + 1 else kept

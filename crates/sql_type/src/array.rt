@@ -9,7 +9,7 @@ use sql_mark::{Mark, begins_with, closing, span_of, terminals_before};
 use sql_token::{Keyword, Symbol, Terminal};
 use sql_tree::ColType;
 
-/// How many terminals of a column behind its name are its type.
+/// How many terminals of a column after its name are its type.
 #[tactic(auto, unfolding(sql_tree::specs::ColumnType::type_len))]
 pub fn type_len(terminals: &[Terminal]) -> usize
     ensures value { result ≡ spec.type_len terminals.now }
@@ -18,7 +18,7 @@ pub fn type_len(terminals: &[Terminal]) -> usize
     terminals_before(Mark::TypeEnd, terminals)
 }
 
-/// Whether a terminal is no part of the bracket groups `[ .. ]` that end a list, where it stands behind `count`
+/// Whether a terminal is no part of the bracket groups `[ .. ]` that end a list, where it comes after `count`
 /// terminals, of which the first `kept` are none either.
 fn is_kept(outside: bool, kept: usize, count: usize, t: Terminal) -> bool
     ensures { result ≡ if outside then not (is_open_square_symbol t.symbol) else kept == count }
@@ -30,7 +30,7 @@ fn is_kept(outside: bool, kept: usize, count: usize, t: Terminal) -> bool
     }
 }
 
-/// How many terminals stand before the bracket groups `[ .. ]` that end the list.
+/// How many terminals come before the bracket groups `[ .. ]` that end the list.
 #[tactic(auto, using(crate::proofs::Groups::kept_at_end))]
 fn before_groups(terminals: &[Terminal]) -> usize
     ensures value { result ≡ spec.before_groups terminals.now }
@@ -68,7 +68,7 @@ fn array_of(terminals: &[Terminal], inner: &[Terminal]) -> Option<ColType>
     Some(ty)
 }
 
-/// A type and its bracket groups, before which `count` terminals stand.
+/// A type and its bracket groups, before which `count` terminals are there.
 #[tactic(auto, unfolding(sql_tree::specs::ColumnType::array_by_groups))]
 fn array_by_groups(terminals: &[Terminal], count: usize) -> Option<ColType>
     requires counted { count ≡ spec.before_groups terminals.now }
@@ -92,7 +92,7 @@ fn ends_with(word: Keyword, terminals: &[Terminal]) -> bool
     begins_with(word, &terminals[terminals.len() - 1..])
 }
 
-/// A type, the word ARRAY, and no more than one group, before which `count` terminals stand.
+/// A type, the word ARRAY, and no more than one group, before which `count` terminals are there.
 #[tactic(auto, unfolding(sql_tree::specs::ColumnType::array_by_word))]
 fn array_by_word(terminals: &[Terminal], count: usize) -> Option<ColType>
     requires counted { count ≡ spec.before_groups terminals.now }

@@ -22,7 +22,7 @@ fn plain_of(kind: TyKind, name: u32, place: Span, args: Option<Span>, with_zone:
     }
 }
 
-/// The bracket list of arguments that this is, or none where nothing stands; `None` where anything else does.
+/// The bracket list of arguments that this is, or none where nothing is there; `None` where anything else does.
 #[tactic(auto, unfolding(sql_tree::specs::ColumnType::arguments))]
 fn arguments(rest: &[Terminal]) -> Option<Option<Span>>
     ensures { result ≡ spec.arguments rest.now }
@@ -50,9 +50,9 @@ fn with_arguments(
     Some(plain_of(kind, name, span_of(terminals), args, false))
 }
 
-#[tactic(auto, unfolding(sql_tree::specs::ColumnType::behind_varying))]
-fn behind_varying(rest: &[Terminal]) -> &[Terminal]
-    ensures { result.now ≡ spec.behind_varying rest.now }
+#[tactic(auto, unfolding(sql_tree::specs::ColumnType::after_varying))]
+fn after_varying(rest: &[Terminal]) -> &[Terminal]
+    ensures { result.now ≡ spec.after_varying rest.now }
 {
     if begins_with(Keyword::VARYING, rest) {
         &rest[1..]
@@ -78,7 +78,7 @@ fn character_type(terminals: &[Terminal], rest: &[Terminal]) -> Option<ColType>
 {
     let kind = character_kind(rest);
     let name = span_of(terminals).first;
-    with_arguments(kind, name, terminals, behind_varying(rest))
+    with_arguments(kind, name, terminals, after_varying(rest))
 }
 
 /// DOUBLE PRECISION.
@@ -104,7 +104,7 @@ fn is_time_zone(rest: &[Terminal]) -> bool
     }
 }
 
-/// Whether this is WITH TIME ZONE, and not WITHOUT TIME ZONE or nothing; `None` where anything else stands.
+/// Whether this is WITH TIME ZONE, and not WITHOUT TIME ZONE or nothing; `None` where anything else is there.
 #[tactic(auto, unfolding(sql_tree::specs::ColumnType::zone))]
 fn zone(rest: &[Terminal]) -> Option<bool>
     ensures { result ≡ spec.zone rest.now }
@@ -169,7 +169,7 @@ fn word_type(word: Keyword, terminals: &[Terminal], rest: &[Terminal]) -> Option
         Keyword::VARCHAR => with_arguments(TyKind::Varchar, name, terminals, rest),
         Keyword::CHARACTER => character_type(terminals, rest),
         Keyword::CHAR => character_type(terminals, rest),
-        Keyword::BIT => with_arguments(TyKind::Bit, name, terminals, behind_varying(rest)),
+        Keyword::BIT => with_arguments(TyKind::Bit, name, terminals, after_varying(rest)),
         Keyword::DOUBLE => double_type(terminals, rest),
         Keyword::TIME => time_type(TyKind::Time, terminals, rest),
         Keyword::TIMESTAMP => time_type(TyKind::Timestamp, terminals, rest),

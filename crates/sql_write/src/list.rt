@@ -40,7 +40,7 @@ fn begins_query(terminals: &[Terminal]) -> bool
     }
 }
 
-/// The columns of the bracket list that stands first; `None` where none stands, or where it is a query.
+/// The columns of the bracket list that comes first; `None` where there is none, or where it is a query.
 #[tactic(auto, unfolding(sql_tree::specs::Write::column_list))]
 fn column_list(alloc: Global, terminals: &[Terminal]) -> Result<Option<Items<Target>>, NoMemory>
     ensures { IfOk result (λ list. list ≡ spec.column_list terminals.now) }
@@ -52,10 +52,10 @@ fn column_list(alloc: Global, terminals: &[Terminal]) -> Result<Option<Items<Tar
     Ok(Some(targets))
 }
 
-/// What follows `AS name`, where it stands first.
-#[tactic(auto, unfolding(sql_tree::specs::Write::behind_alias))]
-fn behind_alias(terminals: &[Terminal]) -> &[Terminal]
-    ensures { result.now ≡ spec.behind_alias terminals.now }
+/// What follows `AS name`, where it comes first.
+#[tactic(auto, unfolding(sql_tree::specs::Write::after_alias))]
+fn after_alias(terminals: &[Terminal]) -> &[Terminal]
+    ensures { result.now ≡ spec.after_alias terminals.now }
 {
     match terminals {
         [first, name, rest @ ..] if first.is_keyword(Keyword::AS) && name.is_name() => rest,
@@ -63,8 +63,8 @@ fn behind_alias(terminals: &[Terminal]) -> &[Terminal]
     }
 }
 
-/// The terminals behind the first one.
-fn behind_one(terminals: &[Terminal]) -> &[Terminal]
+/// The terminals after the first one.
+fn after_one(terminals: &[Terminal]) -> &[Terminal]
     ensures { result.now ≡ drop 1 terminals.now }
 {
     match terminals {
@@ -73,7 +73,7 @@ fn behind_one(terminals: &[Terminal]) -> &[Terminal]
     }
 }
 
-/// The lists behind THEN INSERT.
+/// The lists after THEN INSERT.
 #[tactic(auto, unfolding(sql_tree::specs::Write::insert_lists))]
 fn insert_lists(alloc: Global, tail: &[Terminal]) -> Result<Items<Items<Target>>, NoMemory>
     ensures { IfOk result (λ lists. lists ≡ spec.insert_lists tail.now) }
@@ -82,7 +82,7 @@ fn insert_lists(alloc: Global, tail: &[Terminal]) -> Result<Items<Items<Target>>
     let mut parts = Parts::new(Mark::Write(WriteMark::ThenInsert), tail);
     let _front = parts.next_part();
     while let Some(part) = parts.next_part() {
-        if let Some(list) = column_list(alloc, behind_one(part))? {
+        if let Some(list) = column_list(alloc, after_one(part))? {
             put(&mut lists, list)?;
         }
     }
@@ -101,7 +101,7 @@ pub(crate) fn lists_of(
     match kind {
         StmtKind::Insert => {
             let mut lists = Vec::new(alloc);
-            if let Some(list) = column_list(alloc, behind_alias(tail))? {
+            if let Some(list) = column_list(alloc, after_alias(tail))? {
                 put(&mut lists, list)?;
             }
             Ok(Items::from_vec(lists))

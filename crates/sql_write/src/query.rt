@@ -3,21 +3,21 @@
 ghost use Rattle.std.specs.Prelude.{◌≡◌, IfOk};
 ghost use Rattle.std.specs.Option.{option_and_then};
 ghost use Rattle.sql_keyword.specs.declared.words.TheConstants.Keyword as keyword;
-ghost use Rattle.sql_tree.specs.Forms.{behind_word};
-ghost use Rattle.sql_tree.specs.Split.{behind_list};
+ghost use Rattle.sql_tree.specs.Forms.{after_word};
+ghost use Rattle.sql_tree.specs.Split.{after_list};
 ghost use Rattle.sql_tree.specs.Write as spec;
 
 use sql_constraint::make_room;
-use sql_mark::{Mark, Parts, WriteMark, behind_list, names_from, until};
-use sql_part::behind_word;
+use sql_form::after_word;
+use sql_mark::{Mark, Parts, WriteMark, after_list, names_from, until};
 use sql_token::{Keyword, Terminal};
 use sql_tree::Target;
 use sqlite_items::Items;
 use std::alloc::Global;
 use text_pos::NoMemory;
 
-fn name_behind_as(terminals: &[Terminal]) -> Option<u32>
-    ensures { result ≡ spec.name_behind_as terminals.now }
+fn name_after_as(terminals: &[Terminal]) -> Option<u32>
+    ensures { result ≡ spec.name_after_as terminals.now }
 {
     match terminals {
         [first, name] if first.is_keyword(Keyword::AS) && name.is_name() => Some(name.number),
@@ -32,9 +32,9 @@ fn alias_name(terminals: &[Terminal]) -> Option<u32>
 {
     let count = terminals.len();
     if count < 2 {
-        return name_behind_as(terminals);
+        return name_after_as(terminals);
     }
-    name_behind_as(&terminals[count - 2..])
+    name_after_as(&terminals[count - 2..])
 }
 
 /// The last name of a path that is all of these terminals.
@@ -65,32 +65,32 @@ fn query_target(terminals: &[Terminal]) -> Option<Target>
     })
 }
 
-/// What follows DISTINCT: a list behind ON is taken.
-fn behind_on<'a>(terminals: &'a [Terminal]) -> &'a [Terminal]
-    ensures { result.now ≡ spec.left_or terminals.entry.now (option_and_then behind_list (behind_word keyword.ON terminals.entry.now)) }
+/// What follows DISTINCT: a list after ON is taken.
+fn after_on<'a>(terminals: &'a [Terminal]) -> &'a [Terminal]
+    ensures { result.now ≡ spec.left_or terminals.entry.now (option_and_then after_list (after_word keyword.ON terminals.entry.now)) }
 {
-    match behind_word(Keyword::ON, terminals) {
+    match after_word(Keyword::ON, terminals) {
         None => terminals,
-        Some(rest) => match behind_list(rest) {
+        Some(rest) => match after_list(rest) {
             None => terminals,
-            Some(behind) => behind,
+            Some(after) => after,
         },
     }
 }
 
-/// What follows ALL, DISTINCT or DISTINCT ON ( .. ), where one of them stands first.
-#[tactic(auto, unfolding(sql_tree::specs::Write::behind_distinct))]
-fn behind_distinct(terminals: &[Terminal]) -> &[Terminal]
-    ensures { result.now ≡ spec.behind_distinct terminals.now }
+/// What follows ALL, DISTINCT or DISTINCT ON ( .. ), where one of them comes first.
+#[tactic(auto, unfolding(sql_tree::specs::Write::after_distinct))]
+fn after_distinct(terminals: &[Terminal]) -> &[Terminal]
+    ensures { result.now ≡ spec.after_distinct terminals.now }
 {
     match terminals {
         [first, rest @ ..] if first.is_keyword(Keyword::ALL) => rest,
-        [first, rest @ ..] if first.is_keyword(Keyword::DISTINCT) => behind_on(rest),
+        [first, rest @ ..] if first.is_keyword(Keyword::DISTINCT) => after_on(rest),
         _ => terminals,
     }
 }
 
-/// The targets of a query that have a name, by what follows its word SELECT: the name behind a closing AS, or the last
+/// The targets of a query that have a name, by what follows its word SELECT: the name after a closing AS, or the last
 /// name of a path.
 #[tactic(auto, unfolding(sql_tree::specs::Write::targets))]
 pub fn read_targets(alloc: Global, terminals: &[Terminal]) -> Result<Items<Target>, NoMemory>
@@ -99,7 +99,7 @@ pub fn read_targets(alloc: Global, terminals: &[Terminal]) -> Result<Items<Targe
     let mut targets = Vec::new(alloc);
     let listed = until(
         Mark::Write(WriteMark::TargetListEnd),
-        behind_distinct(terminals),
+        after_distinct(terminals),
     );
     let mut parts = Parts::new(Mark::Comma, listed);
     while let Some(part) = parts.next_part() {

@@ -6,20 +6,23 @@ ghost use Rattle.sql_tree.specs.Write as spec;
 
 use crate::target::{target, targets_between};
 use sql_constraint::{make_room, put};
-use sql_mark::{Mark, Parts, WriteMark, from_mark, has_mark, inside_list, is_list, span_of, until};
+use sql_mark::{
+    Mark, Parts, WriteMark, from_mark, inside_list, is_list, span_of, terminals_before, until,
+};
 use sql_token::{Keyword, Terminal};
 use sql_tree::{SetPart, StmtKind, Target};
 use sqlite_items::Items;
 use std::alloc::Global;
 use text_pos::NoMemory;
 
-/// What stands before the first `=`; nothing, where none stands.
+/// What comes before the first `=`; nothing, where there is none.
 #[tactic(auto, unfolding(sql_tree::specs::Write::assigned))]
 fn assigned(terminals: &[Terminal]) -> &[Terminal]
     ensures { result.now ≡ spec.assigned terminals.now }
 {
-    if has_mark(Mark::Write(WriteMark::Equals), terminals) {
-        until(Mark::Write(WriteMark::Equals), terminals)
+    let count = terminals_before(Mark::Write(WriteMark::Equals), terminals);
+    if count < terminals.len() {
+        &terminals[..count]
     } else {
         &[]
     }
@@ -98,8 +101,8 @@ fn set_clause(alloc: Global, end: Mark, terminals: &[Terminal]) -> Result<Items<
     Ok(Items::from_vec(clause))
 }
 
-/// The terminals behind the first two; none, where there are no more.
-fn behind_two(terminals: &[Terminal]) -> &[Terminal]
+/// The terminals after the first two; none, where there are no more.
+fn after_first_two(terminals: &[Terminal]) -> &[Terminal]
     ensures { result.now ≡ drop 2 terminals.now }
 {
     match terminals {
@@ -108,7 +111,7 @@ fn behind_two(terminals: &[Terminal]) -> &[Terminal]
     }
 }
 
-/// The clauses behind DO UPDATE SET or THEN UPDATE SET; one also ends where the next begins.
+/// The clauses after DO UPDATE SET or THEN UPDATE SET; one also ends where the next begins.
 #[tactic(auto, unfolding(sql_tree::specs::Write::set_clauses))]
 fn set_clauses(
     alloc: Global,
@@ -122,13 +125,13 @@ fn set_clauses(
     let mut parts = Parts::new(mark, tail);
     let _front = parts.next_part();
     while let Some(part) = parts.next_part() {
-        let clause = set_clause(alloc, end, behind_two(part))?;
+        let clause = set_clause(alloc, end, after_first_two(part))?;
         put(&mut clauses, clause)?;
     }
     Ok(Items::from_vec(clauses))
 }
 
-/// The clause of an UPDATE, behind the first word SET.
+/// The clause of an UPDATE, after the first word SET.
 #[tactic(auto, unfolding(sql_tree::specs::Write::update_clause))]
 fn update_clause(alloc: Global, tail: &[Terminal]) -> Result<Items<Items<SetPart>>, NoMemory>
     ensures { IfOk result (λ clauses. clauses ≡ spec.update_clause tail.now) }

@@ -12,8 +12,8 @@ use sqlite_items::Items;
 use std::alloc::Global;
 use text_pos::NoMemory;
 
-fn is_behind_dot(earlier: Option<Terminal>) -> bool
-    ensures { result ≡ spec.is_behind_dot earlier }
+fn is_after_dot(earlier: Option<Terminal>) -> bool
+    ensures { result ≡ spec.is_after_dot earlier }
 {
     match earlier {
         None => false,
@@ -30,13 +30,13 @@ fn begins_name(terminals: &[Terminal]) -> bool
     }
 }
 
-/// Whether `t` is `[`, a dot with a name behind it, or a name behind a dot.
+/// Whether `t` is `[`, a dot with a name after it, or a name after a dot.
 fn is_accessor(earlier: Option<Terminal>, t: Terminal, after: &[Terminal]) -> bool
     ensures { result ≡ spec.is_accessor earlier t after.now }
 {
     matches!(t.symbol, Symbol::OpenSquare)
         || (t.is_dot() && begins_name(after))
-        || (t.is_name() && is_behind_dot(earlier))
+        || (t.is_name() && is_after_dot(earlier))
 }
 
 /// Whether these are the accessors of a name, to the end.

@@ -26,7 +26,7 @@ fn column_name(terminals: &[Terminal]) -> Option<Target>
     }
 }
 
-/// The names between commas; `None` where something else stands there.
+/// The names between commas; `None` where something else is there.
 fn column_names(alloc: Global, terminals: &[Terminal]) -> Result<Option<Items<Target>>, NoMemory>
     ensures { IfOk result (λ names. names ≡ all_of spec.column_name (split comma terminals.now)) }
 {
@@ -42,7 +42,7 @@ fn column_names(alloc: Global, terminals: &[Terminal]) -> Result<Option<Items<Ta
     Ok(Some(Items::from_vec(names)))
 }
 
-/// The names of the bracket list that stands first; `None` where it holds anything but names.
+/// The names of the bracket list that comes first; `None` where it holds anything but names.
 #[tactic(auto, unfolding(sql_tree::specs::Write::view_columns))]
 fn view_columns(alloc: Global, tail: &[Terminal]) -> Result<Option<Items<Target>>, NoMemory>
     ensures { IfOk result (λ names. names ≡ spec.view_columns tail.now) }
@@ -54,7 +54,7 @@ fn view_columns(alloc: Global, tail: &[Terminal]) -> Result<Option<Items<Target>
     }
 }
 
-/// The targets of the query behind the first AS, where it begins with SELECT.
+/// The targets of the query after the first AS, where it begins with SELECT.
 #[tactic(auto, unfolding(sql_tree::specs::Write::view_targets))]
 fn view_targets(alloc: Global, tail: &[Terminal]) -> Result<Items<Target>, NoMemory>
     ensures { IfOk result (λ ts. ts ≡ spec.view_targets tail.now) }

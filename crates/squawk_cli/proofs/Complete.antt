@@ -1,13 +1,13 @@
 -- Where nothing fails, a valid input is linted.
-use Rattle.std.proofs.Common.{ℕ, ◌<◌, ◌≤◌, ◌^◌, List, length, None, Some, IfSome, ap, subst, arith, length-append}
+use Rattle.std.proofs.Common.{ℕ, ◌≤◌, ◌^◌, List, length, None, Some, IfSome, ap, subst, arith, length-append}
 use Rattle.std.specs.declared.option.Option.{Option}
 use Rattle.std.specs.Str.{IsUtf8}
 use Rattle.squawk_stream.specs.Faults.{Rose}
 use Rattle.squawk_stream.specs.Reading.{Took}
-use Rattle.squawk_words.specs.Config.{IsAccepted}
+use Rattle.squawk_words.specs.Choices.{IsAccepted}
 use Rattle.sql_token.specs.Token.{Text, Lexed}
 use Rattle.sql_token.proofs.TokenLaws as tokens
-use Rattle.sql_tree.specs.Statement.{IsValid, IsTree}
+use Rattle.sql_tree.specs.Statement.{IsValid}
 use Rattle.sql_tree.proofs.TreeLaws as tree
 use Rattle.squawk_cli.specs.Outcome.{WordsFor, ReadFor, InputFor, SourceCause, SinkCause, IsDone}
 use Rattle.squawk_cli.specs.declared.status.Status.{Status}

@@ -6,10 +6,11 @@ use Rattle.std.specs.Io.KnownBytes.{Appends, Consumes, IsAtEnd}
 use Rattle.squawk_stream.specs.Parts.{AppendsPart}
 use Rattle.lint_base.specs.declared.violation.Violation.{Violation}
 use Rattle.squawk_print.specs.Printed.{printed}
-use Rattle.squawk_words.specs.declared.config.Config.{Config}
-use Rattle.squawk_words.specs.Config.{config_of}
+use Rattle.squawk_linter.specs.Answers.{IsAnswer}
+use Rattle.squawk_cli.specs.declared.config.Config.{Config}
+use Rattle.squawk_cli.specs.Config.{config_of}
 use Rattle.squawk_cli.specs.Answer.{AreReports}
-use Rattle.squawk_cli.specs.Outcome.{AreFound, HasReports, AppendsReports, AppendsPartOfReports}
+use Rattle.squawk_cli.specs.Outcome.{HasReports, AppendsReports, AppendsPartOfReports}
 
 -- what holds of the input that was read to its end holds of all that was left
 pub of_input : (a b : Option (List ℕ)) (input s : List ℕ) (P : List ℕ → Type 0) → Consumes a b input → IsAtEnd b → s ≡ input → P s → IfSome a P
@@ -19,12 +20,12 @@ of_input (Some t) (Some y) input s P taken ended same h =
     subst P (same ∙ sym (taken ∙ ap (λ z. input ++ z) ended ∙ append-nil input)) h
 
 abbrev FoundBy : Config → List ℕ → List Violation → Type 0
-FoundBy config t found = AreFound config.linter.rules config.linter.settings t found
+FoundBy config t found = IsAnswer t config.linter.rules config.linter.settings found
 
 -- what the linter finds that the words name are the reports of the run
 reports_of_run : (words : List (List ℕ)) (config : Config) (t : List ℕ) (found : List Violation) → Some config ≡ config_of words
     → FoundBy config t found → AreReports words t found
-reports_of_run words config t found named are = record { config = config; named = sym named; answer = are.answer; headline = are.headline }
+reports_of_run words config t found named are = record { config = config; named = sym named; answer = are }
 
 pub no_reports : (words : List (List ℕ)) (config : Config) (t : List ℕ) (found : List Violation) → Some config ≡ config_of words
     → FoundBy config t found → found ≡ [] → AreReports words t []
@@ -35,7 +36,7 @@ pub some_reports : (words : List (List ℕ)) (config : Config) (t : List ℕ) (f
 some_reports words config t found named are some = (found, reports_of_run words config t found named are, some)
 
 pub valid_text : (config : Config) (t : List ℕ) (found : List Violation) → FoundBy config t found → IsValid t
-valid_text config t found are = (are.answer.tree, are.answer.of_text.0, are.answer.of_text.1)
+valid_text config t found are = (are.tree, are.of_text.0, are.of_text.1)
 
 pub reports_appended : (words : List (List ℕ)) (config : Config) (t : List ℕ) (found : List Violation) (old new : Option (List ℕ)) → Some config ≡ config_of words
     → FoundBy config t found → Appends old new (printed found) → AppendsReports words t old new

@@ -1,3 +1,5 @@
+pub mod Config
 pub mod Answer
 pub mod Outcome
+pub mod Headline
 pub mod StatusLine

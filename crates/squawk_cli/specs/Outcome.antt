@@ -10,11 +10,8 @@ use Rattle.sql_token.specs.Token.{OpenAt}
 use Rattle.sql_tree.specs.Statement.{IsValid, IsSyntaxAt}
 use Rattle.lint_base.specs.declared.violation.Violation.{Violation}
 use Rattle.squawk_print.specs.Printed.{printed}
-use Rattle.lint_base.specs.declared.settings.LinterSettings.{LinterSettings}
-use Rattle.lint_base.specs.RuleSets.{Rules}
-use Rattle.squawk_linter.specs.Answers.{IsAnswer}
-use Rattle.squawk_words.specs.Config.{IsAccepted}
-use Rattle.squawk_cli.specs.Answer.{AreReports, HasHeadline}
+use Rattle.squawk_words.specs.Choices.{IsAccepted}
+use Rattle.squawk_cli.specs.Answer.{AreReports}
 use Rattle.squawk_cli.specs.declared.status.Status.{Status}
 use Rattle.squawk_cli.specs.declared.status.Status.TheVariants.{Clean, Found, BadArguments, NotUtf8, TooLong, Unterminated, Syntax, ReadFault, WriteFault, NoMemory}
 
@@ -47,11 +44,6 @@ pub record AppendsPartOfReports (words : List (List ℕ)) (t : List ℕ) (old ne
   pub violations : List Violation
   pub reports : AreReports words t violations
   pub appended : AppendsPart old new (printed violations)
-
--- these are the reports of a linter on the text
-pub record AreFound (rules : Rules) (settings : LinterSettings) (t : List ℕ) (violations : List Violation) : Type 0 where
-  pub answer : IsAnswer t rules settings violations
-  pub headline : HasHeadline t rules settings violations
 
 -- what the whole input is
 abbrev pub InputFor : Status → List (List ℕ) → List ℕ → Type 0

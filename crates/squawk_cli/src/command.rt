@@ -4,17 +4,20 @@ ghost use Rattle.std.specs.Str.{IsUtf8};
 ghost use Rattle.std.specs.Io.KnownBytes.{Appends};
 ghost use Rattle.squawk_stream.specs.Faults.{Rose};
 ghost use Rattle.squawk_stream.specs.Parts.{AppendsPart};
-ghost use Rattle.squawk_words.specs.Config.{IsAccepted};
+ghost use Rattle.squawk_words.specs.Choices.{IsAccepted};
 ghost use Rattle.sql_tree.specs.Statement.{IsValid};
 ghost use Rattle.squawk_cli.specs.StatusLine.{line_of};
+ghost use Rattle.squawk_cli.specs.Headline.{HeadlineFor};
 ghost use Rattle.squawk_cli.specs.Outcome.{WordsFor, ReadFor, InputFor, WrittenFor, KeptFor, SourceCause, SinkCause, IsDone};
 
+use crate::config::read_words;
 use crate::input::lint_input;
 use crate::status::Status;
 use crate::status_line::say;
+use squawk_linter::laws::headline;
 use squawk_print::{WriteError, write_violations};
 use squawk_stream::{ReadError, Sink, Source, read_to_end};
-use squawk_words::{Words, read_words};
+use squawk_words::Words;
 use std::alloc::Global;
 
 /// All of a run but the line on the error sink.
@@ -62,7 +65,8 @@ fn work<S: Source, K: Sink>(alloc: Global, words: &Words, src: &mut S, out: &mut
 ///
 /// The clauses say by each status what the words and the input are (`words`, `input`), what was read and written (`read`,
 /// `unread`, `written`, `kept`), which failure a fault stands for (`source`, `sink`), and what the error sink gets
-/// (`line`, `whole_line`). Where nothing fails, a valid input is linted (`complete`); only want of memory is free.
+/// (`line`, `whole_line`). What is printed of index builds and of added constraints, `headline` says by the statements of
+/// the input alone. Where nothing fails, a valid input is linted (`complete`); only running out of memory is free.
 pub fn run<S: Source, K: Sink, E: Sink>(
     alloc: Global,
     words: &Words,
@@ -75,6 +79,7 @@ pub fn run<S: Source, K: Sink, E: Sink>(
     ensures read { ReadFor result (S.left src.old) (S.left src.new) }
     ensures input { IfSome (S.left src.old) (λ t. InputFor result words.now t) }
     ensures written { IfSome (S.left src.old) (λ t. WrittenFor result words.now t (K.held out.old) (K.held out.new)) }
+    ensures headline { IfSome (S.left src.old) (λ t. HeadlineFor result words.now t (K.held out.old) (K.held out.new)) }
     ensures kept { KeptFor result (K.held out.old) (K.held out.new) }
     ensures source { SourceCause result (S.faults src.old) (S.faults src.new) }
     ensures sink { SinkCause result (K.faults out.old) (K.faults out.new) }
@@ -85,6 +90,7 @@ pub fn run<S: Source, K: Sink, E: Sink>(
         → ¬ (Rose (K.faults out.old) (K.faults out.new))
         → IfSome (S.left src.old) (λ t. IsUtf8 t → IsValid t → IsDone result) }
 {
+    headline();
     let status = work(alloc, words, src, out);
     say(err, &status);
     status

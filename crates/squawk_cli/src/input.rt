@@ -1,7 +1,8 @@
 //! From the bytes of an input to its reports.
 ghost use Rattle.std.specs.Prelude.{◌<◌, ◌^◌, length, IfOk, IfErr};
 ghost use Rattle.std.specs.Str.{IsUtf8};
-ghost use Rattle.squawk_cli.specs.Outcome.{AreFound, RefusalFits};
+ghost use Rattle.squawk_linter.specs.Answers.{IsAnswer};
+ghost use Rattle.squawk_cli.specs.Outcome.{RefusalFits};
 
 use crate::status::Status;
 use lint_base::Violation;
@@ -11,7 +12,7 @@ use std::alloc::Global;
 
 fn lint_short(alloc: Global, linter: &mut Linter, text: &str) -> Result<Vec<Violation>, Status>
     requires { length text.now < 2 ^ 32 }
-    ensures found { IfOk result (λ v. AreFound linter.old.rules linter.old.settings text.now v.items) }
+    ensures found { IfOk result (λ v. IsAnswer text.now linter.old.rules linter.old.settings v.items) }
     ensures refusal { IfErr result (λ s. IsUtf8 text.now → RefusalFits s text.now) }
 {
     match lint_text(linter, alloc, text) {
@@ -31,7 +32,7 @@ pub(crate) fn lint_input(
 ) -> Result<Vec<Violation>, Status>
     requires { length input.now < 2 ^ 32 }
     ensures utf8 { IfOk result (λ _. IsUtf8 input.now) }
-    ensures found { IfOk result (λ v. AreFound linter.old.rules linter.old.settings input.now v.items) }
+    ensures found { IfOk result (λ v. IsAnswer input.now linter.old.rules linter.old.settings v.items) }
     ensures refusal { IfErr result (λ s. RefusalFits s input.now) }
 {
     match simdutf8::compat::from_utf8(input) {

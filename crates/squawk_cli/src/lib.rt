@@ -3,15 +3,17 @@
 #![tactic(auto)]
 
 mod command;
+mod config;
 mod input;
 mod status;
 mod status_line;
 
 pub use command::run;
+pub use config::{Config, read_words};
 pub use squawk_print::{WriteError, print_violations, printed_form_is_exact, write_violations};
 pub use squawk_stream::{
     Failed, MemSink, MemSource, Sink, SliceSource, Source, StdSink, StdSource,
 };
-pub use squawk_words::{Config, Words, read_words};
+pub use squawk_words::Words;
 pub use status::Status;
 pub use status_line::say;

@@ -54,7 +54,7 @@ gathered_none tree x rules old now reports ignores more empty =
     let all : now.reports ≡ with_unknown_names tree x = ap (λ (l : Lists). l.reports) whole ∙ ap (λ (vs : List Violation). vs ++ (found_in tree).reports) reports in
     all ∙ sym (gathered_plain tree (with_unknown_names tree x) rules none)
 
--- ---- where reports stand
+-- ---- where reports are there
 
 -- the range of a report passes
 abbrev pub OnRange : (Range → Type 0) → Violation → Type 0

@@ -25,11 +25,17 @@ pub record IsAnswer (t : Text) (rules : Rules) (settings : LinterSettings) (v : 
 abbrev pub ClearedFor : Text → LinterSettings → LinterSettings → Type 0
 ClearedFor t old new = (tree : Tree) → IsTreeOf t tree → new ≡ cleared tree old
 
--- What an answer leaves of the settings: after an answer they are cleared; where memory ran out they are as before or
--- cleared; after each other refusal they are as before.
+-- the text has a tree, and the settings are as an answer for it leaves them
+pub record IsClearedBy (t : Text) (old new : LinterSettings) : Type 0 where
+  pub tree : Tree
+  pub of_text : IsTreeOf t tree
+  pub cleared : new ≡ cleared tree old
+
+-- What an answer leaves of the settings: after an answer they are cleared; where memory ran out they are as before, or the
+-- text has a tree and they are cleared; after each other refusal they are as before.
 abbrev pub SettingsAfter : {X : Type 0} → Text → LinterSettings → LinterSettings → Result X LintError → Type 0
 SettingsAfter t old new (Ok v) = ClearedFor t old new
-SettingsAfter t old new (Err NoMemory) = (new ≡ old) ⊎ ClearedFor t old new
+SettingsAfter t old new (Err NoMemory) = (new ≡ old) ⊎ IsClearedBy t old new
 SettingsAfter t old new (Err TooLong) = new ≡ old
 SettingsAfter t old new (Err (Unterminated at)) = new ≡ old
 SettingsAfter t old new (Err (Syntax at)) = new ≡ old

@@ -1,9 +1,8 @@
--- What two rules report of a text without ignore comments, told by its statements alone: index builds that block writes
+-- What two rules report of a text without ignore comments, known by its statements alone: index builds that block writes
 -- (PostgreSQL manual, CREATE INDEX, "Building Indexes Concurrently"), and constraints for which a table is scanned while
 -- it is locked (ALTER TABLE, "ADD table_constraint [ NOT VALID ]"), except on tables that the same open transaction creates.
-use Rattle.std.specs.Prelude.{◌≡◌, ℕ, ◌+◌, Bool, true, false, ◌&&◌, not, All, List, [], ◌∷◌, ◌++◌, Option, Some, None, codes, filter, length, map, if◌then◌else◌}
-use Rattle.std.specs.List.{flat_map}
-use Rattle.std.specs.Str.{bytes_eq}
+use Rattle.std.specs.Prelude.{◌≡◌, ℕ, ◌+◌, Bool, true, false, ◌==◌, ◌&&◌, not, All, List, [], ◌∷◌, ◌++◌, Option, Some, None, filter, length, map, if◌then◌else◌}
+use Rattle.std.specs.List.{flat_map, list_any}
 use Rattle.sql_token.specs.declared.token.Span.{Span}
 use Rattle.sql_tree.specs.declared.kinds.ActionKind.{ActionKind}
 use Rattle.sql_tree.specs.declared.kinds.ActionKind.TheVariants.{AddConstraint}
@@ -14,6 +13,7 @@ use Rattle.sql_tree.specs.declared.nodes.Body.{Body}
 use Rattle.sql_tree.specs.declared.nodes.Body.TheVariants as body
 use Rattle.sql_tree.specs.declared.nodes.Constraint.{Constraint}
 use Rattle.sql_tree.specs.declared.nodes.Stmt.{Stmt}
+use Rattle.sql_tree.specs.Nodes.{actions_in}
 use Rattle.sql_tree.specs.Path.{path_cuts}
 use Rattle.sql_tree.specs.Range.{span_range_of, stmt_range_of}
 use Rattle.sql_tree.specs.Statement.{Tree}
@@ -23,8 +23,8 @@ use Rattle.lint_base.specs.declared.rule.Rule.TheVariants as rule
 use Rattle.lint_base.specs.declared.violation.Violation.{Violation}
 use Rattle.lint_base.specs.RuleSets.{Rules, has}
 use Rattle.lint_ignore.specs.Comment.{ignore_in_token}
-use Rattle.lint_track.specs.Earlier.{pieces_below}
-use Rattle.lint_track.specs.Transaction.{stmt_at, is_new}
+use Rattle.lint_transaction.specs.Earlier.{pieces_below}
+use Rattle.lint_transaction.specs.Transaction.{stmt_at, is_new}
 use Rattle.squawk_linter.specs.ByStart.{by_key}
 
 -- a rule and where it is broken
@@ -95,18 +95,24 @@ headline_reports tree rules assumed =
 
 -- ---- in the answer of a linter
 
--- The report of an added constraint has this message; a VALIDATE CONSTRAINT is reported by the same rule with another.
-abbrev pub addition_message : List ℕ
-addition_message = codes "by default new constraints require a table scan and block writes to the table while that scan occurs"
+abbrev pub same_range : Range → Range → Bool
+same_range a b = a.start == b.start && a.end == b.end
 
-abbrev pub is_told : Rule → List ℕ → Bool
-is_told rule.RequireConcurrentIndexCreation message = true
-is_told rule.ConstraintMissingNotValid message = bytes_eq message addition_message
-is_told _ message = false
+-- the statement is an ALTER TABLE with an action on this range that adds a constraint
+abbrev pub adds_on : Tree → Range → Stmt → Bool
+adds_on tree range s =
+    is_alter_table s.kind && list_any (λ a. is_adding a.kind && same_range (span_range_of tree.toks a.first a.last) range) (actions_in s.body)
+
+-- The report is of an index build or of an added constraint. The rule on constraints also reports a VALIDATE CONSTRAINT,
+-- which is on the range of another action.
+abbrev pub is_in_headline : Tree → Rule → Range → Bool
+is_in_headline tree rule.RequireConcurrentIndexCreation range = true
+is_in_headline tree rule.ConstraintMissingNotValid range = list_any (adds_on tree range) tree.stmts
+is_in_headline tree _ range = false
 
 -- the reports of index builds and of added constraints among some reports, each by its rule and its range
-abbrev pub headline_of : List Violation → List Entry
-headline_of v = map (λ r. (r.code, r.text_range)) (filter (λ r. is_told r.code r.message) v)
+abbrev pub headline_of : Tree → List Violation → List Entry
+headline_of tree v = map (λ r. (r.code, r.text_range)) (filter (λ r. is_in_headline tree r.code r.text_range) v)
 
 -- no token is an ignore comment
 abbrev pub HasNoIgnoreComment : Tree → Type 0

@@ -1,22 +1,23 @@
 -- Laws of what a linter answers.
-use Rattle.std.specs.Prelude.{◌≡◌, ◌≢◌, ℕ, true, false, List, [], filter}
+use Rattle.std.specs.Prelude.{◌≡◌, ◌≢◌, ℕ, true, false, All, List, []}
 use Rattle.sql_token.specs.Token.{Text}
-use Rattle.sql_tree.specs.Statement.{Tree}
+use Rattle.sql_tree.specs.Statement.{Tree, IsTree}
 use Rattle.lint_base.specs.declared.rule.Rule.{Rule}
+use Rattle.lint_base.specs.declared.rule.Rule.TheVariants as rule
 use Rattle.lint_base.specs.declared.settings.LinterSettings.{LinterSettings}
 use Rattle.lint_base.specs.declared.violation.Violation.{Violation}
-use Rattle.lint_base.specs.RuleNames.{same_rule}
-use Rattle.lint_base.specs.RuleSets.{Rules, with_rule}
+use Rattle.lint_base.specs.RuleSets.{Rules, has, with_rule}
 use Rattle.lint_ignore.specs.declared.ignore.Ignore.{Ignore}
 use Rattle.lint_ignore.specs.declared.ignore.IgnoreKind.TheVariants.{Line}
 use Rattle.lint_ignore.specs.Covered.{covers}
 use Rattle.lint_ignore.specs.Found.{found_in}
 use Rattle.squawk_linter.specs.Answers.{reports}
 use Rattle.squawk_linter.specs.Headline.{HasNoIgnoreComment, headline_of, headline_reports}
+use Rattle.lint_pass.specs.Laws.{StandsIn, reports_by}
 use Rattle.pass_groups.specs.OwnTable.{own_table}
-use Rattle.squawk_linter.specs.Reports.{cleared, has_bare_file_ignore, reports_from}
+use Rattle.squawk_linter.specs.Reports.{cleared, has_bare_file_ignore, reports_from, with_unknown_names}
 
--- The settings that a linter keeps behind its first answer give the same answer again.
+-- The settings that a linter keeps after its first answer give the same answer again.
 abbrev pub SecondAnswer : Type 0
 SecondAnswer = (tree : Tree) (rules : Rules) (settings : LinterSettings) → reports tree rules (cleared tree settings) ≡ reports tree rules settings
 
@@ -28,16 +29,32 @@ BareLineCoversNothing = (text : Text) (line : ℕ) (rule : Rule) (g : Ignore) �
 abbrev pub BareFileLeavesNothing : Type 0
 BareFileLeavesNothing = (tree : Tree) (x : List Violation) (rules : Rules) → has_bare_file_ignore (found_in tree).ignores ≡ true → reports_from tree x rules ≡ []
 
--- the reports of a rule
-abbrev pub reports_by : Rule → List Violation → List Violation
-reports_by r v = filter (λ x. same_rule r x.code) v
+-- what a pass reports for a tree, rules and settings
+abbrev pub Table : Type 0
+Table = Tree → Rules → LinterSettings → List Violation
 
--- One more rule changes no other rule's reports, before any is left out for an ignore comment.
+-- the same of one pass
+abbrev pub RulesApartIn : Table → Type 0
+RulesApartIn table = (tree : Tree) (rules : Rules) (settings : LinterSettings) (r q : Rule) → q ≢ r
+    → reports_by q (table tree (with_rule rules r) settings) ≡ reports_by q (table tree rules settings)
+
+-- each report of a pass, and each edit of its fix, is at a place of the text
+abbrev pub AllPlaced : Tree → Table → Type 0
+AllPlaced tree table = (rules : Rules) (settings : LinterSettings) → All (StandsIn tree) (table tree rules settings)
+
+-- a pass of other rules reports nothing of the headline
+abbrev pub NotInHeadline : Rules → Table → Type 0
+NotInHeadline mine table =
+    has mine rule.RequireConcurrentIndexCreation ≡ false → has mine rule.ConstraintMissingNotValid ≡ false
+    → (tree : Tree) (rules : Rules) (settings : LinterSettings) → headline_of tree (table tree rules settings) ≡ []
+
+-- One more rule changes no other rule's reports, those of unknown names in ignore comments among them, before any is left
+-- out for an ignore comment.
 abbrev pub RulesApart : Type 0
 RulesApart = (tree : Tree) (rules : Rules) (settings : LinterSettings) (r q : Rule) → q ≢ r
-    → reports_by q (own_table tree (with_rule rules r) settings) ≡ reports_by q (own_table tree rules settings)
+    → reports_by q (with_unknown_names tree (own_table tree (with_rule rules r) settings)) ≡ reports_by q (with_unknown_names tree (own_table tree rules settings))
 
 -- Without ignore comments the answer has exactly the index builds and the added constraints of the headline.
-abbrev pub HeadlineStands : Type 0
-HeadlineStands = (tree : Tree) (rules : Rules) (settings : LinterSettings) → HasNoIgnoreComment tree
-    → headline_of (reports tree rules settings) ≡ headline_reports tree rules (cleared tree settings).assume_in_transaction
+abbrev pub HeadlineHolds : Type 0
+HeadlineHolds = (tree : Tree) (rules : Rules) (settings : LinterSettings) → IsTree tree → HasNoIgnoreComment tree
+    → headline_of tree (reports tree rules settings) ≡ headline_reports tree rules (cleared tree settings).assume_in_transaction

@@ -1,4 +1,3 @@
-pub mod RuleChoice
 pub mod ByStart
 pub mod Reports
 pub mod Answers

@@ -116,7 +116,7 @@ fn by_start(mut reports: Vec<Violation>) -> Result<Vec<Violation>, NoMemory>
     Ok(reports)
 }
 
-/// The answer for some reports of a tree, whose text is `text`. The error is want of memory.
+/// The answer for some reports of a tree, whose text is `text`. The error comes when memory runs out.
 pub(crate) fn answer(
     alloc: Global,
     file: &Parse<'_>,

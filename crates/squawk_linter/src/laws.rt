@@ -1,6 +1,17 @@
 //! Laws of what a linter answers.
 
-ghost use Rattle.squawk_linter.specs.Laws.{BareFileLeavesNothing, BareLineCoversNothing, HeadlineStands, RulesApart, SecondAnswer};
+ghost use Rattle.lint_base.specs.declared.settings.LinterSettings.{LinterSettings};
+ghost use Rattle.lint_base.specs.RuleSets.{Rules};
+ghost use Rattle.lint_pass.specs.Ranges.{AllLieIn};
+ghost use Rattle.squawk_linter.specs.Laws.{AllPlaced, BareFileLeavesNothing, BareLineCoversNothing, HeadlineHolds, NotInHeadline, RulesApart, RulesApartIn, SecondAnswer};
+
+use lint_pass::{Pair, StepPass};
+use pass_compat::{RenamingColumn, RenamingTable};
+use pass_drop::{BanDropColumn, BanDropNotNull, BanDropTable};
+use pass_groups::{Group1, Group4, Group5, Group6, Group7, Group8, OwnPasses};
+use pass_type::ChangingColumnType;
+use sql_law::laws::starts_ascend;
+use sql_tree::Parse;
 
 /// A linter gives the same answer for a tree again, since it is left with the rules and with the
 /// settings that it was asked with, the flag cleared.
@@ -14,12 +25,69 @@ pub fn bare_ignores()
     ensures file { BareFileLeavesNothing }
 {}
 
-/// One more rule changes no other rule's reports, before any is left out for an ignore comment.
+/// One more rule changes no other rule's reports, of any pass.
+fn apart<P: StepPass>(_pass: &P)
+    ensures { RulesApartIn (P.table _pass.now) }
+{}
+
+/// One more rule changes no other rule's reports, those of unknown names in ignore comments among
+/// them, before any is left out for an ignore comment.
 pub fn rules_apart()
     ensures { RulesApart }
+{
+    apart(&OwnPasses)
+}
+
+/// Each report of a pass, and each edit of its fix, is at a place of the text. So the reports lie in the text, as
+/// [`crate::Linter::lint_with`] asks.
+pub fn placed<P: StepPass>(file: &Parse<'_>, _pass: &P)
+    ensures placed { AllPlaced file.now (P.table _pass.now) }
+    ensures lie { (rules : Rules) (settings : LinterSettings) → AllLieIn file.now (P.table _pass.now file.now rules settings) }
+{
+    let _text = file.text();
+}
+
+/// A pass of other rules reports nothing of the headline.
+fn not_in_headline<P: StepPass>(_pass: &P)
+    ensures { NotInHeadline (P.own _pass.now) (P.table _pass.now) }
 {}
+
+/// The passes before the one on added constraints in its group.
+type BeforeConstraints = Pair<
+    Pair<BanDropColumn, BanDropNotNull>,
+    Pair<BanDropTable, ChangingColumnType>,
+>;
+
+const BEFORE_CONSTRAINTS: BeforeConstraints = Pair {
+    first: Pair {
+        first: BanDropColumn,
+        second: BanDropNotNull,
+    },
+    second: Pair {
+        first: BanDropTable,
+        second: ChangingColumnType,
+    },
+};
+
+/// The passes before the one on index builds in its group.
+type BeforeBuilds = Pair<RenamingColumn, RenamingTable>;
+
+const BEFORE_BUILDS: BeforeBuilds = Pair {
+    first: RenamingColumn,
+    second: RenamingTable,
+};
 
 /// What the rules on index builds and on added constraints answer for a tree without ignore comments.
 pub fn headline()
-    ensures { HeadlineStands }
-{}
+    ensures { HeadlineHolds }
+{
+    starts_ascend();
+    not_in_headline(&Group1);
+    not_in_headline(&BEFORE_CONSTRAINTS);
+    not_in_headline(&BEFORE_BUILDS);
+    not_in_headline(&Group4);
+    not_in_headline(&Group5);
+    not_in_headline(&Group6);
+    not_in_headline(&Group7);
+    not_in_headline(&Group8)
+}

@@ -1,8 +1,8 @@
 //! The linter: which rules it has, what it is told, and what it answers.
 //!
-//! `specs/` says what each call means: `RuleChoice` says which rules a linter has, `Reports` what is answered for some
-//! reports, `Answers` what the linter answers, `Headline` what two of its rules answer, told without the passes, and
-//! `Laws` laws of all this. What the passes report, `pass_groups` says.
+//! `specs/` says what each call means: `Reports` what is answered for some reports, `Answers` what the linter answers,
+//! `Headline` what two of its rules answer, said without the passes, and `Laws` laws of all this. Which rules a linter has,
+//! `RuleChoice` of `lint_base` says, and what the passes report, `pass_groups`.
 #![tactic(auto)]
 
 mod answer;

@@ -7,11 +7,11 @@ ghost use Rattle.lint_ignore.specs.Places.{IsPlace};
 ghost use Rattle.lint_pass.specs.Cleared.{IsCleared};
 ghost use Rattle.lint_pass.specs.Ranges.{AllLieIn};
 ghost use Rattle.squawk_linter.specs.Answers.{IsAnswer, SettingsAfter, reports};
-ghost use Rattle.pass_groups.specs.OwnTable.{own_table};
 ghost use Rattle.squawk_linter.specs.Headline.{HasNoIgnoreComment, headline_of, headline_reports};
 ghost use Rattle.squawk_linter.specs.Reports.{cleared, reports_from};
 
 use crate::answer::answer;
+use crate::laws::{headline, placed};
 use crate::linter::Linter;
 use lint_base::{LinterSettings, Reports, RuleSet, Violation};
 use lint_ignore::has_disable_assume_in_transaction;
@@ -69,41 +69,11 @@ impl Linter {
         answer(alloc, file, text, &self.rules, found)
     }
 
-    // Lints a tree, whose text is `text`, with the linter's own passes, and counts the steps.
-    fn lint_own<L: Ledger>(
-        &mut self,
-        alloc: Global,
-        file: &Parse<'_>,
-        text: &str,
-        steps: &mut Steps<L>,
-    ) -> Result<Vec<Violation>, NoMemory>
-        requires text { text.now ≡ file.now.text }
-        requires tree { IsTree file.now }
-        requires lie { AllLieIn file.now (own_table file.now self.old.rules (cleared file.now self.old.settings)) }
-        ensures ok { IfOk result (λ v. v.items ≡ reports file.now self.old.rules self.old.settings) }
-        ensures rules { self.new.rules ≡ self.old.rules }
-        ensures settings { self.new.settings ≡ cleared file.now self.old.settings }
-        ensures steps { steps.new ≤ steps.old + 2 * length file.now.stmts }
-    {
-        clear(file, &mut self.settings);
-        let mut found = Reports::new(alloc);
-        drive(
-            alloc,
-            &OwnPasses,
-            file,
-            &self.rules,
-            &self.settings,
-            &mut found,
-            steps,
-        )?;
-        answer(alloc, file, text, &self.rules, found)
-    }
-
     /// Lints a tree with a pass in place of the linter's own ones. Before, it clears the flag of the
     /// settings where a comment says that no open transaction is to be assumed; it changes nothing
     /// else of the linter, and also clears the flag where it fails.
     ///
-    /// The error is want of memory.
+    /// The error comes when memory runs out.
     pub fn lint_with<P: Pass>(
         &mut self,
         alloc: Global,
@@ -122,13 +92,14 @@ impl Linter {
     /// comment says that no open transaction is to be assumed; it changes nothing else of the
     /// linter, and also clears the flag where it fails.
     ///
-    /// The error is want of memory.
+    /// The error comes when memory runs out.
     pub fn lint(&mut self, alloc: Global, file: &Parse<'_>) -> Result<Vec<Violation>, NoMemory>
         ensures ok { IfOk result (λ v. v.items ≡ reports file.now self.old.rules self.old.settings) }
         ensures places { IfOk result (λ v. All (λ r. IsPlace file.now.text r.text_range) v.items) }
         ensures rules { self.new.rules ≡ self.old.rules }
         ensures settings { self.new.settings ≡ cleared file.now self.old.settings }
     {
+        placed(file, &OwnPasses);
         self.lint_by(alloc, file, file.text(), &OwnPasses)
     }
 
@@ -145,14 +116,27 @@ impl Linter {
         ensures settings { self.new.settings ≡ cleared file.now self.old.settings }
         ensures steps { steps.new ≤ steps.old + 2 * length file.now.stmts }
     {
-        self.lint_own(alloc, file, file.text(), steps)
+        placed(file, &OwnPasses);
+        let text = file.text();
+        clear(file, &mut self.settings);
+        let mut found = Reports::new(alloc);
+        drive(
+            alloc,
+            &OwnPasses,
+            file,
+            &self.rules,
+            &self.settings,
+            &mut found,
+            steps,
+        )?;
+        answer(alloc, file, text, &self.rules, found)
     }
 }
 
 /// Reads a text and lints it.
 ///
 /// `TooLong`, `Unterminated` and `Syntax` come as [`parse`] gives them, and leave the linter as it
-/// was; `NoMemory` comes for want of memory.
+/// was; `NoMemory` comes because memory ran out.
 pub fn lint_text(
     linter: &mut Linter,
     alloc: Global,
@@ -161,7 +145,7 @@ pub fn lint_text(
     ensures ok { IfOk result (λ v. IsAnswer text.now linter.old.rules linter.old.settings v.items) }
     ensures err { IfErr result (IsCause text.now) }
 
-    // Want of memory is the one answer whose coming is left open.
+    // Running out of memory is the one answer whose coming is left open.
     ensures too_long { (result ≡ Err LintError.TooLong) ↔ (2 ^ 32 ≤ length text.now) }
     ensures valid { (tree : Tree) → IsTreeOf text.now tree
         → OkOrNoMemory result (λ v. v.items ≡ reports tree linter.old.rules linter.old.settings) }
@@ -171,12 +155,13 @@ pub fn lint_text(
 
     // What the rules on index builds and on added constraints say of a text without ignore comments.
     ensures headline { IfOk result (λ v. (tree : Tree) → IsTreeOf text.now tree → HasNoIgnoreComment tree
-        → headline_of v.items ≡ headline_reports tree linter.old.rules (cleared tree linter.old.settings).assume_in_transaction) }
+        → headline_of tree v.items ≡ headline_reports tree linter.old.rules (cleared tree linter.old.settings).assume_in_transaction) }
     ensures places { IfOk result (λ v. All (λ r. IsPlace text.now r.text_range) v.items) }
 
     ensures rules { linter.new.rules ≡ linter.old.rules }
     ensures settings { SettingsAfter text.now linter.old.settings linter.new.settings result }
 {
+    headline();
     let file = parse(alloc, text)?;
     match linter.lint(alloc, &file) {
         Ok(reports) => Ok(reports),

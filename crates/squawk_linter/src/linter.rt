@@ -1,9 +1,9 @@
 //! The linter, and the rules that it is made with.
-ghost use Rattle.std.specs.Prelude.{◌≡◌, [], not, fold, filter};
+ghost use Rattle.std.specs.Prelude.{◌≡◌, [], not};
 ghost use Rattle.lint_base.specs.declared.rule.Rule.{Rule};
-ghost use Rattle.lint_base.specs.RuleSets.{default_rules, has, with_rule, without_rule};
-ghost use Rattle.lint_base.specs.Rules.{expansion_of, is_opt_in};
-ghost use Rattle.squawk_linter.specs.RuleChoice.{is_alias, is_chosen, is_named, rules_that, with_expansions};
+ghost use Rattle.lint_base.specs.RuleChoice.{is_chosen, is_named, rules_that};
+ghost use Rattle.lint_base.specs.RuleSets.{default_rules, has};
+ghost use Rattle.lint_base.specs.Rules.{is_opt_in};
 
 use lint_base::{LinterSettings, Rule, RuleSet};
 
@@ -37,11 +37,10 @@ impl Linter {
         ensures none { include.now ≡ [] → exclude.now ≡ [] → result.rules ≡ default_rules }
         ensures settings { result.settings ≡ settings }
     {
-        let mut rules = RuleSet::all_default();
-        insert_all(&mut rules, include);
-        remove_all(&mut rules, exclude);
-        remove_aliases(&mut rules, &Rule::ALL);
-        Linter { rules, settings }
+        Linter {
+            rules: RuleSet::chosen(include, exclude),
+            settings,
+        }
     }
 
     /// A linter with these rules, aliases too, and what they stand for. It takes no memory.
@@ -50,60 +49,9 @@ impl Linter {
         ensures rules { (r : Rule) → has result.rules r ≡ is_named rules.now r }
         ensures settings { result.settings ≡ settings }
     {
-        let mut set = RuleSet::empty();
-        insert_all(&mut set, rules);
         Linter {
-            rules: set,
+            rules: RuleSet::named(rules),
             settings,
-        }
-    }
-}
-
-// Puts the rules of a list and what they stand for into a set.
-fn insert_all(set: &mut RuleSet, rules: &[Rule])
-    ensures { set.new ≡ fold with_rule set.old (with_expansions rules.now) }
-{
-    for rule in rules {
-        insert(set, *rule);
-    }
-}
-
-// Puts a rule and what it stands for into a set.
-fn insert(set: &mut RuleSet, rule: Rule)
-    ensures { set.new ≡ fold with_rule (with_rule set.old rule) (expansion_of rule) }
-{
-    set.insert(rule);
-    for other in rule.expands_to() {
-        set.insert(*other);
-    }
-}
-
-// Takes the rules of a list and what they stand for out of a set.
-fn remove_all(set: &mut RuleSet, rules: &[Rule])
-    ensures { set.new ≡ fold without_rule set.old (with_expansions rules.now) }
-{
-    for rule in rules {
-        remove(set, *rule);
-    }
-}
-
-// Takes a rule and what it stands for out of a set.
-fn remove(set: &mut RuleSet, rule: Rule)
-    ensures { set.new ≡ fold without_rule (without_rule set.old rule) (expansion_of rule) }
-{
-    set.remove(rule);
-    for other in rule.expands_to() {
-        set.remove(*other);
-    }
-}
-
-// Takes the aliases of a list out of a set.
-fn remove_aliases(set: &mut RuleSet, rules: &[Rule])
-    ensures { set.new ≡ fold without_rule set.old (filter is_alias rules.now) }
-{
-    for rule in rules {
-        if !rule.expands_to().is_empty() {
-            set.remove(*rule);
         }
     }
 }

@@ -1,7 +1,7 @@
 -- Escaped texts: those without special bytes stay, and no two texts are escaped alike.
 use Rattle.std.proofs.Common.{◌≡◌, ◌∙◌, ℕ, Bool, true, false, ◌&&◌, List, [], ◌∷◌, ◌++◌, refl, ap, sym, append_assoc, arith, if◌then◌else◌}
 use Rattle.std.specs.List.{list_all}
-use Rattle.squawk_print.specs.Plain.{is_plain}
+use Rattle.lint_base.specs.PlainBytes.{is_plain}
 use Rattle.squawk_print.specs.Escaped.{letter_of, escaped_byte, escaped}
 
 both_of_and : (a b : Bool) → (a && b) ≡ true → (a ≡ true) × (b ≡ true)
@@ -31,7 +31,7 @@ by_plain x y false false r s hx hy e = let k : letter_of x ≡ letter_of y = cc 
 byte_cut : (x y : ℕ) (r s : List ℕ) → escaped_byte x ++ r ≡ escaped_byte y ++ s → (x ≡ y) × (r ≡ s)
 byte_cut x y r s e = by_plain x y (is_plain x) (is_plain y) r s refl refl e
 
--- a byte that no escaped text holds but behind a backslash
+-- a byte that no escaped text holds but after a backslash
 abbrev pub IsEnd : ℕ → Type 0
 IsEnd c = (is_plain c ≡ false) × (c ≡ 92 → ⊥)
 

@@ -18,7 +18,7 @@ part_but a b kept bs p = record { put = p.put; rest = kept; is = p.is; appended 
 pub but_none : (a : Option (List ℕ)) (bs : List ℕ) → AppendsBut a a bs bs
 but_none a bs = record { put = []; is = cc; appended = Appends-nil a }
 
--- more behind what is kept
+-- more after what is kept
 pub but_more : (a b : Option (List ℕ)) (kept bs xs : List ℕ) → AppendsBut a b kept bs → AppendsBut a b (kept ++ xs) (bs ++ xs)
 but_more a b kept bs xs p = record {
   put = p.put;
@@ -44,7 +44,7 @@ pub all_after_but : {T E : Type 0} (r : Result T E) (a b c : Option (List ℕ)) 
 all_after_but (Ok x) a b c kept bs p q = subst (Appends a c) p.is (Appends-trans a b c p.put kept p.appended q)
 all_after_but (Err e) a b c kept bs p q = tt
 
--- a report behind what is kept, and then those behind it
+-- a report after what is kept, and then those after it
 each_from : (vs : List Violation) (i : ℕ) (v : Violation) (kept : List ℕ) → i < length vs → v ≡ get_or vs i v
     → (kept ++ printed_violation v) ++ printed_each (drop (i + 1) vs) ≡ kept ++ printed_each (drop i vs)
 each_from vs i v kept h e =

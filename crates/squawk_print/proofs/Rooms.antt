@@ -2,7 +2,7 @@
 use Rattle.std.proofs.Common.{ℕ, ◌*◌, ◌<◌, ◌≤◌, ◌^◌, Bool, true, false, List, [], ◌∷◌, length, length-append, decimal, codes, arith, if◌then◌else◌}
 use Rattle.std.proofs.lemmas.Fmt.{length-decimal-le}
 use Rattle.squawk_print.specs.Escaped.{escaped, escaped_byte, letter_of}
-use Rattle.squawk_print.specs.Plain.{is_plain}
+use Rattle.lint_base.specs.PlainBytes.{is_plain}
 use Rattle.squawk_print.specs.Written.{last_line}
 
 byte_long : (b : ℕ) (p : Bool) → length (if p then b ∷ [] else 92 ∷ letter_of b ∷ []) ≤ 2

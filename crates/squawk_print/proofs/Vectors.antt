@@ -5,7 +5,7 @@ use Rattle.std.proofs.lemmas.List.{length-map, take_all}
 use Rattle.std.proofs.lemmas.List.Folds.{list_all-append}
 use Rattle.std.proofs.Math.Seq.{take-add}
 use Rattle.std.specs.List.{list_all}
-use Rattle.squawk_print.specs.Plain.{is_plain}
+use Rattle.lint_base.specs.PlainBytes.{is_plain}
 use Rattle.std.specs.Simd.Lanes.{zip2, mask_l, top}
 
 -- all bits where two bytes are equal
@@ -77,7 +77,7 @@ part_fails zero n xs h = front_fails xs n h
 part_fails (suc i) n [] h = front_fails [] n h
 part_fails (suc i) n (x ∷ xs) h = ap (λ b. is_plain x && b) (part_fails i n xs h) ∙ and_no (is_plain x)
 
--- a front that is all plain, and the part behind it
+-- a front that is all plain, and the part after it
 pub front_grows : (i n : ℕ) (xs : List ℕ) → list_all is_plain (take i xs) ≡ true → list_all is_plain (take n (drop i xs)) ≡ true
     → list_all is_plain (take (i + n) xs) ≡ true
 front_grows i n xs h k =
@@ -89,7 +89,7 @@ shorter_front (suc m) zero xs le h = absurd (omega arith)
 shorter_front (suc m) (suc n) [] le h = refl
 shorter_front (suc m) (suc n) (x ∷ xs) le h = both (is_plain x) (list_all is_plain (take n xs)) (list_all is_plain (take m xs)) h (shorter_front m n xs (omega arith))
 
--- behind a front that is all plain, no more than the last part is left
+-- after a front that is all plain, no more than the last part is left
 pub last_tells : (i n : ℕ) (xs : List ℕ) → list_all is_plain (take i xs) ≡ true → n ≤ length xs → length xs ≤ i + n → (b : Bool)
     → b ≡ list_all is_plain (take n (drop (length xs - n) xs)) → b ≡ list_all is_plain xs
 last_tells i n xs h few most false e = sym (part_fails (length xs - n) n xs (sym e))

@@ -1,5 +1,4 @@
 pub mod Escaped
-pub mod Plain
 pub mod Printed
 pub mod PrintedForm
 pub mod Room

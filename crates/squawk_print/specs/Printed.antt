@@ -42,7 +42,7 @@ abbrev pub printed_fix : Option FixValue → List ℕ
 printed_fix None = []
 printed_fix (Some fix) = labelled (codes "  fix: ") (Some fix.title) ++ flat_map printed_edit fix.edits
 
--- where it stands, its rule and its message
+-- where it is present, its rule and its message
 abbrev pub printed_head : Violation → List ℕ
 printed_head v = printed_range v.text_range ++ codes ": warning[" ++ name_of v.code ++ codes "]: " ++ escaped v.message ++ codes "\n"
 

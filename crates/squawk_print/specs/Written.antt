@@ -3,7 +3,7 @@ use Rattle.std.specs.Prelude.{◌≡◌, ℕ, List, ◌++◌, codes, decimal}
 use Rattle.std.specs.declared.option.Option.{Option}
 use Rattle.std.specs.Io.KnownBytes.{Appends}
 
--- the line behind the reports
+-- the line after the reports
 unfoldable pub last_line : ℕ → List ℕ
 last_line count = codes "violations: " ++ decimal count ++ codes "\n"
 

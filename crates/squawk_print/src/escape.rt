@@ -2,9 +2,10 @@
 ghost use Rattle.std.specs.Prelude.{◌≡◌, ◌≤◌, ◌++◌, length, not, vec_capacity, OnOk, OnErr};
 ghost use Rattle.std.specs.List.{list_all};
 ghost use Rattle.squawk_print.specs.Escaped.{escaped, escaped_byte, letter_of};
-ghost use Rattle.squawk_print.specs.Plain.{is_plain};
+ghost use Rattle.lint_base.specs.PlainBytes.{is_plain};
 ghost use Rattle.squawk_print.specs.Room.{LacksRoom};
 
+use lint_base::Text;
 use std::simd::prelude::*;
 use text_pos::NoMemory;
 
@@ -102,5 +103,21 @@ pub(crate) fn push_escaped(to: &mut Vec<u8>, text: &[u8]) -> Result<(), NoMemory
         Ok(())
     } else {
         push_each(to, text)
+    }
+}
+
+/// Adds a text in the same way, without a look at a text that is known to be plain.
+#[tactic(auto, using(crate::proofs::Escaping::escaped_plain))]
+pub(crate) fn push_text(to: &mut Vec<u8>, text: &Text) -> Result<(), NoMemory>
+    ensures grown { OnOk result (to.new.items ≡ to.old.items ++ escaped text.now) }
+    ensures capacity { vec_capacity to.old ≤ vec_capacity to.new }
+    ensures full { OnErr result (LacksRoom to.old (escaped text.now)) }
+{
+    let bytes = text.as_str().as_bytes();
+    if text.is_plain() {
+        to.extend_from_slice(bytes)?;
+        Ok(())
+    } else {
+        push_escaped(to, bytes)
     }
 }

@@ -6,7 +6,7 @@ ghost use Rattle.squawk_print.specs.Printed as spec;
 ghost use Rattle.squawk_print.specs.Room.{LacksRoom};
 ghost use Rattle.squawk_print.specs.Written.{last_line};
 
-use crate::escape::push_escaped;
+use crate::escape::push_text;
 use itoa::Buffer;
 use lint_base::{Edit, Fix, Text, Violation};
 use std::alloc::Global;
@@ -41,7 +41,7 @@ fn push_line(to: &mut Vec<u8>, label: &[u8], text: &Text) -> Result<(), NoMemory
     ensures full { OnErr result (LacksRoom to.old (spec.labelled label.now (Some text.now))) }
 {
     to.extend_from_slice(label)?;
-    push_escaped(to, text.as_str().as_bytes())?;
+    push_text(to, text)?;
     to.extend_from_slice(b"\n")?;
     Ok(())
 }
@@ -63,7 +63,7 @@ fn push_quoted(to: &mut Vec<u8>, text: &Text) -> Result<(), NoMemory>
     ensures full { OnErr result (LacksRoom to.old (spec.quoted text.now)) }
 {
     to.extend_from_slice(b" \"")?;
-    push_escaped(to, text.as_str().as_bytes())?;
+    push_text(to, text)?;
     to.extend_from_slice(b"\"\n")?;
     Ok(())
 }
@@ -151,7 +151,7 @@ fn push_head(to: &mut Vec<u8>, violation: &Violation) -> Result<(), NoMemory>
     to.extend_from_slice(b": warning[")?;
     to.extend_from_slice(violation.code.name().as_bytes())?;
     to.extend_from_slice(b"]: ")?;
-    push_escaped(to, violation.message.as_str().as_bytes())?;
+    push_text(to, &violation.message)?;
     to.extend_from_slice(b"\n")?;
     Ok(())
 }
@@ -192,7 +192,7 @@ pub(crate) fn push_count(to: &mut Vec<u8>, count: usize) -> Result<(), NoMemory>
     Ok(())
 }
 
-/// Prints reports, one after the other, and then their count. The bytes are UTF-8. The error is want of memory.
+/// Prints reports, one after the other, and then their count. The bytes are UTF-8. The error comes when memory runs out.
 ///
 /// Places are bytes of the text, counted from 0.
 pub fn print_violations(alloc: Global, v: &[Violation]) -> Result<Vec<u8>, NoMemory>

@@ -1,4 +1,4 @@
-//! How many bytes a printed report takes at most, told by the lengths of its texts alone.
+//! How many bytes a printed report takes at most, known by the lengths of its texts alone.
 ghost use Rattle.std.specs.Prelude.{◌≤◌, length, decimal, IfSome, Some};
 ghost use Rattle.std.specs.List.{All, flat_map};
 ghost use Rattle.squawk_print.specs.Escaped.{escaped};

@@ -55,7 +55,7 @@ fn make_way<K: Sink>(sink: &mut K, kept: &mut Vec<u8>) -> Result<(), Failed>
     }
 }
 
-/// Prints a report behind what is kept.
+/// Prints a report after what is kept.
 fn write_one<K: Sink>(sink: &mut K, kept: &mut Vec<u8>, violation: &Violation) -> Result<(), Failed>
     requires { PIECE + length (spec.printed_violation violation.now) ≤ vec_capacity kept.old }
     ensures whole { OnOk result (AppendsBut (K.held sink.old) (K.held sink.new) kept.new.items
@@ -92,7 +92,7 @@ fn write_each<K: Sink>(
     Ok(())
 }
 
-/// Prints the last line behind what is kept, and writes it all.
+/// Prints the last line after what is kept, and writes it all.
 fn write_last<K: Sink>(sink: &mut K, kept: &mut Vec<u8>, count: usize) -> Result<(), Failed>
     requires { PIECE + length (last_line count) ≤ vec_capacity kept.old }
     ensures whole { OnOk result (Appends (K.held sink.old) (K.held sink.new)
@@ -126,7 +126,7 @@ fn write_through<K: Sink>(
     write_last(sink, kept, violations.len())
 }
 
-/// An empty list with room for a piece and, behind it, for any of the reports or for the last line.
+/// An empty list with room for a piece and, after it, for any of the reports or for the last line.
 fn buffer_for(alloc: Global, violations: &[Violation]) -> Result<Vec<u8>, NoMemory>
     ensures empty { IfOk result (λ kept. kept.items ≡ []) }
     ensures each { IfOk result (λ kept.

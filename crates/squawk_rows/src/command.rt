@@ -1,104 +1,10 @@
-//! Runs of the command: what is printed, the status, and the line on the error sink.
+//! Runs of the command over sources and sinks that fail, and the line on the error sink.
 
-use crate::outcome::{ran, ran_with, told, words_of};
 use squawk_cli::{MemSink, MemSource, Source, Status, Words, run, say};
-use std::alloc::Global;
 use std::test::Fail;
 
 /// What is printed where nothing is reported.
 const NOTHING: &str = "violations: 0\n";
-
-/// The words, the text and the whole output of one run.
-const PRINTED: (&str, &str, &str) = (
-    "--only require-concurrent-index-creation",
-    "BEGIN; CREATE TABLE t (id int); COMMIT; CREATE INDEX i ON t (id);",
-    "1
-40..65: warning[require-concurrent-index-creation]: during normal index creation, table updates are blocked, but reads are still allowed
-  help: use `concurrently` to avoid blocking writes
-  fix: Add `concurrently`
-    insert 52 \" concurrently\"
-violations: 1
-",
-);
-
-/// Words and an input that are refused, the status, and the line on the error sink.
-const REFUSED: &[(&str, &[u8], Status, &str)] = &[
-    (
-        "",
-        b"/* a /* b */",
-        Status::Unterminated { at: 0 },
-        "error: unterminated at 0\n",
-    ),
-    (
-        "",
-        b"foo; 'a",
-        Status::Unterminated { at: 5 },
-        "error: unterminated at 5\n",
-    ),
-    (
-        "",
-        b"BEGIN; foo;",
-        Status::Syntax { at: 7 },
-        "error: syntax at 7\n",
-    ),
-    (
-        "",
-        b"CREATE INDEX i ON t (id); foo;",
-        Status::Syntax { at: 26 },
-        "error: syntax at 26\n",
-    ),
-    ("", b"\xff", Status::NotUtf8, "error: input is not UTF-8\n"),
-    (
-        "",
-        b"foo\xff",
-        Status::NotUtf8,
-        "error: input is not UTF-8\n",
-    ),
-    (
-        "",
-        b"BEGIN;\xc3",
-        Status::NotUtf8,
-        "error: input is not UTF-8\n",
-    ),
-    (
-        "x",
-        b"BEGIN;",
-        Status::BadArguments,
-        "error: bad arguments\n",
-    ),
-    ("x", b"\xff", Status::BadArguments, "error: bad arguments\n"),
-    ("x y", b"", Status::BadArguments, "error: bad arguments\n"),
-    (
-        "--only unused-ignore",
-        b"",
-        Status::BadArguments,
-        "error: bad arguments\n",
-    ),
-    (
-        "--only renaming-table --include ban-drop-index",
-        b"\xff",
-        Status::BadArguments,
-        "error: bad arguments\n",
-    ),
-    (
-        "--only renaming-table,",
-        b"BEGIN;",
-        Status::BadArguments,
-        "error: bad arguments\n",
-    ),
-    (
-        "--pg-major -1",
-        b"BEGIN;",
-        Status::BadArguments,
-        "error: bad arguments\n",
-    ),
-];
-
-/// How deep brackets stand in `CREATE TABLE t`, and how the run ends.
-const DEPTHS: &[(usize, Status, &str, &str)] = &[
-    (128, Status::Clean, NOTHING, ""),
-    (129, Status::Syntax { at: 0 }, "", "error: syntax at 0\n"),
-];
 
 /// Runs over `BEGIN;`: how many bytes a read gives at most and which reads fail; how many bytes the sink holds at most and
 /// which writes fail; how many bytes the error sink holds at most; then the status, and what both sinks hold.
@@ -222,52 +128,6 @@ const STATUSES: &[(Status, u8, &str)] = &[
     (Status::NoMemory, 7, "error: out of memory\n"),
 ];
 
-fn push_times(text: &mut String, piece: &str, times: usize) -> Result<(), Fail> {
-    for _ in 0..times {
-        text.push_str(piece)?;
-    }
-    Ok(())
-}
-
-// A CREATE TABLE in which round brackets stand so deep.
-fn nested(alloc: Global, depth: usize) -> Result<String, Fail> {
-    let mut text = String::from_str(alloc, "CREATE TABLE t ")?;
-    push_times(&mut text, "(", depth)?;
-    push_times(&mut text, ")", depth)?;
-    text.push_str(";")?;
-    Ok(text)
-}
-
-#[test]
-fn whole_output(rt: HostRuntime) -> Result<(), Fail> {
-    let end = ran_with(rt.alloc(), PRINTED.0, PRINTED.1.as_bytes())?;
-    assert_eq!(rt; told(rt.alloc(), &end)?.as_str(), PRINTED.2);
-    Ok(())
-}
-
-#[test]
-fn refusals(rt: HostRuntime) -> Result<(), Fail> {
-    for row in REFUSED {
-        let end = ran_with(rt.alloc(), row.0, row.1)?;
-        assert_eq!(rt; end.status, row.2);
-        assert_eq!(rt; end.out.bytes(), b"".as_slice());
-        assert_eq!(rt; end.err.bytes(), row.3.as_bytes());
-    }
-    Ok(())
-}
-
-#[test]
-fn depths(rt: HostRuntime) -> Result<(), Fail> {
-    for row in DEPTHS {
-        let text = nested(rt.alloc(), row.0)?;
-        let end = ran_with(rt.alloc(), "", text.as_bytes())?;
-        assert_eq!(rt; end.status, row.1);
-        assert_eq!(rt; end.out.bytes(), row.2.as_bytes());
-        assert_eq!(rt; end.err.bytes(), row.3.as_bytes());
-    }
-    Ok(())
-}
-
 #[test]
 fn faults(rt: HostRuntime) -> Result<(), Fail> {
     let words = Words::new(rt.alloc());
@@ -307,10 +167,13 @@ fn faults_at_a_query(rt: HostRuntime) -> Result<(), Fail> {
 // Where words are refused no read is made: the read that fails is still to come, and all bytes are left.
 #[test]
 fn nothing_is_read(rt: HostRuntime) -> Result<(), Fail> {
-    let words = words_of(rt.alloc(), "x")?;
+    let mut words = Words::new(rt.alloc());
+    words.push("x")?;
     let mut src = MemSource::new(rt.alloc(), b"BEGIN;", 100, &[0])?;
-    let end = ran(rt.alloc(), &words, &mut src)?;
-    assert_eq!(rt; end.status, Status::BadArguments);
+    let mut out = MemSink::new(rt.alloc(), 100, &[])?;
+    let mut err = MemSink::new(rt.alloc(), 100, &[])?;
+    let status = run(rt.alloc(), &words, &mut src, &mut out, &mut err);
+    assert_eq!(rt; status, Status::BadArguments);
     let mut buf = [0u8; 10];
     assert_eq!(rt; src.read(&mut buf).ok(), None);
     assert_eq!(rt; src.read(&mut buf).ok(), Some(6));

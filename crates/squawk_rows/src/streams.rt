@@ -10,7 +10,7 @@ use std::collections::VecDeque;
 use std::test::Fail;
 
 /// Reads of five bytes from a source over `abcdef`: how many bytes a call gives at most, which calls fail, how many are
-/// made, and what each gives with a comma behind it; `!` where it fails.
+/// made, and what each gives with a comma after it; `!` where it fails.
 const READS: &[(usize, &[u32], usize, &str)] = &[
     (4, &[], 4, "abcd,ef,,,"),
     (4, &[1], 4, "abcd,!,ef,,"),

@@ -33,7 +33,7 @@ impl Model for MemSource {
 }
 
 impl MemSource {
-    /// A source that gives `bytes`. The only refusal is want of memory.
+    /// A source that gives `bytes`. The only refusal comes when memory runs out.
     pub fn new(
         alloc: Global,
         bytes: &[u8],
@@ -103,7 +103,7 @@ impl Model for MemSink {
 }
 
 impl MemSink {
-    /// An empty sink. Its memory is taken here, so no write wants any. The only refusal is want of memory.
+    /// An empty sink. Its memory is taken here, and no write takes more. The only refusal comes when memory runs out.
     pub fn new(alloc: Global, capacity: usize, fails: &[u32]) -> Result<MemSink, NoMemory>
         ensures { IfOk result (λ s. s ≡ sink_of capacity fails.now) }
     {

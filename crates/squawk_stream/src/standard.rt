@@ -1,5 +1,5 @@
-//! The standard streams as a source and as sinks. They tell no bytes: what the system gives and takes is outside every
-//! contract.
+//! The standard streams as a source and as sinks. No contract names their bytes, since nothing is known of what the system
+//! gives and takes.
 ghost use Rattle.std.specs.Prelude.{◌≡◌, ◌<◌, ℕ, None, length, IfOk};
 ghost use Rattle.std.specs.Io.{ReadsAtMost, WritesAtMost};
 ghost use Rattle.std.specs.Io.KnownBytes.{ReadConsumes, WriteAppends};

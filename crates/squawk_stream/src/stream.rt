@@ -10,7 +10,7 @@ ghost use Rattle.squawk_stream.specs.Faults.{HasCause};
 pub struct Failed;
 
 /// A source of bytes. `left` is what is still to be read, where that is known, and `faults` counts failed reads: it
-/// never falls, and a read fails only where it rises or stands at its last value, 2^64 - 1.
+/// never falls, and a read fails only where it rises or is at its last value, 2^64 - 1.
 pub trait Source {
     ghost left: { Self → Option (List ℕ) };
 
@@ -26,7 +26,7 @@ pub trait Source {
 }
 
 /// A sink of bytes. `held` is what was written so far, where that is known, and `faults` counts failed writes: it never
-/// falls, and a write fails only where it rises or stands at its last value, 2^64 - 1.
+/// falls, and a write fails only where it rises or is at its last value, 2^64 - 1.
 pub trait Sink {
     ghost held: { Self → Option (List ℕ) };
 

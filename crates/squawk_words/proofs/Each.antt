@@ -2,7 +2,7 @@
 use Rattle.std.proofs.Common.{◌≡◌, ◌∙◌, ℕ, ◌+◌, ◌<◌, List, [], ◌∷◌, ◌++◌, Option, Some, None, get_or, length, map, option_map, refl, ap, append_assoc, arith, take, zero, suc}
 use Rattle.std.specs.Prelude.{option_and_then}
 use Rattle.std.proofs.lemmas.List.{take_more, map-append}
-use Rattle.squawk_words.specs.Config.{each}
+use Rattle.squawk_words.specs.Choices.{each}
 
 module _ {A B : Type 0} (read : A → Option B) where
   -- one more element at the end
@@ -33,7 +33,7 @@ module _ {X A B : Type 0} (value : X → A) (read : A → Option B) where
   push front (Some ys) zs y before =
       let same : front ++ ys ≡ zs = cc in rw (← append_assoc, same) refl
 
-  -- one more element that is read, behind a front
+  -- one more element that is read, after a front
   pub each_more : (front : List B) (xs : List X) (i : ℕ) (d : X) (zs : List B) (y : B) → i < length xs
       → option_map (λ ys. front ++ ys) (each read (map value (take i xs))) ≡ Some zs → read (value (get_or xs i d)) ≡ Some y
       → option_map (λ ys. front ++ ys) (each read (map value (take (i + 1) xs))) ≡ Some (zs ++ y ∷ [])

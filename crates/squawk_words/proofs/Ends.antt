@@ -16,12 +16,12 @@ use Rattle.clap.proofs.OnLiterals.{clap_on_literals}
 use Rattle.clap.proofs.WalkLemmas.{first_value-rows, one_text-rows}
 use Rattle.clap.specs.Walk.{rows_of}
 use Rattle.squawk_words.specs.Command.{IsFlag, IsGiven, app, is_tidy}
-use Rattle.squawk_words.specs.Config.{Said, said_in}
+use Rattle.squawk_words.specs.Choices.{Said, said_in}
 use Rattle.squawk_words.specs.Words.{Settings, State, Table, Text, after_dashes, begins_with_dash, has, name_in, named_word, settings_of, read_from, set_to, step, table, takes_value, value_in, value_of}
 use Rattle.squawk_words.proofs.Lookup.{at_no_row, has_row_for, rows_for, rule_for, rules_for, same_bytes, shape_for}
 use Rattle.squawk_words.proofs.Walks.{Match, as_defined, fault_from, final, rows_from}
 
--- ---- words that may not stand
+-- ---- words that may not are there
 
 record IsUntidy (word : Text) : Type 0 where
   begins : begins_with_dash word ≡ true

@@ -7,7 +7,7 @@ use Rattle.std.specs.Str.Parse.{ParsesSigned, digits_value}
 use Rattle.std.proofs.Math.Bool.{and-false}
 use Rattle.std.proofs.lemmas.Bool.{cases_lt, lt-ltb, le-ltb, le-leb, lt-leb}
 use Rattle.std.proofs.lemmas.Str.Parse.{IsDigitsTest, IsNumeralModel, numerals_by_value, parse_signed_digits}
-use Rattle.squawk_words.specs.Config.{number}
+use Rattle.squawk_words.specs.Choices.{number}
 
 pub long_is_none : (text : List ℕ) → 10 < length text → number text ≡ None
 long_is_none text l = let long : nat_le (length text) 10 ≡ false = lt-leb (length text) 10 l in rw (long, and-false) refl

@@ -58,7 +58,7 @@ pub refuse : (t : Table) (w : Walk) (word : Text) (ws : List Text) → (turn_fau
 unfolding walk_fault
 refuse t w word ws h = first_none _ _ (first_none _ _ h)
 
--- ---- where the walk stands
+-- ---- where the walk is there
 
 abbrev pub waiting_for : Option Text → Waiting
 waiting_for None = idle

@@ -4,7 +4,7 @@ use Rattle.clap.specs.Words.{App, Rule, Text, first_value, new_app, new_rule, on
 use Rattle.clap.specs.declared.builder.ArgAction.TheVariants.{SetTrue}
 use Rattle.clap.specs.declared.parser.matches.Found.{Found}
 use Rattle.squawk_words.specs.declared.given.Given.{Given}
-use Rattle.squawk_words.specs.Config.{Said}
+use Rattle.squawk_words.specs.Choices.{Said}
 use Rattle.squawk_words.specs.Words.{table}
 
 -- the word does not begin with `-`, or it is `--` and at least one byte more

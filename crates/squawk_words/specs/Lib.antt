@@ -1,3 +1,3 @@
 pub mod Command
-pub mod Config
+pub mod Choices
 pub mod Words

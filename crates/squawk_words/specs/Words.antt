@@ -53,11 +53,11 @@ abbrev pub begins_with_dash : Text → Bool
 begins_with_dash [] = false
 begins_with_dash (x ∷ rest) = x == 45
 
--- what stands before the first `=`
+-- what comes before the first `=`
 abbrev pub name_in : Text → Text
 name_in text = before_first (λ x. x == 61) text
 
--- what stands behind the first `=`, if there is one
+-- what comes after the first `=`, if there is one
 abbrev pub value_in : Text → Option Text
 value_in text = if list_any (λ x. x == 61) text then Some (after_first (λ x. x == 61) text) else None
 
@@ -86,7 +86,7 @@ named_word name None value said = None
 named_word name (Some true) value said = option_word name value said
 named_word name (Some false) value said = flag_word name value said
 
--- one word: a value that was waited for, which does not begin with `-`, or a name behind `--`
+-- one word: a value that was waited for, which does not begin with `-`, or a name after `--`
 abbrev pub step : Table → Option Text → Text → Settings → Option State
 step names (Some name) word said = if begins_with_dash word then None else set_to name word said
 step names None word said =

@@ -3,7 +3,7 @@ ghost use Rattle.std.specs.Prelude.{◌≡◌, IfOk, map, option_map, string_byt
 ghost use Rattle.std.specs.List.{list_all};
 ghost use Rattle.clap.specs.Words.{app_of, found_of, with_rule};
 ghost use Rattle.squawk_words.specs.Command.{IsGiven, app, flag_rule, is_tidy, option_rule, said_by};
-ghost use Rattle.squawk_words.specs.Config.{said_of};
+ghost use Rattle.squawk_words.specs.Choices.{said_of};
 
 use clap::error::ErrorKind;
 use clap::{Arg, ArgAction, ArgMatches, Command};
@@ -23,8 +23,8 @@ pub(crate) struct Given<'w> {
     pub(crate) assume_in_transaction: bool,
 }
 
-/// The values of the words, or `None` exactly where the words are refused. The error is want of
-/// memory.
+/// The values of the words, or `None` exactly where the words are refused. The error comes when
+/// memory runs out.
 pub(crate) fn given_words<'w>(
     alloc: Global,
     words: &'w [String],
@@ -45,7 +45,7 @@ pub(crate) fn given_words<'w>(
 }
 
 // `clap` would take `--` at the end of the words, and `-` as a value: no word begins with `-` but
-// those that have a name behind `--`.
+// those that have a name after `--`.
 fn all_tidy(words: &[String]) -> bool
     ensures { result ≡ list_all (λ word. is_tidy (string_bytes word)) words.now }
 {

@@ -1,13 +1,13 @@
-//! The words of the command line: which are accepted, and the configuration that they name.
+//! The words of the command line: which are accepted, and what they choose.
 //!
 //! `specs/` says what each call means: `Words` says which words are accepted and what they set, and
-//! `Config` which configuration that is. `Command` says how `clap` is asked.
+//! `Choices` which rules and settings they choose. `Command` says how `clap` is asked.
 #![tactic(auto)]
 
-mod config;
+mod choices;
 mod given;
 mod values;
 mod words;
 
-pub use config::{Config, read_words};
+pub use choices::{Choices, read_choices};
 pub use words::Words;

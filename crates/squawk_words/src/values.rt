@@ -2,14 +2,14 @@
 ghost use Rattle.std.specs.Prelude.{◌≡◌, [], IfOk, map, option_map, pos};
 ghost use Rattle.std.specs.Char.{is_ascii_digit};
 ghost use Rattle.std.specs.List.{list_all};
-ghost use Rattle.squawk_words.specs.Config.{name_list, names_by, number, pieces, read_or, rule_list};
+ghost use Rattle.squawk_words.specs.Choices.{name_list, names_by, number, pieces, read_or, rule_list};
 
 use lint_base::{Names, Rule, UnknownName};
 use std::alloc::{AllocError, Global};
 use text_pos::NoMemory;
 
 /// The rules whose names a list has, `Some` of none where there is no list, or `None` where a piece
-/// of the list names no rule. The error is want of memory.
+/// of the list names no rule. The error comes when memory runs out.
 pub(crate) fn rules_or_none(
     alloc: Global,
     list: Option<&str>,
@@ -23,7 +23,7 @@ pub(crate) fn rules_or_none(
 }
 
 /// The rules whose names a list has, or `None` where a piece of the list names no rule. The error
-/// is want of memory.
+/// comes when memory runs out.
 pub(crate) fn rule_list(alloc: Global, list: &str) -> Result<Option<Vec<Rule>>, NoMemory>
     ensures { IfOk result (λ rules. option_map (λ r. r.items) rules ≡ rule_list list.now) }
 {
@@ -39,7 +39,7 @@ pub(crate) fn rule_list(alloc: Global, list: &str) -> Result<Option<Vec<Rule>>, 
 }
 
 /// The names that count as not volatile: the standard ones and those of a list, if there is one, or
-/// `None` where a piece of the list is empty. The error is want of memory.
+/// `None` where a piece of the list is empty. The error comes when memory runs out.
 pub(crate) fn names_by(alloc: Global, list: Option<&str>) -> Result<Option<Names>, NoMemory>
     ensures { IfOk result (λ names. names ≡ names_by (option_map (λ s. s.now) list.entry)) }
 {

@@ -1,4 +1,4 @@
--- Lines of a text: where they end, and on which of them a place stands.
+-- Lines of a text: where they end, and on which of them a place is there.
 use Rattle.std.specs.Prelude.{ℕ, ◌+◌, ◌-◌, ◌<◌, ◌^◌, Bool, ◌==◌, ◌&&◌, nat_lt, Option, Some, None, position, slice_index, List, [], ◌∷◌, count_by, length, take, if◌then◌else◌}
 use Rattle.std.specs.List.Sorted.{IsNonDecreasing}
 use Rattle.text_pos.specs.declared.ending.LineEnding.{LineEnding}
@@ -8,7 +8,7 @@ use Rattle.text_pos.specs.declared.ending.LineEnding.TheVariants.{Lf, CrLf}
 abbrev pub is_line_feed : ℕ → Bool
 is_line_feed byte = byte == 10
 
--- the places of the line feeds of a text, the first byte of which stands at `start`
+-- the places of the line feeds of a text, the first byte of which is at `start`
 abbrev pub line_feeds_from : ℕ → List ℕ → List ℕ
 line_feeds_from start [] = []
 line_feeds_from start (byte ∷ bytes) =
@@ -18,7 +18,7 @@ line_feeds_from start (byte ∷ bytes) =
 abbrev pub line_feeds : List ℕ → List ℕ
 line_feeds text = line_feeds_from 0 text
 
--- the line on which a place of a text stands: how many line feeds stand before it
+-- the line on which a place of a text is there: how many line feeds come before it
 abbrev pub line_of : List ℕ → ℕ → ℕ
 line_of text at = count_by is_line_feed (take at text)
 

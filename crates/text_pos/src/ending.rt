@@ -23,7 +23,7 @@ impl LineEnding {
     }
 }
 
-/// The line ending of a text, told by its first line; `Lf` where it has no line feed.
+/// The line ending of a text, known by its first line; `Lf` where it has no line feed.
 pub fn line_ending(text: &str) -> LineEnding
     ensures { result ≡ line_ending_of text.now }
 {

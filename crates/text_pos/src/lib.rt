@@ -1,4 +1,4 @@
-//! Places and ranges of a text, in bytes, and the lines that they stand on.
+//! Places and ranges of a text, in bytes, and the lines that they are on.
 #![tactic(auto)]
 
 mod ending;

@@ -3,6 +3,7 @@ ghost use Rattle.std.specs.Prelude.{◌≡◌, ◌<◌, ◌^◌, ℕ, List, IfOk
 
 use crate::memory::NoMemory;
 use crate::size::TextSize;
+use memchr::memchr_iter;
 use std::alloc::Global;
 use std::marker::Model;
 
@@ -28,21 +29,19 @@ impl Model for LineIndex {
 impl LineIndex {
     ghost use Rattle.text_pos.specs.Line.{line_feeds, line_of};
 
-    /// The index of a text. The error is want of memory.
+    /// The index of a text. The error comes when memory runs out.
     pub fn new(alloc: Global, text: &str) -> Result<LineIndex, NoMemory>
         requires { length text.now < 2 ^ 32 }
         ensures { IfOk result (λ index. index ≡ line_feeds text.now) }
     {
         let mut feeds = Vec::new(alloc);
-        for (i, byte) in text.as_bytes().iter().enumerate() {
-            if *byte == b'\n' {
-                feeds.push(i as u32)?;
-            }
+        for at in memchr_iter(b'\n', text.as_bytes()) {
+            feeds.push(at as u32)?;
         }
         Ok(LineIndex { feeds })
     }
 
-    /// The line of a place, counted from 0: how many line feeds stand before it.
+    /// The line of a place, counted from 0: how many line feeds come before it.
     pub fn line(&self, at: TextSize) -> u32
         ensures counted { result ≡ count_by (λ feed. nat_lt feed at) self.now }
         ensures line { (text : List ℕ) → self.now ≡ line_feeds text → result ≡ line_of text at }

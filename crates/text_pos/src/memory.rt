@@ -1,4 +1,4 @@
-//! Want of memory, the one refusal that no contract gives a cause for.
+//! Running out of memory, the one refusal that no contract gives a cause for.
 
 use std::alloc::{AllocError, AllocFailed};
 

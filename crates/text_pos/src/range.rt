@@ -45,7 +45,7 @@ impl TextRange {
         TextSize::new(self.start)
     }
 
-    /// The place behind the last byte.
+    /// The place after the last byte.
     pub fn end(&self) -> TextSize
         ensures value { result ≡ self.now.end }
         ensures ordered { IsOrdered self.now }

@@ -11,7 +11,7 @@ loop-i-preserved g c =
       tree = next.tree ∙ was.tree;
       file = was.file;
       within = omega (arith, next.next, next.within, ap (λ (t : Tree). length t.stmts) was.tree);
-      opening = opening_walked _ _ _ _ _ _ _ _ _ was.tree was.file next.number next.next next.stmt c.in_ok-go_behind.ensures.opening was.opening;
-      found = found_walked _ _ _ _ _ _ _ _ _ was.tree next.number next.next next.stmt c.in_ok-go_behind.ensures.found was.opening was.found;
+      opening = opening_walked _ _ _ _ _ _ _ _ _ was.tree was.file next.number next.next next.stmt c.in_ok-go_after.ensures.opening was.opening;
+      found = found_walked _ _ _ _ _ _ _ _ _ was.tree next.number next.next next.stmt c.in_ok-go_after.ensures.found was.opening was.found;
       steps = omega (arith, next.next, next.steps, was.steps);
     }

@@ -1,6 +1,6 @@
 use Rattle.std.proofs.Common.{◌≡◌, ◌+◌, ◌-◌, ◌≤◌, length}
 use Rattle.std.specs.Option.{option_to_list}
-use Rattle.lint_track.specs.Earlier.{pieces_below}
+use Rattle.lint_transaction.specs.Earlier.{pieces_below}
 use Rattle.lint_pass.specs.Blocks.{block_to}
 use Rattle.lint_pass.specs.BlockWalk.{openings}
 use Rattle.lint_pass.proofs.blocks.find_blocks.Given as goal

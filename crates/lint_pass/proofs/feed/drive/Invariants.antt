@@ -1,5 +1,5 @@
 use Rattle.std.proofs.Common.{◌≡◌, ◌+◌, ◌-◌, ◌≤◌, ◌++◌, length}
-use Rattle.lint_track.specs.Earlier.{pieces_below}
+use Rattle.lint_transaction.specs.Earlier.{pieces_below}
 use Rattle.lint_pass.proofs.feed.drive.Given as goal
 
 -- the pieces of the statements so far were reported, with a step for each

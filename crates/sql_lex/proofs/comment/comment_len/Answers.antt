@@ -1,5 +1,6 @@
-use Rattle.std.proofs.Common.{sym, arith, rules}
+use Rattle.std.proofs.Common.{◌+◌, sym, arith, rules}
 use Rattle.sql_token.proofs.CommentLaws.{opens_within, keeps_self, keeps_on, at_close, at_open, at_byte, comment_done, comment_open}
+use Rattle.sql_lex.proofs.CommentBytes.{over_bytes}
 use Rattle.sql_lex.proofs.comment.comment_len.Goals as goal
 
 pub loop-depth-init : goal.loop-depth-init
@@ -25,12 +26,14 @@ loop-depth-preserved-then-opens c = record {
 }
 
 pub loop-depth-preserved : goal.loop-depth-preserved
-loop-depth-preserved c = record {
-  same = keeps_on c.loop-depth.invariant.same (at_byte c.args.z.now c.loop-depth.depth c.loop-depth.at (omega arith) (omega arith) (sym c.if-opens.ensures.value) (sym c.if-closes.ensures.value));
-  shallow = omega arith;
-  begun = omega arith;
-  within = omega arith;
-}
+loop-depth-preserved c =
+    let plain = at_byte c.args.z.now c.loop-depth.depth c.loop-depth.at (omega arith) (omega arith) (sym c.if-opens.ensures.value) (sym c.if-closes.ensures.value) in
+    record {
+      same = keeps_on c.loop-depth.invariant.same (keeps_on plain (over_bytes c.args.z.now c.loop-depth.depth (c.loop-depth.at + 1) c.next_mark-at.result (omega arith) c.next_mark-at.ensures.within.0 c.next_mark-at.ensures.within.1 c.next_mark-at.ensures.opens c.next_mark-at.ensures.closes));
+      shallow = omega (arith, c.next_mark-at.ensures.within);
+      begun = omega (arith, c.next_mark-at.ensures.within);
+      within = c.next_mark-at.ensures.within.1;
+    }
 
 pub returns-clause-found : goal.returns-clause-found
 returns-clause-found c = comment_done c.args.z.now c.loop-depth.depth c.loop-depth.at c.requires c.loop-depth.invariant.same (omega arith)

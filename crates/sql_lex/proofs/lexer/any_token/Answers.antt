@@ -6,5 +6,5 @@ use Rattle.sql_lex.proofs.lexer.any_token.Goals as goal
 
 pub returns-then-begins_sign-clause-found : goal.returns-then-begins_sign-clause-found
 returns-then-begins_sign-clause-found c =
-    let h = c.requires.signs c.if-is_behind_operator.true in
+    let h = c.requires.signs c.if-is_after_operator.true in
     sign_at c.args.text.now c.args.at h.0 c.requires.begins (ap begins_sign (sym (take_rest c.args.text.now c.args.at)) ∙ sym c.begins_sign.ensures ∙ c.if-begins_sign.true) h.1

@@ -2,7 +2,7 @@ use Rattle.std.proofs.Common.{◌≡◌, Some, subst}
 use Rattle.std.specs.Io.KnownBytes.{Appends}
 use Rattle.squawk_stream.specs.Parts.{AppendsPart}
 use Rattle.squawk_print.specs.Printed.{printed}
-use Rattle.squawk_words.specs.Config.{config_of}
+use Rattle.squawk_cli.specs.Config.{config_of}
 use Rattle.squawk_cli.specs.Outcome.{InputFor, WrittenFor}
 use Rattle.squawk_cli.specs.declared.status.Status.TheVariants.{Clean, Found, WriteFault}
 use Rattle.squawk_cli.proofs.Inputs.{of_input, no_reports, none_where, part_appended, reports_appended, some_reports, some_where, valid_text}

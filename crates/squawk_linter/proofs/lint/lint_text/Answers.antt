@@ -1,7 +1,7 @@
 use Rattle.std.proofs.Common.{◌∙◌, ap}
 use Rattle.squawk_linter.specs.Answers.{reports}
 use Rattle.squawk_linter.specs.Headline.{headline_of}
-use Rattle.squawk_linter.proofs.HeadlineLaws.{headline_in}
+use Rattle.squawk_linter.specs.Reports.{cleared}
 use Rattle.squawk_linter.proofs.lint.lint_text.Goals as goal
 
 pub returns-in-Ok-clause-ok : goal.returns-in-Ok-clause-ok
@@ -19,5 +19,9 @@ returns-in-Ok-clause-syntax c = λ at fault. c.in_ok-file.ensures.syntax at faul
 
 pub returns-in-Ok-clause-headline : goal.returns-in-Ok-clause-headline
 returns-in-Ok-clause-headline c = λ tree is none.
-    ap headline_of (c.in-Ok.ensures.ok ∙ ap (λ t. reports t c.args.linter.now.rules c.args.linter.now.settings) (c.in_ok-file.ensures.valid tree is))
-    ∙ headline_in tree c.args.linter.now.rules c.args.linter.now.settings none
+    ap (headline_of tree) (c.in-Ok.ensures.ok ∙ ap (λ t. reports t c.args.linter.now.rules c.args.linter.now.settings) (c.in_ok-file.ensures.valid tree is))
+    ∙ c.headline.ensures tree c.args.linter.now.rules c.args.linter.now.settings is.1 none
+
+pub returns-in-Ok-clause-settings : goal.returns-in-Ok-clause-settings
+returns-in-Ok-clause-settings c = λ tree is.
+    c.in-Ok.ensures.settings ∙ ap (λ t. cleared t c.args.linter.now.settings) (c.in_ok-file.ensures.valid tree is)

@@ -1,6 +1,6 @@
 use Rattle.std.proofs.Common.{◌≡◌, ◌≤◌, ◌-◌, length, take, true}
 use Rattle.std.specs.List.{list_all}
-use Rattle.squawk_print.specs.Plain.{is_plain}
+use Rattle.lint_base.specs.PlainBytes.{is_plain}
 use Rattle.squawk_print.proofs.escape.is_long_plain.Given as goal
 
 abbrev pub invariant-looking : goal.invariant-looking

@@ -2,7 +2,7 @@ use Rattle.std.proofs.Common.{◌≡◌, true, ap, length, length-append, arith,
 use Rattle.std.proofs.lemmas.Grind.{common_steps}
 use Rattle.std.specs.List.{list_all}
 use Rattle.squawk_print.specs.Escaped.{escaped}
-use Rattle.squawk_print.specs.Plain.{is_plain}
+use Rattle.lint_base.specs.PlainBytes.{is_plain}
 use Rattle.squawk_print.proofs.Escaping.{escaped_plain}
 use Rattle.squawk_print.proofs.escape.push_escaped.Goals as goal
 

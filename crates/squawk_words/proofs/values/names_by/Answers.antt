@@ -1,6 +1,6 @@
 use Rattle.std.proofs.Common.{◌≡◌, ◌∙◌, ◌<◌, ◌==◌, true, false, refl, Bor, None, Some, ap, arith, length, map, sym}
 use Rattle.lint_base.specs.Settings.{standard_names}
-use Rattle.squawk_words.specs.Config.{each, full_piece, pieces}
+use Rattle.squawk_words.specs.Choices.{each, full_piece, pieces}
 use Rattle.squawk_words.specs.Words.{Text}
 use Rattle.squawk_words.proofs.Each.{each_fails, each_more}
 use Rattle.squawk_words.proofs.values.names_by.Goals as goal

@@ -1,6 +1,6 @@
 use Rattle.std.proofs.Common.{◌≡◌, ◌++◌, map, option_map, Some, take}
 use Rattle.lint_base.specs.Settings.{standard_names}
-use Rattle.squawk_words.specs.Config.{each, full_piece}
+use Rattle.squawk_words.specs.Choices.{each, full_piece}
 use Rattle.squawk_words.proofs.values.names_by.Given as goal
 
 -- the names so far are the standard ones and the pieces so far

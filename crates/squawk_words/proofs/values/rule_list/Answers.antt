@@ -1,6 +1,6 @@
 use Rattle.std.proofs.Common.{◌≡◌, ◌∙◌, ◌<◌, List, [], Bor, None, ap, arith, length, map, rules, sym}
 use Rattle.lint_base.specs.RuleNames.{rule_named}
-use Rattle.squawk_words.specs.Config.{each, pieces}
+use Rattle.squawk_words.specs.Choices.{each, pieces}
 use Rattle.squawk_words.specs.Words.{Text}
 use Rattle.squawk_words.proofs.Each.{each_fails, each_more}
 use Rattle.squawk_words.proofs.values.rule_list.Goals as goal

@@ -1,6 +1,6 @@
 use Rattle.std.proofs.Common.{◌≡◌, [], ◌++◌, Some, map, option_map, take}
 use Rattle.lint_base.specs.RuleNames.{rule_named}
-use Rattle.squawk_words.specs.Config.{each}
+use Rattle.squawk_words.specs.Choices.{each}
 use Rattle.squawk_words.proofs.values.rule_list.Given as goal
 
 -- the rules so far are those of the pieces so far

@@ -1,5 +1,12 @@
-use Rattle.lint_base.proofs.RuleNumbers.{tag_of-rule}
+use Rattle.std.proofs.Common.{refl}
+use Rattle.lint_base.proofs.RuleSets.{rule_at-number_of}
+use Rattle.lint_base.specs.Rules.{number_of}
 use Rattle.lint_base.proofs.rule.Rule.number.Goals as goal
 
 pub returns-clause-value : goal.returns-clause-value
-returns-clause-value c = tag_of-rule c.args.self
+unfolding number_of
+returns-clause-value c = refl
+
+pub returns-clause-place : goal.returns-clause-place
+unfolding number_of
+returns-clause-place c = rule_at-number_of c.args.self

@@ -1,8 +1,9 @@
-use Rattle.std.proofs.Common.{arith}
+use Rattle.std.proofs.Common.{◌∙◌, ap, refl, ℕ}
+use Rattle.text_pos.specs.Line.{line_of}
+use Rattle.lint_ignore.proofs.Cover.{line_added}
 use Rattle.lint_ignore.proofs.index.IgnoreIndex.add_line.Goals as goal
 
 pub returns : goal.returns
-returns c = grind arith
-
-pub returns-in_err-insert : goal.returns-in_err-insert
-returns-in_err-insert c = grind arith
+returns c =
+    line_added _ _ c.args.ignore.now c.line-line.result c.named_rules.result c.requires refl refl refl
+    (λ text h. c.line-line.ensures.line text h ∙ ap (λ (at : ℕ). line_of text at) c.start.ensures.value) c.named_rules.ensures c.in_ok-add.ensures

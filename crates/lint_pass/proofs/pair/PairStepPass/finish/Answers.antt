@@ -6,7 +6,7 @@ use Rattle.lint_pass.proofs.pair.PairStepPass.finish.Goals as goal
 
 pub returns-in_err-append-clause-err : goal.returns-in_err-append-clause-err
 returns-in_err-append-clause-err g c =
-    at_err _ (pair_kept _ _ _ _ _ _ _ _ c.in_ok-finish.ensures.ok c.in_err-append.ensures.err c.requires.state.2 (g.met.B.StepPass.whole _ _ _ _))
+    at_err _ (pair_kept _ _ _ _ _ _ _ _ c.in_ok-finish.ensures.ok c.in_err-append.ensures.err c.requires.state.2 (g.B.StepPass.whole _ _ _ _))
 
 pub returns-clause-ok : goal.returns-clause-ok
 returns-clause-ok g c = grind (arith, common_steps)

@@ -2,13 +2,16 @@ use Rattle.std.proofs.Common.{subst}
 use Rattle.std.specs.Str.{IsUtf8}
 use Rattle.std.proofs.lemmas.Result.{IfOk-weaker}
 use Rattle.squawk_linter.specs.Reports.{cleared}
-use Rattle.squawk_linter.proofs.Tables.{own_lie, reports_placed}
+use Rattle.squawk_linter.proofs.Tables.{reports_placed}
 use Rattle.squawk_linter.proofs.linter.Linter.lint.Goals as goal
 
 pub lint_by-requires-clause-lie : goal.lint_by-requires-clause-lie
 lint_by-requires-clause-lie c =
-    own_lie c.args.file.now c.args.self.now.rules (cleared c.args.file.now c.args.self.now.settings) c.text.ensures.tree (subst IsUtf8 c.text.ensures.value c.text.utf8)
+    c.placed.ensures.lie c.args.self.now.rules (cleared c.args.file.now c.args.self.now.settings)
 
 pub returns-clause-places : goal.returns-clause-places
 returns-clause-places c =
-    IfOk-weaker c.lint_by.result _ _ (λ v is. reports_placed c.args.file.now c.args.self.now.rules c.args.self.now.settings v.items c.text.ensures.tree (subst IsUtf8 c.text.ensures.value c.text.utf8) is) c.lint_by.ensures.ok
+    let set = cleared c.args.file.now c.args.self.now.settings in
+    IfOk-weaker c.lint_by.result _ _
+    (λ v is. reports_placed c.args.file.now c.args.self.now.rules c.args.self.now.settings v.items c.text.ensures.tree (subst IsUtf8 c.text.ensures.value c.text.utf8) (c.placed.ensures.placed c.args.self.now.rules set) is)
+    c.lint_by.ensures.ok

@@ -1,24 +1,29 @@
-use Rattle.std.proofs.Common.{arith, ◌≡◌}
-use Rattle.std.proofs.lemmas.Grind.{common_steps}
+use Rattle.std.proofs.Common.{◌≡◌, ◌<◌, arith, length}
 use Rattle.text_pos.specs.Line.{line_feeds}
-use Rattle.text_pos.proofs.LineFeeds.{line_feeds_more_yes, line_feeds_more_no, line_index-line_feeds}
+use Rattle.text_pos.proofs.LineFeeds.{found_below, line_index-line_feeds, search_begins, search_ends, search_goes_on}
 use Rattle.text_pos.proofs.line.LineIndex.new.Goals as goal
-use Rattle.text_pos.proofs.line.LineIndex.new.Goals.{then-byte-eq10+in_ok-push, else-byte-eq10}
 
-pub loop-i-preserved : goal.loop-i-preserved
-loop-i-preserved c =
-    elim c.if-byte-eq10.branch [
-      | then-byte-eq10+in_ok-push w ↦ grind (arith, common_steps, line_feeds_more_yes)
-      | else-byte-eq10 w ↦ grind (arith, common_steps, line_feeds_more_no)
-    ]
+pub loop-at-init : goal.loop-at-init
+loop-at-init c =
+    search_begins c.args.text.now c.as_bytes.result.now c.new-feeds.result.items c.memchr_iter-at-items.result c.into_iter-at-iterator.result
+    c.new-feeds.ensures.items c.into_iter-at-iterator.ensures.into_iter_gives c.memchr_iter-at-items.ensures.value c.as_bytes.ensures.value
+
+pub overflow_cast-at : goal.overflow_cast-at
+overflow_cast-at c =
+    let below : c.in-Some.at < length c.args.text.now =
+    found_below c.args.text.now c.loop-at.feeds.items c.loop-at.at-iterator c.next.new.self c.in-Some.at c.loop-at.invariant c.in-Some.ensures.steps in
+    omega (arith, below, c.requires)
+
+pub loop-at-preserved : goal.loop-at-preserved
+loop-at-preserved c =
+    search_goes_on (line_feeds c.args.text.now) c.loop-at.feeds.items c.push.new.self.items c.loop-at.at-iterator c.next.new.self c.in-Some.at
+    c.loop-at.invariant c.in-Some.ensures.steps c.in_ok-push.ensures.items
 
 pub invariant_of-result : goal.invariant_of-result
 invariant_of-result c =
-    let whole : c.loop-i.feeds.items ≡ line_feeds c.as_bytes-byte-items.result.now = grind (arith, common_steps) in
-    rw whole (line_index-line_feeds c.as_bytes-byte-items.result.now (rw c.as_bytes-byte-items.ensures.value c.requires))
+    let whole : c.loop-at.feeds.items ≡ line_feeds c.args.text.now =
+    search_ends (line_feeds c.args.text.now) c.loop-at.feeds.items c.loop-at.at-iterator c.loop-at.invariant c.in-None.ensures.steps.0 in
+    rw whole (line_index-line_feeds c.args.text.now c.requires)
 
 pub returns : goal.returns
-returns c = grind (arith, common_steps)
-
-pub returns-in_err-push : goal.returns-in_err-push
-returns-in_err-push c = grind arith
+returns c = search_ends (line_feeds c.args.text.now) c.loop-at.feeds.items c.loop-at.at-iterator c.loop-at.invariant c.in-None.ensures.steps.0

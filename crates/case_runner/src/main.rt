@@ -1,0 +1,11 @@
+//! Runs the cases on standard input through the linter's programs.
+#![tactic(auto)]
+
+use case_text::run_table;
+use linter_cases::Programs;
+use std::io;
+use std::process::ExitCode;
+
+fn main(rt: HostRuntime) -> io::Result<ExitCode> {
+    run_table(&rt, &Programs)
+}

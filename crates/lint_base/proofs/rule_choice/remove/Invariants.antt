@@ -1,0 +1,7 @@
+use Rattle.std.proofs.Common.{◌≡◌, fold, take}
+use Rattle.lint_base.specs.RuleSets.{without_rule}
+use Rattle.lint_base.proofs.rule_choice.remove.Given as goal
+
+-- so far the first of the others were taken in turn
+abbrev pub invariant-loop-other : goal.invariant-loop-other
+invariant-loop-other l = l.set ≡ fold without_rule l.initial.set (take l.other-index l.other-items)

@@ -1,0 +1,8 @@
+use Rattle.std.proofs.Common.{◌≡◌, ◌++◌, take}
+use Rattle.std.specs.List.{flat_map}
+use Rattle.lint_pass.specs.Bans.{on_row, lent}
+use Rattle.lint_pass.proofs.bans.report_on_rows.Given as goal
+
+-- what came so far was reported
+abbrev pub invariant-loop-row : goal.invariant-loop-row
+invariant-loop-row l = l.out ≡ l.fn.out ++ flat_map (λ r. on_row l.code l.p l.s (lent r)) (take l.row-index l.rows)

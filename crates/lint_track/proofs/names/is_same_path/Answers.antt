@@ -1,7 +1,0 @@
-use Rattle.std.proofs.Common.{◌∙◌, sym}
-use Rattle.lint_track.proofs.Paths.{so_same}
-use Rattle.lint_track.proofs.names.is_same_path.Goals as goal
-
-pub returns-then-is_same_text : goal.returns-then-is_same_text
-returns-then-is_same_text c =
-    c.if-is_same_text.true ∙ sym (so_same _ _ (c.is_same_text.ensures c.if-is_same_text.true))

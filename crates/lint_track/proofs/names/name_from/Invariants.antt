@@ -1,7 +1,0 @@
-use Rattle.std.proofs.Common.{◌≡◌}
-use Rattle.lint_track.specs.NamesLeft.{names_from}
-use Rattle.lint_track.proofs.names.name_from.Given as goal
-
--- the tokens so far are no names
-abbrev pub invariant-loop-i : goal.invariant-loop-i
-invariant-loop-i l = names_from l.p l.fn.end l.i ≡ names_from l.p l.fn.end l.fn.next

@@ -1,5 +1,0 @@
-use Rattle.lint_track.proofs.SpanLaws.{empty_span}
-use Rattle.lint_track.proofs.span_set.SpanSet.clear.Goals as goal
-
-pub returns-clause-empty : goal.returns-clause-empty
-returns-clause-empty c tree names = empty_span tree _ c.forget.ensures.hashed c.forget.ensures.others names

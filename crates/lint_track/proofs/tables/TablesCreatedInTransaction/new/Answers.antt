@@ -1,7 +1,0 @@
-use Rattle.std.proofs.Common.{ap, map}
-use Rattle.sql_tree.specs.PathNames.{names_of}
-use Rattle.lint_track.proofs.TrackingLaws.{tracking_start}
-use Rattle.lint_track.proofs.tables.TablesCreatedInTransaction.new.Goals as goal
-
-pub returns : goal.returns
-returns c tree = tracking_start _ c.args.assume c.new.ensures.value (ap (map names_of) c.new-2.ensures.empty) tree

@@ -1,0 +1,46 @@
+//! The configuration that a row of words names.
+
+use case_text::Fault;
+use lint_base::{Rule, RuleSet};
+use squawk_cli::{Config, Words, read_words};
+use std::alloc::Global;
+
+fn count(rules: &RuleSet) -> usize {
+    Rule::ALL
+        .iter()
+        .filter(|rule| rules.contains(**rule))
+        .count()
+}
+
+/// How many rules and names there are and the version, then what else is asked for.
+fn summary(alloc: Global, config: &Config) -> Result<String, Fault> {
+    let settings = &config.linter.settings;
+    let rules = count(&config.linter.rules);
+    let names = settings.non_volatile.len();
+    let [major, minor, patch] = settings.pg_version;
+    let mut out = format!(in alloc; "{rules} rules, {names} names, {major}.{minor}.{patch}")?;
+    if settings.assume_in_transaction {
+        out.push_str(", assumed")?;
+    }
+    if config.locks {
+        out.push_str(", locks")?;
+    }
+    if let Some(seed) = config.generate {
+        out.push_str(format!(in alloc; ", generate {seed}")?.as_str())?;
+    }
+    Ok(out)
+}
+
+/// The configuration that words with `|` between them name, or `refused`. It serves the tests, so no clause is owed.
+pub(crate) fn configured(alloc: Global, row: &str) -> Result<String, Fault> {
+    let mut words = Words::new(alloc);
+    if !row.is_empty() {
+        for word in row.split('|') {
+            words.push(word)?;
+        }
+    }
+    match read_words(alloc, &words)? {
+        Some(config) => summary(alloc, &config),
+        None => Ok(String::from_str(alloc, "refused")?),
+    }
+}

@@ -1,5 +1,0 @@
-use Rattle.std.proofs.Common.{arith}
-use Rattle.pass_drop.proofs.statement_ban.StatementBanStepPass.rules.Goals as goal
-
-pub returns : goal.returns
-returns c = grind arith

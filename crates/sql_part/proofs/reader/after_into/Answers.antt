@@ -1,5 +1,0 @@
-use Rattle.std.proofs.Common.{arith}
-use Rattle.sql_part.proofs.reader.after_into.Goals as goal
-
-pub returns : goal.returns
-returns c = grind arith

@@ -1,0 +1,42 @@
+-- What a run prints of index builds and of added constraints.
+use Rattle.std.specs.Prelude.{◌≡◌, ◌≢◌, ℕ, List, [], Some, ⊤}
+use Rattle.std.specs.declared.option.Option.{Option}
+use Rattle.std.specs.Io.KnownBytes.{Appends}
+use Rattle.sql_token.specs.Token.{Text}
+use Rattle.sql_tree.specs.Statement.{Tree}
+use Rattle.sql_read.specs.Cause.{IsTreeOf}
+use Rattle.lint_base.specs.declared.violation.Violation.{Violation}
+use Rattle.squawk_linter.specs.Headline.{HasNoIgnoreComment, headline_of, headline_reports}
+use Rattle.squawk_linter.specs.Reports.{cleared}
+use Rattle.squawk_print.specs.Printed.{printed}
+use Rattle.squawk_cli.specs.declared.config.Config.{Config}
+use Rattle.squawk_cli.specs.declared.status.Status.{Status}
+use Rattle.squawk_cli.specs.declared.status.Status.TheVariants.{Clean, Found}
+use Rattle.squawk_cli.specs.Config.{config_of}
+
+-- a run is clean exactly where nothing is printed
+abbrev pub CountFor : Status → List Violation → Type 0
+CountFor Clean violations = violations ≡ []
+CountFor Found violations = violations ≢ []
+CountFor _ violations = ⊤
+
+-- The words name a configuration, the text has a tree, and what was appended is the printed form of some reports. Where the
+-- tree has no ignore comment, the index builds and the added constraints among them are exactly those of its statements.
+pub record PrintsHeadline (status : Status) (words : List (List ℕ)) (t : Text) (old new : Option (List ℕ)) : Type 0 where
+  pub config : Config
+  pub named : config_of words ≡ Some config
+  pub tree : Tree
+  pub of_text : IsTreeOf t tree
+  pub violations : List Violation
+  pub appended : Appends old new (printed violations)
+  pub count : CountFor status violations
+  pub headline :
+      HasNoIgnoreComment tree
+      → headline_of tree violations
+      ≡ headline_reports tree config.linter.rules (cleared tree config.linter.settings).assume_in_transaction
+
+-- a run that linted its input prints the headline
+abbrev pub HeadlineFor : Status → List (List ℕ) → Text → Option (List ℕ) → Option (List ℕ) → Type 0
+HeadlineFor Clean words t old new = PrintsHeadline Clean words t old new
+HeadlineFor Found words t old new = PrintsHeadline Found words t old new
+HeadlineFor _ words t old new = ⊤

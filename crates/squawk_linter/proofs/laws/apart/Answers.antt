@@ -1,0 +1,5 @@
+use Rattle.lint_base.proofs.RuleSets.{has-with_rule_other}
+use Rattle.squawk_linter.proofs.laws.apart.Goals as goal
+
+pub returns : goal.returns
+returns g c = λ tree rules settings r q differ. g.P.StepPass.apart _ tree settings q _ _ (has-with_rule_other rules q r differ)

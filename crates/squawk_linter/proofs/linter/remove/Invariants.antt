@@ -1,7 +1,0 @@
-use Rattle.std.proofs.Common.{◌≡◌, fold, take}
-use Rattle.lint_base.specs.RuleSets.{without_rule}
-use Rattle.squawk_linter.proofs.linter.remove.Given as goal
-
--- so far the first of the others were taken in turn
-abbrev pub invariant-loop-other : goal.invariant-loop-other
-invariant-loop-other l = l.set ≡ fold without_rule l.initial.set (take l.other-index l.other-items)

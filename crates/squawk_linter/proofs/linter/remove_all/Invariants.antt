@@ -1,8 +1,0 @@
-use Rattle.std.proofs.Common.{◌≡◌, fold, take}
-use Rattle.lint_base.specs.RuleSets.{without_rule}
-use Rattle.squawk_linter.specs.RuleChoice.{with_expansions}
-use Rattle.squawk_linter.proofs.linter.remove_all.Given as goal
-
--- so far the first of the rules were taken in turn
-abbrev pub invariant-loop-rule : goal.invariant-loop-rule
-invariant-loop-rule l = l.set ≡ fold without_rule l.initial.set (with_expansions (take l.rule-index l.rules))

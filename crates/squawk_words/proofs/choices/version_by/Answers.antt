@@ -1,0 +1,5 @@
+use Rattle.std.proofs.Common.{arith}
+use Rattle.squawk_words.proofs.choices.version_by.Goals as goal
+
+pub returns : goal.returns
+returns c = grind arith
