@@ -7,7 +7,8 @@ use lint_base::Rule;
 use lint_pass::{BanPass, BanRows, Spot};
 use sql_tree::{ActionKind, ConKind, PieceKind, StmtKind};
 
-/// Reports each change of how an identity column gets its values.
+/// Reports each column of a table that becomes an identity column, ceases to be one, or is set to GENERATED ALWAYS. SET GENERATED
+/// BY DEFAULT is not reported.
 ///
 /// With GENERATED ALWAYS an INSERT that gives a value fails; without an identity one that gives none does.
 ///
@@ -50,10 +51,9 @@ impl BanPass for BanAlterIdentity {
     }
 }
 
-/// Reports each SET EXPRESSION of a generated column, and each generated column that is added.
+/// Reports each SET EXPRESSION of a generated column, and each generated or identity column that is added to a table.
 ///
-/// A new expression changes the values that clients read; a new generated column makes an INSERT fail that gives it a value, as one
-/// without a list of columns does.
+/// A new expression changes the values that clients read; an INSERT that gives a new generated column a value fails.
 ///
 /// PostgreSQL manual, ALTER TABLE, "SET EXPRESSION", and section 5.4.
 #[derive(Drop)]

@@ -28,7 +28,8 @@ pub struct BanCreateDomainWithConstraint;
 
 /// Reports each constraint that an ALTER DOMAIN adds.
 ///
-/// All tables with a column of the domain are scanned, and locked against writes for as long.
+/// All tables with a column of the domain are scanned, and locked against writes for as long. With NOT VALID nothing is scanned; it
+/// is reported all the same, since values that break the constraint stay.
 ///
 /// PostgreSQL manual, ALTER DOMAIN, "ADD domain_constraint [ NOT VALID ]" and Notes.
 #[derive(Drop)]

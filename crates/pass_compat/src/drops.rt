@@ -71,8 +71,8 @@ impl BanPass for BanDropIndex {
 
 /// Reports each DROP POLICY and DROP RULE.
 ///
-/// Without its policy a table shows other rows than before, or none; without its rule a statement does something else. No client is
-/// told.
+/// Without its policy a table shows other rows than before, or none; without its rule a statement does something else. No client
+/// gets an error.
 ///
 /// PostgreSQL manual, DROP POLICY and DROP RULE.
 #[derive(Drop)]

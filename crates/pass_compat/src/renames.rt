@@ -91,7 +91,8 @@ impl BanPass for RenamingTable {
     }
 }
 
-/// Reports each renamed object that is neither a table nor a column, each renamed constraint and each renamed value of an enum.
+/// Reports each renamed foreign table, view, index, sequence, type, domain, schema, database, role, function, trigger and policy, and
+/// each renamed constraint and value of an enum. Tables and columns have rules of their own; other objects are not reported.
 ///
 /// Clients that use the old name fail from then on: a role cannot log in, a function is not found, an error is no longer matched
 /// by its constraint's name.
@@ -225,7 +226,7 @@ impl BanPass for RenamingObject {
     }
 }
 
-/// Reports each object that is moved to another schema.
+/// Reports each table, view, sequence, type, domain, function and extension that is moved to another schema.
 ///
 /// Clients that name the old schema fail from then on, and those that name none do so where the new schema is not in their search
 /// path.

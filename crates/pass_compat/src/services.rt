@@ -7,7 +7,8 @@ use lint_base::Rule;
 use lint_pass::{BanPass, BanRows, Spot};
 use sql_tree::{ActionKind, StmtKind};
 
-/// Reports each change of which triggers, rules and row security policies of a table act.
+/// Reports each trigger and each rule of a table that is enabled or disabled, and each change of its row security but ENABLE ROW LEVEL
+/// SECURITY, which has a rule of its own.
 ///
 /// A trigger or a rule that is disabled, or fires on replicas alone, no longer does its work for the application; a table whose
 /// policies change shows other rows, or refuses others.
@@ -91,7 +92,7 @@ impl BanPass for BanDisableTrigger {
     }
 }
 
-/// Reports each change of what is replicated: REPLICA IDENTITY, a dropped publication, and what is taken out of one.
+/// Reports each REPLICA IDENTITY, each publication that is dropped, and the DROP and SET of ALTER PUBLICATION. ADD is not reported.
 ///
 /// Subscribers stop to get rows, or updates and deletes fail on the publisher where no row can be identified.
 ///
@@ -139,7 +140,8 @@ impl BanPass for BanReplicaIdentity {
     }
 }
 
-/// Reports each privilege, owner or membership that is taken away, or changed.
+/// Reports each REVOKE, also that of default privileges, each OWNER TO, each role or user that is dropped, what is dropped or
+/// reassigned of a role's objects, and each member that a group loses. A GRANT is not reported, nor is DROP GROUP.
 ///
 /// Clients that rely on it are refused from then on, some of them only at their next login.
 ///
