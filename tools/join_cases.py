@@ -6,19 +6,44 @@
   tools/join_cases.py --at N     the file and the line in `cases/` of line N of the joined file
 
 The files are joined in the order of their paths, each under a line `// cases/PATH`. Those of `cases/pending` are left out:
-they are of rules, words and programs that are not built yet.
+they are of words and programs that are not built yet. The examples of README.md and docs/RULES.md follow as cases of their own: a
+block that begins with `$ echo 'TEXT' | ./squawk WORDS` or `$ printf 'TEXT' | ./squawk WORDS` is what the program prints.
 """
 import pathlib
+import re
+import shlex
 import sys
 
 TOP = pathlib.Path(__file__).resolve().parent.parent
 CASES = TOP / 'cases'
+PAGES = ['README.md', 'docs/RULES.md']
 RUNNER = TOP / 'crates' / 'case_runner'
 
 
 def sources():
     """The files whose cases are run."""
     return [path for path in sorted(CASES.rglob('*.txt')) if CASES / 'pending' not in path.parents]
+
+
+def example(page, number, block):
+    """The lines of a case: the example that begins on this line of a page."""
+    command, *printed = block
+    before, _, words = command[2:].partition('| ./squawk')
+    kind, *parts = shlex.split(before)
+    text = parts[-1].replace('\\n', '\n') if kind == 'printf' else parts[-1] + '\n'
+    status = 0 if printed[-1] == 'violations: 0' else 1
+    lines = [f'# an example of {page}'] + [f'$ {words.strip()}'] * bool(words.strip())
+    lines += text.split('\n') + ['---'] + printed + [f'status {status}', '']
+    return [(line, page, number) for line in lines]
+
+
+def examples(page):
+    """The examples of a page, as cases."""
+    text = (TOP / page).read_text(encoding='utf-8')
+    lines = []
+    for found in re.finditer(r'^```\n(\$ (?:echo|printf) .*?)\n```$', text, re.M | re.S):
+        lines += example(page, text.count('\n', 0, found.start()) + 2, found[1].split('\n'))
+    return lines
 
 
 def joined():
@@ -29,6 +54,8 @@ def joined():
         lines.append((f'// {name}', name, 0))
         text = path.read_text(encoding='utf-8')
         lines += [(line, name, number) for number, line in enumerate(text.split('\n'), 1)]
+    for page in PAGES:
+        lines += [(f'// {page}', page, 0)] + examples(page)
     return lines
 
 

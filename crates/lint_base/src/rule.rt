@@ -109,7 +109,7 @@ pub enum Rule {
     BanDropConstraint,
     /// `DROP EXPRESSION`.
     BanDropGeneratedExpression,
-    /// A renamed object that is neither a table nor a column.
+    /// A renamed object that is neither a table nor a column: a foreign table, a view, an index, a role and others.
     RenamingObject,
     /// `SET SCHEMA`.
     BanSetSchema,
@@ -117,13 +117,13 @@ pub enum Rule {
     BanAlterIdentity,
     /// `DROP EXTENSION`.
     BanDropExtension,
-    /// A change of a generated column's expression.
+    /// A change of a generated column's expression, or a generated column that is added.
     BanAlterGeneratedExpression,
     /// `DROP INDEX`.
     BanDropIndex,
     /// `SET DEFAULT`.
     BanSetDefault,
-    /// A trigger or rule that no longer fires.
+    /// A trigger or rule that is enabled or disabled, or a change of row security.
     BanDisableTrigger,
     /// A change of what is replicated.
     BanReplicaIdentity,
@@ -163,7 +163,7 @@ pub enum Rule {
     BanAlterSequenceValues,
     /// `ALTER SYSTEM`.
     BanAlterSystemOptions,
-    /// `ALTER EXTENSION`.
+    /// `ALTER EXTENSION` with `UPDATE` or `DROP`.
     BanAlterExtension,
 }
 

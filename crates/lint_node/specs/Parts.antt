@@ -3,12 +3,16 @@ use Rattle.std.specs.Prelude.{Bool, false, List, [], if◌then◌else◌, Option
 use Rattle.std.specs.List.{list_any}
 use Rattle.sql_tree.specs.declared.kinds.ActionKind.{ActionKind}
 use Rattle.sql_tree.specs.declared.kinds.ActionKind.TheVariants as action
+use Rattle.sql_tree.specs.declared.kinds.StmtKind.TheVariants as stmt
 use Rattle.sql_tree.specs.declared.nodes.Action.{Action}
 use Rattle.sql_tree.specs.declared.nodes.Body.{Body}
 use Rattle.sql_tree.specs.declared.nodes.Body.TheVariants as body
 use Rattle.sql_tree.specs.declared.nodes.Column.{Column}
 use Rattle.sql_tree.specs.declared.nodes.Constraint.{Constraint}
-use Rattle.lint_node.specs.Same.{same_action}
+use Rattle.sql_tree.specs.declared.nodes.Elem.{Elem}
+use Rattle.sql_tree.specs.declared.nodes.Stmt.{Stmt}
+use Rattle.sql_tree.specs.Nodes.{actions_in, elements_in}
+use Rattle.lint_node.specs.Same.{same_action, same_kind}
 
 -- a CREATE statement with OR REPLACE
 abbrev pub replaces_by : Body → Bool
@@ -27,3 +31,19 @@ constraints_by None = []
 -- the constraints of the column that an ADD COLUMN adds
 abbrev pub new_constraints : Action → List Constraint
 new_constraints a = if same_action a.kind action.AddColumn then constraints_by a.column else []
+
+-- the column that an ADD COLUMN adds (PostgreSQL manual, ALTER TABLE)
+abbrev pub added_column : Action → Option Column
+added_column a = if same_action a.kind action.AddColumn then a.column else None
+
+-- the actions of an ALTER TABLE; those of any other ALTER do not count
+abbrev pub table_actions : Stmt → List Action
+table_actions s = if same_kind s.kind stmt.AlterTable then actions_in s.body else []
+
+-- the elements of a table's list: of a CREATE TABLE, a CREATE TABLE AS or a CREATE FOREIGN TABLE
+abbrev pub elements_of : Stmt → List Elem
+elements_of s = elements_in s.body
+
+-- the elements of the list of a CREATE TABLE (PostgreSQL manual, CREATE TABLE); those of the other two do not count
+abbrev pub created_elements : Stmt → List Elem
+created_elements s = if same_kind s.kind stmt.CreateTable then elements_of s else []

@@ -1,11 +1,12 @@
 //! The parts of a statement.
 
-ghost use Rattle.std.specs.Prelude.{◌≡◌};
-ghost use Rattle.lint_node.specs.Parts.{constraints_by, has_action, new_constraints, replaces_by};
+ghost use Rattle.std.specs.Prelude.{◌≡◌, option_copied};
+ghost use Rattle.lint_node.specs.Parts as spec;
+ghost use Rattle.lint_node.specs.Parts.{has_action, new_constraints, replaces_by};
 ghost use Rattle.sql_tree.specs.Nodes.{actions_in};
 
-use crate::same::same_action;
-use sql_tree::{Action, ActionKind, Body, Column, Constraint, Stmt};
+use crate::same::{same_action, same_kind};
+use sql_tree::{Action, ActionKind, Body, Column, Constraint, Elem, Stmt, StmtKind};
 
 /// The actions of an ALTER statement; none of any other.
 pub fn actions_of(s: &Stmt) -> &[Action]
@@ -37,12 +38,14 @@ pub fn has_action(kind: ActionKind, actions: &[Action]) -> bool
     actions.iter().any(|a| same_action(a.kind, kind))
 }
 
-fn constraints_of(column: &Option<Column>) -> &[Constraint]
-    ensures { result.now ≡ constraints_by column.now }
+/// The column that an ADD COLUMN adds; none of any other action.
+pub fn added_column(a: &Action) -> Option<&Column>
+    ensures { option_copied result ≡ spec.added_column a.now }
 {
-    match column {
-        Some(c) => c.constraints.as_slice(),
-        None => &[],
+    if same_action(a.kind, ActionKind::AddColumn) {
+        a.column.as_ref()
+    } else {
+        None
     }
 }
 
@@ -50,8 +53,29 @@ fn constraints_of(column: &Option<Column>) -> &[Constraint]
 pub fn new_constraints(a: &Action) -> &[Constraint]
     ensures { result.now ≡ new_constraints a.now }
 {
-    if same_action(a.kind, ActionKind::AddColumn) {
-        constraints_of(&a.column)
+    match added_column(a) {
+        Some(column) => column.constraints.as_slice(),
+        None => &[],
+    }
+}
+
+/// The elements of a table's list, of a CREATE TABLE, a CREATE TABLE AS or a CREATE FOREIGN TABLE; none of any other
+/// statement.
+pub fn table_elements(s: &Stmt) -> &[Elem]
+    ensures { result.now ≡ spec.elements_of s.now }
+{
+    match &s.body {
+        Body::Table { elems, .. } => elems.as_slice(),
+        _ => &[],
+    }
+}
+
+/// The elements of the list of a CREATE TABLE; none of any other statement.
+pub fn created_elements(s: &Stmt) -> &[Elem]
+    ensures { result.now ≡ spec.created_elements s.now }
+{
+    if same_kind(s.kind, StmtKind::CreateTable) {
+        table_elements(s)
     } else {
         &[]
     }

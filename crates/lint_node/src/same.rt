@@ -1,9 +1,9 @@
 //! Equality of kinds.
 
 ghost use Rattle.std.specs.Prelude.{◌≡◌};
-ghost use Rattle.lint_node.specs.Same.{same_action, same_constraint, same_kind, same_piece};
+ghost use Rattle.lint_node.specs.Same.{same_action, same_constraint, same_kind, same_piece, same_type};
 
-use sql_tree::{ActionKind, ConKind, PieceKind, StmtKind};
+use sql_tree::{ActionKind, ConKind, PieceKind, StmtKind, TyKind};
 
 #[tactic(auto, unfolding(crate::specs::Same::same_kind))]
 #[inline(always)]
@@ -33,6 +33,14 @@ pub fn same_piece(a: PieceKind, b: PieceKind) -> bool
 #[inline(always)]
 pub fn same_constraint(a: ConKind, b: ConKind) -> bool
     ensures { result ≡ same_constraint a b }
+{
+    a == b
+}
+
+#[tactic(auto, unfolding(crate::specs::Same::same_type))]
+#[inline(always)]
+pub fn same_type(a: TyKind, b: TyKind) -> bool
+    ensures { result ≡ same_type a b }
 {
     a == b
 }

@@ -1,6 +1,5 @@
 -- What holds of each report of a ban.
 use Rattle.std.specs.Prelude.{ℕ, All, List, [], ◌∷◌, refl}
-use Rattle.text_pos.specs.Range.{Range}
 use Rattle.lint_base.specs.declared.rule.Rule.{Rule}
 use Rattle.lint_base.specs.declared.violation.Violation.{Violation}
 use Rattle.sql_tree.specs.declared.nodes.Stmt.{Stmt}

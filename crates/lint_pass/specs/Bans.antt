@@ -1,11 +1,12 @@
 -- What is reported wherever it is.
-use Rattle.std.specs.Prelude.{ℕ, Bool, false, ◌&&◌, List, [], ◌∷◌, Option, Some, None, if◌then◌else◌}
+use Rattle.std.specs.Prelude.{ℕ, Bool, true, false, ◌&&◌, List, [], ◌∷◌, Option, Some, None, if◌then◌else◌}
 use Rattle.std.specs.Borrow.{Bor}
-use Rattle.std.specs.List.{flat_map}
+use Rattle.std.specs.List.{flat_map, list_any}
 use Rattle.text_pos.specs.Range.{Range}
 use Rattle.lint_base.specs.declared.rule.Rule.{Rule}
 use Rattle.lint_base.specs.declared.violation.Violation.{Violation}
 use Rattle.sql_tree.specs.declared.kinds.PieceKind.TheVariants as piece
+use Rattle.sql_tree.specs.declared.kinds.StmtKind.{StmtKind}
 use Rattle.sql_tree.specs.declared.nodes.Stmt.{Stmt}
 use Rattle.sql_tree.specs.Range.{stmt_range_of}
 use Rattle.sql_tree.specs.Statement.{Tree}
@@ -42,6 +43,17 @@ fits (spot.Piece k a) (node.Piece n b always) = same_kind k n && same_piece a b
 fits (spot.Always k) (node.Piece n b always) = same_kind k n && (same_piece piece.SetGenerated b && always)
 fits _ _ = false
 
+-- a row of the spot can report something in a statement of the kind
+abbrev pub concerns : Spot → StmtKind → Bool
+concerns (spot.Statement k) n = same_kind k n
+concerns (spot.Replacing k) n = same_kind k n
+concerns (spot.Having k a) n = same_kind k n
+concerns (spot.Action k a) n = same_kind k n
+concerns (spot.AnyAction a) n = true
+concerns (spot.NewColumn k c) n = same_kind k n
+concerns (spot.Piece k a) n = same_kind k n
+concerns (spot.Always k) n = same_kind k n
+
 -- no note is written as the empty text
 abbrev pub note_of : List ℕ → Option (List ℕ)
 note_of [] = None
@@ -51,6 +63,10 @@ abbrev pub ban_report : Rule → List ℕ → List ℕ → Range → Violation
 ban_report code message note range = record { code = code; message = message; text_range = range; note = note_of note; help = None; fix = None }
 
 -- ---- by the rows of one rule
+
+-- some row can report something in a statement of the kind
+abbrev pub rows_concern : List (Spot × Bor (List ℕ) × Bor (List ℕ)) → StmtKind → Bool
+rows_concern rows kind = list_any (λ r. concerns r.0 kind) rows
 
 abbrev pub on_row : Rule → Tree → Stmt → BanRow → List Violation
 on_row code tree s r = if fits_statement r.0 s then ban_report code r.1 r.2 (stmt_range_of tree.toks s) ∷ [] else []

@@ -1,8 +1,11 @@
 pub mod Bans
 pub mod BanLaws
 pub mod Blocks
+pub mod BlockPlace
 pub mod BlockWalk
 pub mod Cleared
+pub mod Fixes
+pub mod FixLaws
 pub mod Laws
 pub mod NodeWalk
 pub mod PairLaws

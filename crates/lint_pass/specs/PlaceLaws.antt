@@ -43,3 +43,9 @@ pub end_place : (tree : Tree) → IsRead tree → (n : ℕ) → IsPlace tree.tex
 end_place tree h n =
     let whole = span_place tree h n n in
     record { ordered = omega arith; start = whole.end; end = whole.end }
+
+-- the start of a token, where a text may be inserted
+pub start_place : (tree : Tree) → IsRead tree → (n : ℕ) → IsPlace tree.text (record { start = (span_range_of tree.toks n n).start; end = (span_range_of tree.toks n n).start })
+start_place tree h n =
+    let whole = span_place tree h n n in
+    record { ordered = omega arith; start = whole.start; end = whole.start }

@@ -1,7 +1,7 @@
 -- What is reported wherever it is, by rows that each name their rule.
 use Rattle.std.specs.Prelude.{ℕ, Bool, true, ◌&&◌, List, [], ◌∷◌, length, if◌then◌else◌}
 use Rattle.std.specs.Borrow.{Bor}
-use Rattle.std.specs.List.{flat_map}
+use Rattle.std.specs.List.{flat_map, list_any}
 use Rattle.text_pos.specs.Range.{Range}
 use Rattle.lint_base.specs.declared.rule.Rule.{Rule}
 use Rattle.lint_base.specs.declared.violation.Violation.{Violation}
@@ -9,12 +9,13 @@ use Rattle.lint_base.specs.RuleSets.{Rules, has}
 use Rattle.lint_base.specs.Violations.{violation}
 use Rattle.lint_transaction.specs.Earlier.{pieces_below}
 use Rattle.lint_transaction.specs.Transaction.{stmt_at}
+use Rattle.sql_tree.specs.declared.kinds.StmtKind.{StmtKind}
 use Rattle.sql_tree.specs.declared.nodes.Stmt.{Stmt}
 use Rattle.sql_tree.specs.Range.{stmt_range_of}
 use Rattle.sql_tree.specs.Statement.{Tree}
 use Rattle.lint_pass.specs.declared.bans.Spot.{Spot}
 use Rattle.lint_pass.specs.declared.nodes.Node.{Node}
-use Rattle.lint_pass.specs.Bans.{fits, fits_statement}
+use Rattle.lint_pass.specs.Bans.{concerns, fits, fits_statement}
 use Rattle.lint_pass.specs.NodeWalk.{walked}
 
 -- a rule, a spot and a message
@@ -24,6 +25,10 @@ RuledRow = Rule × Spot × List ℕ
 -- a row whose text is lent
 abbrev pub lent_ruled : Rule × Spot × Bor (List ℕ) → RuledRow
 lent_ruled r = (r.0, r.1, r.2.now)
+
+-- some row can report something in a statement of the kind
+abbrev pub ruled_concern : List (Rule × Spot × Bor (List ℕ)) → StmtKind → Bool
+ruled_concern rows kind = list_any (λ r. concerns r.1 kind) rows
 
 abbrev pub on_ruled : Rules → Tree → Stmt → RuledRow → List Violation
 on_ruled rules tree s r = if has rules r.0 && fits_statement r.1 s then violation r.0 r.2 (stmt_range_of tree.toks s) ∷ [] else []

@@ -21,7 +21,7 @@ use text_pos::{NoMemory, TextRange};
 pub enum Spot {
     /// Statements of the kind.
     Statement(StmtKind),
-    /// Statements of the kind that tell OR REPLACE.
+    /// Statements of the kind that say OR REPLACE.
     Replacing(StmtKind),
     /// Statements of the kind that have an action of the kind.
     Having(StmtKind, ActionKind),
@@ -71,6 +71,23 @@ pub(crate) fn fits_statement(spot: Spot, s: &Stmt) -> bool
         Spot::Replacing(k) => same_kind(k, s.kind) && replaces(s),
         Spot::Having(k, a) => same_kind(k, s.kind) && has_action(a, actions_of(s)),
         _ => false,
+    }
+}
+
+/// Whether a row of the spot can report anything in a statement of the kind.
+#[inline(always)]
+pub(crate) fn concerns(spot: Spot, kind: StmtKind) -> bool
+    ensures { result ≡ spec.concerns spot kind }
+{
+    match spot {
+        Spot::Statement(k)
+        | Spot::Replacing(k)
+        | Spot::Having(k, _)
+        | Spot::Action(k, _)
+        | Spot::NewColumn(k, _)
+        | Spot::Piece(k, _)
+        | Spot::Always(k) => same_kind(k, kind),
+        Spot::AnyAction(_) => true,
     }
 }
 
@@ -225,7 +242,15 @@ impl NodeReader for RowsOf {
     }
 }
 
-/// Reports a statement and the nodes in it by the rows.
+/// Whether some row can report anything in a statement of the kind.
+#[inline(always)]
+fn rows_concern(rows: BanRows, kind: StmtKind) -> bool
+    ensures { result ≡ spec.rows_concern rows.entry.now kind }
+{
+    rows.iter().any(|row| concerns(row.0, kind))
+}
+
+/// Reports a statement and the nodes in it by the rows. Most statements concern no row, so their kind is looked at first.
 #[inline(always)]
 fn report_bans(
     code: Rule,
@@ -237,7 +262,11 @@ fn report_bans(
     ensures ok { OnOk result (out.new ≡ out.old ++ bans_on code (map lent rows.entry.now) p.now s.now) }
     ensures err { OnErr result (GrownBy out.old out.new (bans_on code (map lent rows.entry.now) p.now s.now)) }
 {
-    report_nodes(&RowsOf { code, rows }, p, s, out)
+    if rows_concern(rows, s.kind) {
+        report_nodes(&RowsOf { code, rows }, p, s, out)
+    } else {
+        Ok(())
+    }
 }
 
 impl<T: BanPass> StatementPass for T {

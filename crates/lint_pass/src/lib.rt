@@ -1,14 +1,17 @@
 //! Passes: what a linter looks for in a tree, and the one walk over the statements that feeds them.
 //!
-//! A [`Pass`] has a table: the reports for a tree, rules and settings. A [`StepPass`] is told one statement after
+//! A [`Pass`] has a table: the reports for a tree, rules and settings. A [`StepPass`] takes one statement after
 //! another, and is a pass by [`walk`]. `specs/` says what each call means: `Cleared` which settings fit a tree, `Blocks`
-//! the blocks of statements that a migration tool wrote, and `Walk` what a cursor shows.
+//! the blocks of statements that a migration tool wrote, `BlockPlace` which statements lie in one, and `Walk` what a cursor
+//! shows.
 #![tactic(auto)]
 
 mod bans;
+mod block_place;
 mod blocks;
 mod cursor;
 mod feed;
+mod fixes;
 mod nodes;
 mod nothing;
 mod pair;
@@ -20,9 +23,11 @@ mod step;
 mod steps;
 
 pub use bans::{BanPass, BanRows, Spot};
+pub use block_place::{blocks_ended_before, is_in_block};
 pub use blocks::{Block, find_blocks};
 pub use cursor::Cursor;
 pub use feed::{drive, walk};
+pub use fixes::{insertion_fix, replacement_fix};
 pub use nodes::{Node, NodeReader, report_nodes};
 pub use nothing::NoPass;
 pub use pair::{Pair, PairState};

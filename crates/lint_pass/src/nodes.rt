@@ -18,7 +18,7 @@ pub enum Node {
     Action(StmtKind, ActionKind),
     /// A constraint of a column that an action adds.
     Constraint(StmtKind, ConKind),
-    /// A piece of an action, and whether it tells ALWAYS.
+    /// A piece of an action, and whether it says ALWAYS.
     Piece(StmtKind, PieceKind, bool),
 }
 

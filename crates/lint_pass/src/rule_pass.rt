@@ -22,7 +22,7 @@ pub trait RulePass {
     ghost use Rattle.lint_pass.specs.Blocks.{blocks_of};
     ghost use Rattle.lint_pass.specs.Laws.{HasCode, IsRead, StandsIn};
 
-    /// What it remembers of the statements that it was told.
+    /// What it remembers of the statements that it was given.
     type Memory: Drop;
 
     /// Its rule.

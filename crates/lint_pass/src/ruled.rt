@@ -2,12 +2,12 @@
 
 ghost use Rattle.std.specs.Prelude.{◌≡◌, ◌++◌, OnOk, OnErr, map};
 ghost use Rattle.lint_base.specs.Grown.{GrownBy};
-ghost use Rattle.lint_pass.specs.Ruled.{by_ruled, by_ruled_rows, lent_ruled, on_ruled, on_ruled_rows, ruled_on};
+ghost use Rattle.lint_pass.specs.Ruled.{by_ruled, by_ruled_rows, lent_ruled, on_ruled, on_ruled_rows, ruled_concern, ruled_on};
 
-use crate::bans::{Spot, fits, fits_statement};
+use crate::bans::{Spot, concerns, fits, fits_statement};
 use crate::nodes::{Node, NodeReader, report_nodes};
 use lint_base::{Reports, Rule, RuleSet, Text, Violation};
-use sql_tree::{Parse, Stmt};
+use sql_tree::{Parse, Stmt, StmtKind};
 use text_pos::{NoMemory, TextRange};
 
 /// A table of what is reported: the rule, where, and the message.
@@ -111,7 +111,16 @@ impl NodeReader for RuledRowsOf {
     }
 }
 
-/// Reports a statement and the nodes in it, by place, by the rows whose rules are enabled.
+/// Whether some row can report anything in a statement of the kind.
+#[inline(always)]
+fn rows_concern(rows: RuledRows, kind: StmtKind) -> bool
+    ensures { result ≡ ruled_concern rows.entry.now kind }
+{
+    rows.iter().any(|row| concerns(row.1, kind))
+}
+
+/// Reports a statement and the nodes in it, by place, by the rows whose rules are enabled. Most statements concern no
+/// row, so their kind is looked at first.
 #[inline(always)]
 pub fn report_ruled(
     rows: RuledRows,
@@ -123,13 +132,13 @@ pub fn report_ruled(
     ensures ok { OnOk result (out.new ≡ out.old ++ ruled_on (map lent_ruled rows.entry.now) p.now rules.now s.now) }
     ensures err { OnErr result (GrownBy out.old out.new (ruled_on (map lent_ruled rows.entry.now) p.now rules.now s.now)) }
 {
-    report_nodes(
-        &RuledRowsOf {
+    if rows_concern(rows, s.kind) {
+        let reader = RuledRowsOf {
             rules: *rules,
             rows,
-        },
-        p,
-        s,
-        out,
-    )
+        };
+        report_nodes(&reader, p, s, out)
+    } else {
+        Ok(())
+    }
 }

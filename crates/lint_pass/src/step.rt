@@ -1,4 +1,4 @@
-//! Passes that are told one statement after another.
+//! Passes that take one statement after another.
 
 ghost use Rattle.std.specs.Prelude.{◌≡◌, ◌+◌, ◌<◌, ◌++◌, length, true, OnOk, OnErr, IfOk};
 ghost use Rattle.lint_base.specs.Grown.{GrownBy};
@@ -11,7 +11,7 @@ use sql_tree::{Parse, Stmt};
 use std::alloc::Global;
 use text_pos::NoMemory;
 
-/// A pass that is told one statement after another, so that one walk can feed many. It reports its pieces, one for each
+/// A pass that takes one statement after another, so that one walk can feed many. It reports its pieces, one for each
 /// statement, and then its tail.
 ///
 /// A state belongs to one walk: the pass, tree, rules and settings of all its calls are the same. It holds no text of the
@@ -30,7 +30,7 @@ pub trait StepPass {
     /// The rules that it reports.
     ghost own: { Self → Rules };
 
-    /// What the pass remembers of the statements that it was told.
+    /// What the pass remembers of the statements that it was given.
     type State: Drop;
 
     /// A state is the one after the first statements of a tree, under rules and settings; the number says how many.
@@ -72,8 +72,8 @@ pub trait StepPass {
     fn start(&self, alloc: Global, set: &LinterSettings) -> Result<Self::State, NoMemory>
         ensures { IfOk result (λ state. (tree : Tree) (r : Rules) → IsCleared tree set.now → at self.now state tree r set.now 0) };
 
-    /// Tells the pass statement `i`, counted from 0, with the blocks of the tree, and adds its piece. The error is want of
-    /// memory; then a first part of the piece has been added, and the state is of no use any more.
+    /// Gives the pass statement `i`, counted from 0, with the blocks of the tree, and adds its piece. The error comes when
+    /// memory runs out; then a first part of the piece has been added, and the state is of no use any more.
     fn step(
         &self,
         state: &mut Self::State,

@@ -8,9 +8,11 @@ pub use lint_ignore::{
 };
 pub use lint_lock::{LockKind, analyze};
 pub use lint_pass::{
-    Block, Cursor, NoPass, Pair, PairState, Pass, StepPass, Steps, drive, find_blocks, walk,
+    BanPass, BanRows, Block, Cursor, NoPass, Node, NodeReader, Pair, PairState, Pass, RulePass,
+    RuledRows, Spot, StatementPass, StepPass, Steps, blocks_ended_before, drive, find_blocks,
+    insertion_fix, is_in_block, replacement_fix, report_nodes, report_ruled, walk,
 };
 pub use lint_transaction::{
-    CreatedTables, OpenTransaction, SpanKey, SpanSet, TablesCreatedInTransaction, begins, chains,
-    created, ends, name_at,
+    CreatedTables, OpenTransaction, SpanKey, SpanMap, SpanSet, TablesCreatedInTransaction, begins,
+    chains, created, ends, histories_grow, name_at,
 };

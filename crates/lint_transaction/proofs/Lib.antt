@@ -1,4 +1,6 @@
 pub mod EarlierLaws
+pub mod EventLaws
+pub mod MapLaws
 pub mod NameLaws
 pub mod Paths
 pub mod SpanLaws

@@ -7,7 +7,8 @@ use Rattle.std.specs.List.{list_any}
 use Rattle.std.specs.Map.{lookup}
 use Rattle.sql_token.specs.declared.token.Span.{Span}
 use Rattle.sql_tree.specs.Statement.{Tree}
-use Rattle.lint_transaction.specs.SpanSet.{Spans, PutsSpan, ListsSpan, key_of, hash_of, has_names, is_some_named, is_hashed, is_other, has_span}
+use Rattle.lint_transaction.specs.SpanKey.{key_of, hash_of}
+use Rattle.lint_transaction.specs.SpanSet.{Spans, PutsSpan, ListsSpan, has_names, is_some_named, is_hashed, is_other, has_span}
 use Rattle.lint_transaction.specs.Transaction.{same_path}
 use Rattle.lint_transaction.proofs.Paths.{same_so}
 
@@ -34,7 +35,7 @@ rotated false true false = refl
 rotated false false true = refl
 rotated false false false = refl
 
-nat_eq-same : (a b : ℕ) → a ≡ b → nat_eq a b ≡ true
+pub nat_eq-same : (a b : ℕ) → a ≡ b → nat_eq a b ≡ true
 nat_eq-same a b e = grind (arith, nat_tests)
 
 and_false : (a : Bool) → (a && false) ≡ false

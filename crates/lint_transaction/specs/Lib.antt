@@ -1,7 +1,11 @@
 pub mod Created
 pub mod Earlier
+pub mod Events
+pub mod HistoryLaws
 pub mod Names
 pub mod NamesLeft
+pub mod SpanKey
+pub mod SpanMap
 pub mod SpanSet
 pub mod Transaction
 pub mod Tracking

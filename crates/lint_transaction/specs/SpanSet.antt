@@ -1,25 +1,12 @@
--- Sets of spans of a text, told apart by the names that are in them.
-use Rattle.std.specs.Prelude.{◌≡◌, ℕ, Bool, false, ◌&&◌, ◌||◌, nat_eq, List, [], ◌∷◌, ◌++◌, fold, Option, Some, None, is_none, if◌then◌else◌}
-use Rattle.std.specs.Hash.FoldHasher as folding
-use Rattle.std.specs.List.{flat_map, list_any}
+-- Sets of spans of a text, which are identified by the names in them.
+use Rattle.std.specs.Prelude.{◌≡◌, ℕ, Bool, false, ◌&&◌, ◌||◌, nat_eq, List, [], ◌∷◌, ◌++◌, Option, Some, None, is_none, if◌then◌else◌}
+use Rattle.std.specs.List.{list_any}
 use Rattle.std.specs.Map.{lookup}
-use Rattle.sql_name.specs.Hash.{text_writes}
 use Rattle.sql_token.specs.declared.token.Span.{Span}
-use Rattle.sql_tree.specs.Path.{path_cuts}
 use Rattle.sql_tree.specs.Statement.{Tree}
-use Rattle.lint_transaction.specs.Names.{name_at}
+use Rattle.lint_transaction.specs.SpanKey.{key_of, hash_of}
 use Rattle.lint_transaction.specs.Transaction.{same_path}
-use Rattle.lint_transaction.specs.declared.span_set.SpanKey.{SpanKey}
-use Rattle.lint_transaction.specs.declared.span_set.SpanKey.TheVariants as by
-
--- the names by which a span is told apart
-abbrev pub key_of : SpanKey → Tree → Span → List (List ℕ)
-key_of by.Path tree span = path_cuts tree.text tree.toks span
-key_of by.LastName tree span = name_at tree span.last ∷ []
-
--- the hash of names: each writes its bytes, and then a byte that no name has
-unfoldable pub hash_of : List (List ℕ) → ℕ
-hash_of names = folding.finish (fold folding.write folding.initial (flat_map text_writes names))
+use Rattle.lint_transaction.specs.declared.span_key.SpanKey.{SpanKey}
 
 -- a set: a span for each hash, and the spans that are compared one by one
 pub record Spans : Type 0 where

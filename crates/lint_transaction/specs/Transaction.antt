@@ -54,7 +54,7 @@ created s = created_by s.kind s.body
 
 -- ---- paths
 
--- the same names, each cut to what PostgreSQL tells names apart by
+-- the same names, each cut to the bytes by which PostgreSQL compares names
 abbrev pub same_path : List (List ℕ) → List (List ℕ) → Bool
 same_path p q = pointwise bytes_eq p q
 

@@ -9,7 +9,8 @@ ghost use Rattle.lint_transaction.specs.Transaction.{creates, is_new, is_open, s
 ghost use Rattle.lint_transaction.specs.Created.{IsKnown};
 
 use crate::open::OpenTransaction;
-use crate::span_set::{SpanKey, SpanSet};
+use crate::span_key::SpanKey;
+use crate::span_set::SpanSet;
 use crate::statement::{created, ends};
 use sql_token::Span;
 use sql_tree::{Parse, Stmt};
@@ -28,7 +29,7 @@ pub struct CreatedTables {
 impl Model for CreatedTables {
     ghost use Rattle.std.specs.Prelude.{◌≡◌};
     ghost use Rattle.lint_transaction.specs.Created.{Created};
-    ghost use Rattle.lint_transaction.specs.declared.span_set.SpanKey.TheVariants as by;
+    ghost use Rattle.lint_transaction.specs.declared.span_key.SpanKey.TheVariants as by;
 
     ghost Value = { Created };
 

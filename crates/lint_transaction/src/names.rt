@@ -6,7 +6,7 @@ ghost use Rattle.sql_tree.specs.Path.{path_cuts, name_cuts, is_name_kind};
 ghost use Rattle.sql_tree.specs.Range.{token_at};
 ghost use Rattle.lint_transaction.specs.NamesLeft.{name_given, names_from, names_left};
 ghost use Rattle.lint_transaction.specs.Transaction.{same_path};
-ghost use Rattle.lint_transaction.specs.SpanSet.{hash_of};
+ghost use Rattle.lint_transaction.specs.SpanKey.{hash_of};
 
 use sql_name::Name;
 use sql_token::{Span, TokKind};
@@ -139,7 +139,7 @@ fn has_same_names(p: &Parse<'_>, a: Span, b: Span) -> bool
 }
 
 /// The hash of the names of a span.
-#[tactic(auto, unfolding(crate::specs::SpanSet::hash_of))]
+#[tactic(auto, unfolding(crate::specs::SpanKey::hash_of))]
 pub(crate) fn hash_path(p: &Parse<'_>, span: Span) -> u64
     ensures { result ≡ hash_of (path_cuts p.now.text p.now.toks span) }
 {

@@ -1,21 +1,17 @@
-//! Sets of spans of a text, told apart by the names that are in them.
+//! Sets of spans of a text, which are identified by the names in them.
 
-ghost use Rattle.std.specs.Prelude.{◌≡◌, ◌||◌, ℕ, List, [], false, fold, OnOk, OnErr};
-ghost use Rattle.std.specs.Hash.FoldHasher as folding;
-ghost use Rattle.std.specs.Str.{bytes_eq};
+ghost use Rattle.std.specs.Prelude.{◌≡◌, ◌||◌, ℕ, List, [], false, OnOk, OnErr};
 ghost use Rattle.sql_tree.specs.Statement.{Tree};
-ghost use Rattle.lint_transaction.specs.Names as given;
 ghost use Rattle.lint_transaction.specs.Transaction.{same_path};
+ghost use Rattle.lint_transaction.specs.SpanKey.{key_of, hash_of};
 ghost use Rattle.lint_transaction.specs.SpanSet as spec;
-ghost use Rattle.lint_transaction.specs.SpanSet.{key_of, hash_of, has_span, PutsSpan, ListsSpan};
+ghost use Rattle.lint_transaction.specs.SpanSet.{has_span, PutsSpan, ListsSpan};
 
-use crate::name::name_at;
-use crate::names::{hash_path, is_same_path};
+use crate::span_key::{FEW, SpanKey, hash, is_same};
 use sql_token::Span;
 use sql_tree::Parse;
 use std::alloc::Global;
 use std::collections::HashMap;
-use std::hash::{FoldHasher, Hash, Hasher};
 use std::marker::Model;
 use text_pos::NoMemory;
 
@@ -23,21 +19,8 @@ use text_pos::NoMemory;
 /// one set that grew large must not slow down the small ones after it.
 pub(crate) const KEPT_CAPACITY: usize = 64;
 
-/// How many spans a set keeps in a list before it hashes: most transactions create no more tables, and to compare these
-/// costs less than to hash each.
-const FEW: usize = 4;
-
-/// What a set tells spans apart by.
-#[derive(Clone, Copy, Debug, PartialEq, Eq)]
-pub enum SpanKey {
-    /// The names in the span, each cut to what PostgreSQL tells names apart by: paths of tables.
-    Path,
-    /// The full text of the span's last token as a name: names of constraints.
-    LastName,
-}
-
-/// A set of spans of one text, told apart by the names that are in them. It holds no text: the text is at hand in each
-/// call. The first few spans are compared one by one; any other is found by a hash of its names, and confirmed by the names.
+/// A set of spans of one text, which are identified by the names in them. It holds no text, so a pass may keep it from
+/// statement to statement: the text is at hand in each call. The first few spans are compared one by one; any other is found by a hash of its names, and confirmed by the names.
 #[derive(Drop)]
 pub struct SpanSet {
     alloc: Global,
@@ -54,43 +37,6 @@ impl Model for SpanSet {
     ghost Value = { Spans };
 
     ghost view = { λ s. record { key = s.key; hashed = s.hashed.entries; others = s.others.items } };
-}
-
-/// The hash of a value by a hasher of its own.
-fn hash_alone<T: Hash>(value: &T) -> u64
-    ensures { result ≡ folding.finish (fold folding.write folding.initial (T.hash_input value.now)) }
-{
-    let mut hasher = FoldHasher::default();
-    value.hash(&mut hasher);
-    hasher.finish()
-}
-
-/// The hash of the names by which a span is told apart.
-fn hash(p: &Parse<'_>, key: SpanKey, span: Span) -> u64
-    ensures { result ≡ hash_of (key_of key p.now span) }
-{
-    match key {
-        SpanKey::Path => hash_path(p, span),
-        SpanKey::LastName => hash_alone(&name_at(p, span.last)),
-    }
-}
-
-/// Whether two spans have the same names.
-fn is_same(p: &Parse<'_>, key: SpanKey, a: Span, b: Span) -> bool
-    ensures { result ≡ same_path (key_of key p.now a) (key_of key p.now b) }
-{
-    match key {
-        SpanKey::Path => is_same_path(p, a, b),
-        SpanKey::LastName => is_same_name(p, a.last, b.last),
-    }
-}
-
-/// Whether two tokens give the same name. It is not inlined, since most sets are sets of paths.
-#[inline(never)]
-fn is_same_name(p: &Parse<'_>, a: u32, b: u32) -> bool
-    ensures { result ≡ bytes_eq (given.name_at p.now a) (given.name_at p.now b) }
-{
-    name_at(p, a) == name_at(p, b)
 }
 
 impl SpanSet {

@@ -35,12 +35,21 @@ const ANSWERS: &[(bool, &str, &str)] = &[
     ),
 ];
 
+/// The rules of these tests.
+const RULES: &[Rule] = &[
+    Rule::RequireConcurrentIndexCreation,
+    Rule::ConstraintMissingNotValid,
+    Rule::BanDropDatabase,
+    Rule::BanDropTable,
+];
+
 fn linter_of(alloc: Global, assume: bool) -> Result<Linter, Fail> {
-    Ok(Linter::with_default_rules(LinterSettings {
+    let settings = LinterSettings {
         pg_version: [15, 0, 0],
         assume_in_transaction: assume,
         non_volatile: Names::standard(alloc)?,
-    }))
+    };
+    Ok(Linter::from(RULES, settings))
 }
 
 fn push_reports(alloc: Global, out: &mut String, reports: &[Violation]) -> Result<(), Fail> {

@@ -220,7 +220,7 @@ impl BanPass for BanDropType {
 
 /// Reports each DROP TRIGGER.
 ///
-/// What the trigger did, checks, audit rows, copies of values, is no longer done, and no client is told.
+/// What the trigger did, checks, audit rows, copies of values, is no longer done, and no client gets an error.
 ///
 /// PostgreSQL manual, DROP TRIGGER.
 #[derive(Drop)]

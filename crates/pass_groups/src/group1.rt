@@ -1,18 +1,57 @@
 //! The passes from the first to the eighth of the linter's order.
 
 use lint_base::{LinterSettings, Reports, RuleSet};
-use lint_pass::{Block, StepPass};
+use lint_pass::{Block, Pair, StepPass};
+use pass_constraint::{
+    AddingFieldWithDefault, AddingForeignKeyConstraint, AddingPrimaryKeyConstraint,
+    AddingRequiredField,
+};
 use pass_drop::BanDropDatabase;
+use pass_history::AddingNotNullField;
+use pass_session::BanConcurrentIndexCreationInTransaction;
+use pass_type::BanCharField;
 use sql_tree::{Parse, Stmt};
 use std::alloc::Global;
 use text_pos::NoMemory;
 
 /// Its members, in order.
-type Members = BanDropDatabase;
+type Members = Pair<
+    Pair<
+        Pair<AddingFieldWithDefault, AddingForeignKeyConstraint>,
+        Pair<AddingNotNullField, AddingPrimaryKeyConstraint>,
+    >,
+    Pair<
+        Pair<AddingRequiredField, BanDropDatabase>,
+        Pair<BanCharField, BanConcurrentIndexCreationInTransaction>,
+    >,
+>;
 
-const MEMBERS: Members = BanDropDatabase;
+const MEMBERS: Members = Pair {
+    first: Pair {
+        first: Pair {
+            first: AddingFieldWithDefault,
+            second: AddingForeignKeyConstraint,
+        },
+        second: Pair {
+            first: AddingNotNullField,
+            second: AddingPrimaryKeyConstraint,
+        },
+    },
+    second: Pair {
+        first: Pair {
+            first: AddingRequiredField,
+            second: BanDropDatabase,
+        },
+        second: Pair {
+            first: BanCharField,
+            second: BanConcurrentIndexCreationInTransaction,
+        },
+    },
+};
 
-/// The passes from the first to the eighth of the linter's order, those that are built: [`BanDropDatabase`].
+/// The passes from the first to the eighth of the linter's order: [`AddingFieldWithDefault`], [`AddingForeignKeyConstraint`],
+/// [`AddingNotNullField`], [`AddingPrimaryKeyConstraint`], [`AddingRequiredField`], [`BanDropDatabase`], [`BanCharField`],
+/// [`BanConcurrentIndexCreationInTransaction`].
 #[derive(Drop)]
 pub struct Group1;
 

@@ -2,35 +2,61 @@
 
 use lint_base::{LinterSettings, Reports, RuleSet};
 use lint_pass::{Block, Pair, StepPass};
+use pass_constraint::DisallowUniqueConstraint;
 use pass_drop::{BanDropColumn, BanDropNotNull, BanDropTable};
 use pass_lock::ConstraintMissingNotValid;
-use pass_type::ChangingColumnType;
+use pass_type::{ChangingColumnType, PreferBigintOverInt, PreferBigintOverSmallint};
 use sql_tree::{Parse, Stmt};
 use std::alloc::Global;
 use text_pos::NoMemory;
 
-/// Its members, in order.
-type Members = Pair<
-    Pair<Pair<BanDropColumn, BanDropNotNull>, Pair<BanDropTable, ChangingColumnType>>,
-    ConstraintMissingNotValid,
+/// The passes of the group before the one on added constraints.
+pub type BeforeConstraints = Pair<
+    Pair<BanDropColumn, BanDropNotNull>,
+    Pair<BanDropTable, ChangingColumnType>,
 >;
 
-const MEMBERS: Members = Pair {
+/// The passes of the group before the one on added constraints.
+pub const BEFORE_CONSTRAINTS: BeforeConstraints = Pair {
     first: Pair {
-        first: Pair {
-            first: BanDropColumn,
-            second: BanDropNotNull,
-        },
-        second: Pair {
-            first: BanDropTable,
-            second: ChangingColumnType,
-        },
+        first: BanDropColumn,
+        second: BanDropNotNull,
     },
-    second: ConstraintMissingNotValid,
+    second: Pair {
+        first: BanDropTable,
+        second: ChangingColumnType,
+    },
 };
 
-/// The passes from the ninth to the 16th of the linter's order, those that are built: [`BanDropColumn`],
-/// [`BanDropNotNull`], [`BanDropTable`], [`ChangingColumnType`], [`ConstraintMissingNotValid`].
+/// The passes of the group after the one on added constraints.
+pub type AfterConstraints = Pair<
+    Pair<DisallowUniqueConstraint, PreferBigintOverInt>,
+    PreferBigintOverSmallint,
+>;
+
+/// The passes of the group after the one on added constraints.
+pub const AFTER_CONSTRAINTS: AfterConstraints = Pair {
+    first: Pair {
+        first: DisallowUniqueConstraint,
+        second: PreferBigintOverInt,
+    },
+    second: PreferBigintOverSmallint,
+};
+
+/// Its members, in order.
+type Members = Pair<BeforeConstraints, Pair<ConstraintMissingNotValid, AfterConstraints>>;
+
+const MEMBERS: Members = Pair {
+    first: BEFORE_CONSTRAINTS,
+    second: Pair {
+        first: ConstraintMissingNotValid,
+        second: AFTER_CONSTRAINTS,
+    },
+};
+
+/// The passes from the ninth to the 16th of the linter's order: [`BanDropColumn`], [`BanDropNotNull`], [`BanDropTable`],
+/// [`ChangingColumnType`], [`ConstraintMissingNotValid`], [`DisallowUniqueConstraint`], [`PreferBigintOverInt`],
+/// [`PreferBigintOverSmallint`].
 #[derive(Drop)]
 pub struct Group2;
 

@@ -3,24 +3,51 @@
 use lint_base::{LinterSettings, Reports, RuleSet};
 use lint_pass::{Block, Pair, StepPass};
 use pass_compat::{RenamingColumn, RenamingTable};
+use pass_history::PreferRobustStmts;
 use pass_lock::RequireConcurrentIndexCreation;
+use pass_session::PreferRepack;
+use pass_type::{PreferIdentity, PreferTextField, PreferTimestamptz};
 use sql_tree::{Parse, Stmt};
 use std::alloc::Global;
 use text_pos::NoMemory;
 
-/// Its members, in order.
-type Members = Pair<Pair<RenamingColumn, RenamingTable>, RequireConcurrentIndexCreation>;
+/// The passes of the group before the one on index builds.
+pub type BeforeBuilds = Pair<
+    Pair<Pair<PreferIdentity, PreferRepack>, Pair<PreferRobustStmts, PreferTextField>>,
+    Pair<Pair<PreferTimestamptz, RenamingColumn>, RenamingTable>,
+>;
 
-const MEMBERS: Members = Pair {
+/// The passes of the group before the one on index builds.
+pub const BEFORE_BUILDS: BeforeBuilds = Pair {
     first: Pair {
-        first: RenamingColumn,
+        first: Pair {
+            first: PreferIdentity,
+            second: PreferRepack,
+        },
+        second: Pair {
+            first: PreferRobustStmts,
+            second: PreferTextField,
+        },
+    },
+    second: Pair {
+        first: Pair {
+            first: PreferTimestamptz,
+            second: RenamingColumn,
+        },
         second: RenamingTable,
     },
+};
+
+/// Its members, in order.
+type Members = Pair<BeforeBuilds, RequireConcurrentIndexCreation>;
+
+const MEMBERS: Members = Pair {
+    first: BEFORE_BUILDS,
     second: RequireConcurrentIndexCreation,
 };
 
-/// The passes from the 17th to the 24th of the linter's order, those that are built: [`RenamingColumn`],
-/// [`RenamingTable`], [`RequireConcurrentIndexCreation`].
+/// The passes from the 17th to the 24th of the linter's order: [`PreferIdentity`], [`PreferRepack`], [`PreferRobustStmts`],
+/// [`PreferTextField`], [`PreferTimestamptz`], [`RenamingColumn`], [`RenamingTable`], [`RequireConcurrentIndexCreation`].
 #[derive(Drop)]
 pub struct Group3;
 

@@ -3,20 +3,51 @@
 use lint_base::{LinterSettings, Reports, RuleSet};
 use lint_pass::{Block, Pair, StepPass};
 use pass_compat::{BanAlterDomainWithAddConstraint, BanCreateDomainWithConstraint};
+use pass_lock::{BanTruncateCascade, RequireConcurrentIndexDeletion};
+use pass_session::{BanUncommittedTransaction, RequireTimeoutSettings, TransactionNesting};
+use pass_type::RequireEnumValueOrdering;
 use sql_tree::{Parse, Stmt};
 use std::alloc::Global;
 use text_pos::NoMemory;
 
 /// Its members, in order.
-type Members = Pair<BanCreateDomainWithConstraint, BanAlterDomainWithAddConstraint>;
+type Members = Pair<
+    Pair<
+        Pair<RequireConcurrentIndexDeletion, BanCreateDomainWithConstraint>,
+        Pair<BanAlterDomainWithAddConstraint, TransactionNesting>,
+    >,
+    Pair<
+        Pair<BanTruncateCascade, RequireTimeoutSettings>,
+        Pair<BanUncommittedTransaction, RequireEnumValueOrdering>,
+    >,
+>;
 
 const MEMBERS: Members = Pair {
-    first: BanCreateDomainWithConstraint,
-    second: BanAlterDomainWithAddConstraint,
+    first: Pair {
+        first: Pair {
+            first: RequireConcurrentIndexDeletion,
+            second: BanCreateDomainWithConstraint,
+        },
+        second: Pair {
+            first: BanAlterDomainWithAddConstraint,
+            second: TransactionNesting,
+        },
+    },
+    second: Pair {
+        first: Pair {
+            first: BanTruncateCascade,
+            second: RequireTimeoutSettings,
+        },
+        second: Pair {
+            first: BanUncommittedTransaction,
+            second: RequireEnumValueOrdering,
+        },
+    },
 };
 
-/// The passes from the 25th to the 32nd of the linter's order, those that are built: [`BanCreateDomainWithConstraint`],
-/// [`BanAlterDomainWithAddConstraint`].
+/// The passes from the 25th to the 32nd of the linter's order: [`RequireConcurrentIndexDeletion`],
+/// [`BanCreateDomainWithConstraint`], [`BanAlterDomainWithAddConstraint`], [`TransactionNesting`], [`BanTruncateCascade`],
+/// [`RequireTimeoutSettings`], [`BanUncommittedTransaction`], [`RequireEnumValueOrdering`].
 #[derive(Drop)]
 pub struct Group4;
 

@@ -4,26 +4,47 @@ use lint_base::{LinterSettings, Reports, RuleSet};
 use lint_pass::{Block, Pair, StepPass};
 use pass_compat::RequireTableSchema;
 use pass_drop::{BanDropFunction, BanDropType, BanDropView};
+use pass_lock::{RequireConcurrentPartitionDetach, RequireConcurrentReindex};
+use pass_name::{BanDuplicateColumnAssignments, IdentifierTooLong};
 use sql_tree::{Parse, Stmt};
 use std::alloc::Global;
 use text_pos::NoMemory;
 
 /// Its members, in order.
-type Members = Pair<Pair<RequireTableSchema, BanDropView>, Pair<BanDropFunction, BanDropType>>;
+type Members = Pair<
+    Pair<
+        Pair<RequireTableSchema, IdentifierTooLong>,
+        Pair<RequireConcurrentPartitionDetach, RequireConcurrentReindex>,
+    >,
+    Pair<Pair<BanDuplicateColumnAssignments, BanDropView>, Pair<BanDropFunction, BanDropType>>,
+>;
 
 const MEMBERS: Members = Pair {
     first: Pair {
-        first: RequireTableSchema,
-        second: BanDropView,
+        first: Pair {
+            first: RequireTableSchema,
+            second: IdentifierTooLong,
+        },
+        second: Pair {
+            first: RequireConcurrentPartitionDetach,
+            second: RequireConcurrentReindex,
+        },
     },
     second: Pair {
-        first: BanDropFunction,
-        second: BanDropType,
+        first: Pair {
+            first: BanDuplicateColumnAssignments,
+            second: BanDropView,
+        },
+        second: Pair {
+            first: BanDropFunction,
+            second: BanDropType,
+        },
     },
 };
 
-/// The passes from the 33rd to the 40th of the linter's order, those that are built: [`RequireTableSchema`],
-/// [`BanDropView`], [`BanDropFunction`], [`BanDropType`].
+/// The passes from the 33rd to the 40th of the linter's order: [`RequireTableSchema`], [`IdentifierTooLong`],
+/// [`RequireConcurrentPartitionDetach`], [`RequireConcurrentReindex`], [`BanDuplicateColumnAssignments`], [`BanDropView`],
+/// [`BanDropFunction`], [`BanDropType`].
 #[derive(Drop)]
 pub struct Group5;
 

@@ -40,9 +40,8 @@ const MEMBERS: Members = Pair {
     },
 };
 
-/// The passes from the 41st to the 48th of the linter's order, those that are built: [`BanDropDefault`],
-/// [`BanDropTrigger`], [`BanDropSchema`], [`BanDropSequence`], [`BanDropDomain`], [`BanDropConstraint`],
-/// [`BanDropGeneratedExpression`], [`RenamingObject`].
+/// The passes from the 41st to the 48th of the linter's order: [`BanDropDefault`], [`BanDropTrigger`], [`BanDropSchema`],
+/// [`BanDropSequence`], [`BanDropDomain`], [`BanDropConstraint`], [`BanDropGeneratedExpression`], [`RenamingObject`].
 #[derive(Drop)]
 pub struct Group6;
 

@@ -39,9 +39,8 @@ const MEMBERS: Members = Pair {
     },
 };
 
-/// The passes from the 49th to the 56th of the linter's order, those that are built: [`BanSetSchema`],
-/// [`BanAlterIdentity`], [`BanDropExtension`], [`BanAlterGeneratedExpression`], [`BanDropIndex`], [`BanSetDefault`],
-/// [`BanDisableTrigger`], [`BanReplicaIdentity`].
+/// The passes from the 49th to the 56th of the linter's order: [`BanSetSchema`], [`BanAlterIdentity`], [`BanDropExtension`],
+/// [`BanAlterGeneratedExpression`], [`BanDropIndex`], [`BanSetDefault`], [`BanDisableTrigger`], [`BanReplicaIdentity`].
 #[derive(Drop)]
 pub struct Group7;
 

@@ -3,29 +3,33 @@
 use lint_base::{LinterSettings, Reports, RuleSet};
 use lint_pass::{Block, Pair, StepPass};
 use pass_compat::{BanDropPolicy, BanReplaceViewFunction, BanRevoke, SecurityCompatibility};
+use pass_object::ExistingObjectCompatibility;
 use sql_tree::{Parse, Stmt};
 use std::alloc::Global;
 use text_pos::NoMemory;
 
 /// Its members, in order.
 type Members = Pair<
-    Pair<BanDropPolicy, BanRevoke>,
-    Pair<BanReplaceViewFunction, SecurityCompatibility>,
+    Pair<Pair<BanDropPolicy, BanRevoke>, Pair<BanReplaceViewFunction, SecurityCompatibility>>,
+    ExistingObjectCompatibility,
 >;
 
 const MEMBERS: Members = Pair {
     first: Pair {
-        first: BanDropPolicy,
-        second: BanRevoke,
+        first: Pair {
+            first: BanDropPolicy,
+            second: BanRevoke,
+        },
+        second: Pair {
+            first: BanReplaceViewFunction,
+            second: SecurityCompatibility,
+        },
     },
-    second: Pair {
-        first: BanReplaceViewFunction,
-        second: SecurityCompatibility,
-    },
+    second: ExistingObjectCompatibility,
 };
 
-/// The passes from the 57th to the 61st of the linter's order, those that are built: [`BanDropPolicy`], [`BanRevoke`],
-/// [`BanReplaceViewFunction`], [`SecurityCompatibility`].
+/// The passes from the 57th to the 61st of the linter's order: [`BanDropPolicy`], [`BanRevoke`], [`BanReplaceViewFunction`],
+/// [`SecurityCompatibility`], [`ExistingObjectCompatibility`].
 #[derive(Drop)]
 pub struct Group8;
 

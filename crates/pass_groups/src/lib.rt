@@ -15,8 +15,10 @@ mod group8;
 mod own;
 
 pub use group1::Group1;
-pub use group2::Group2;
-pub use group3::Group3;
+pub use group2::{
+    AFTER_CONSTRAINTS, AfterConstraints, BEFORE_CONSTRAINTS, BeforeConstraints, Group2,
+};
+pub use group3::{BEFORE_BUILDS, BeforeBuilds, Group3};
 pub use group4::Group4;
 pub use group5::Group5;
 pub use group6::Group6;

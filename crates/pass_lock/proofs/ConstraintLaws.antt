@@ -8,10 +8,14 @@ use Rattle.sql_tree.specs.declared.nodes.Action.{Action}
 use Rattle.sql_tree.specs.declared.nodes.Body.{Body}
 use Rattle.sql_tree.specs.declared.nodes.Body.TheVariants as body
 use Rattle.sql_tree.specs.declared.nodes.Stmt.{Stmt}
+use Rattle.sql_tree.specs.declared.kinds.StmtKind.TheVariants as stmt
+use Rattle.sql_tree.specs.Nodes.{actions_in}
 use Rattle.sql_tree.specs.Statement.{Tree}
+use Rattle.lint_node.specs.Parts.{table_actions}
+use Rattle.lint_node.specs.Same.{same_kind}
 use Rattle.lint_transaction.specs.SpanSet.{Spans}
 use Rattle.lint_transaction.specs.Transaction.{begins, ends, chains, ends_by, stmt_at, ends_at}
-use Rattle.lint_transaction.specs.declared.span_set.SpanKey.TheVariants as by
+use Rattle.lint_transaction.specs.declared.span_key.SpanKey.TheVariants as by
 use Rattle.lint_transaction.proofs.EarlierLaws.{since-suc}
 use Rattle.lint_transaction.proofs.TrackingLaws.{open_next_stmt}
 use Rattle.lint_base.specs.declared.settings.LinterSettings.{LinterSettings}
@@ -20,21 +24,21 @@ use Rattle.lint_base.specs.Grown.{GrownBy, grown_by_all, grown_by_none}
 use Rattle.lint_transaction.specs.Earlier.{pieces_below}
 use Rattle.lint_transaction.proofs.Paths.{or_true}
 use Rattle.lint_pass.specs.Pieces.{grown_piece, grown_in_piece}
-use Rattle.pass_lock.specs.ConstraintMissingNotValid.{actions_by, actions_of, is_alter_table_kind, added, adds_not_valid, adds_at, is_checked, addition, additions_of, is_new_table, altered_table, validation, validation_at, validations, validations_in}
+use Rattle.pass_lock.specs.ConstraintMissingNotValid.{added, adds_not_valid, adds_at, is_checked, addition, additions_of, is_new_table, altered_table, validation, validation_at, validations, validations_in}
 use Rattle.pass_lock.specs.ConstraintWalk.{has_name, IsWatching}
 
 true≢false : true ≡ false → ⊥
 true≢false h = cc
 
-end_alters_nothing : (b : Body) → ends_by b ≡ true → actions_by b ≡ []
+end_alters_nothing : (b : Body) → ends_by b ≡ true → actions_in b ≡ []
 end_alters_nothing (body.Alter path actions) h = absurd (cc)
 end_alters_nothing _ h = refl
 
 -- the end of a transaction adds no constraint
-end_adds_nothing : (tree : Tree) (name : List ℕ) (s : Stmt) → ends s ≡ true → list_any (adds_not_valid tree name) (actions_of s) ≡ false
-end_adds_nothing tree name s h = by (is_alter_table_kind s.kind)
+end_adds_nothing : (tree : Tree) (name : List ℕ) (s : Stmt) → ends s ≡ true → list_any (adds_not_valid tree name) (table_actions s) ≡ false
+end_adds_nothing tree name s h = by (same_kind s.kind stmt.AlterTable)
   where
-    by : (b : Bool) → list_any (adds_not_valid tree name) (cond b (actions_by s.body) []) ≡ false
+    by : (b : Bool) → list_any (adds_not_valid tree name) (cond b (actions_in s.body) []) ≡ false
     by true = ap (list_any (adds_not_valid tree name)) (end_alters_nothing s.body h)
     by false = refl
 
@@ -55,7 +59,7 @@ kept_names false false a false k = refl
 -- after one more statement
 pub watching_next : (tree : Tree) (assumed : Bool) (i : ℕ) (s : Stmt) (was_open now_open next_open : Bool) (was now next : Spans) → s ≡ stmt_at tree i
     → IsWatching tree assumed i was_open was → now_open ≡ was_open
-    → ((name : List ℕ) → has_name tree now name ≡ (has_name tree was name || (was_open && list_any (adds_not_valid tree name) (actions_of s))))
+    → ((name : List ℕ) → has_name tree now name ≡ (has_name tree was name || (was_open && list_any (adds_not_valid tree name) (table_actions s))))
     → next_open ≡ (begins s || chains s || (now_open && not (ends s))) → next.key ≡ by.LastName
     → ((name : List ℕ) → has_name tree next name ≡ (has_name tree now name && not (ends s)))
     → IsWatching tree assumed (i + 1) next_open next
@@ -63,7 +67,7 @@ watching_next tree assumed i s was_open now_open next_open was now next e h same
   open_here = open_next_stmt tree assumed i s was_open next_open e h.open_here (stays ∙ ap (λ b. begins s || chains s || (b && not (ends s))) same);
   by_name = key;
   added_here = λ name.
-      let A : Stmt → Bool = λ x. list_any (adds_not_valid tree name) (actions_of x) in
+      let A : Stmt → Bool = λ x. list_any (adds_not_valid tree name) (table_actions x) in
       rw add-one (kept name
       ∙ ap (λ b. b && not (ends s)) (names name)
       ∙ kept_names (has_name tree was name) was_open (A s) (ends s) (end_adds_nothing tree name s)
@@ -74,9 +78,9 @@ watching_next tree assumed i s was_open now_open next_open was now next e h same
 -- what is reported by what is known is what the definition says
 pub validations_known : (settings : LinterSettings) (tree : Tree) (i : ℕ) (s : Stmt) (is_open_here : Bool) (names : Spans) → s ≡ stmt_at tree i
     → IsWatching tree settings.assume_in_transaction i is_open_here names
-    → (if is_open_here then validations tree (has_name tree names) (actions_of s) else []) ≡ validations_in settings tree i
+    → (if is_open_here then validations tree (has_name tree names) (table_actions s) else []) ≡ validations_in settings tree i
 validations_known settings tree i s is_open_here names e h =
-    λ k. if h.open_here k then validations tree (λ name. h.added_here name k) (actions_of (e k)) else []
+    λ k. if h.open_here k then validations tree (λ name. h.added_here name k) (table_actions (e k)) else []
 
 -- no action adds a constraint so that the table is scanned
 none_checked : (tree : Tree) (actions : List Action) → list_any (λ a. is_checked (added a)) actions ≡ false → flat_map (addition tree) actions ≡ []
@@ -88,11 +92,11 @@ none_checked tree (a ∷ actions) h = by (is_checked (added a)) (list_any (λ x.
     by false c v h k = k h
 
 -- a statement that adds no constraint so that the table is scanned
-pub none_added : (settings : LinterSettings) (tree : Tree) (i : ℕ) (s : Stmt) (actions : List Action) → actions ≡ actions_of s → list_any (λ a. is_checked (added a)) actions ≡ false → (out : List Violation) → out ≡ out ++ additions_of settings tree i s
+pub none_added : (settings : LinterSettings) (tree : Tree) (i : ℕ) (s : Stmt) (actions : List Action) → actions ≡ table_actions s → list_any (λ a. is_checked (added a)) actions ≡ false → (out : List Violation) → out ≡ out ++ additions_of settings tree i s
 none_added settings tree i s actions is h out =
     sym (append-nil out) ∙ ap (λ xs. out ++ xs) (sym (by (is_new_table settings tree i (altered_table s))))
   where
-    by : (b : Bool) → cond b [] (flat_map (addition tree) (actions_of s)) ≡ []
+    by : (b : Bool) → cond b [] (flat_map (addition tree) (table_actions s)) ≡ []
     by true = refl
     by false = ap (flat_map (addition tree)) (sym is) ∙ none_checked tree actions h
 

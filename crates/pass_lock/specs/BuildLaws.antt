@@ -11,7 +11,7 @@ use Rattle.lint_base.specs.declared.violation.Violation.{Violation}
 use Rattle.lint_pass.specs.Laws.{HasCode, IsRead, StandsIn}
 use Rattle.lint_pass.specs.PlaceLaws.{span_place}
 use Rattle.lint_pass.specs.RuleLaws.{one_all, unless_all}
-use Rattle.pass_lock.specs.FixLaws.{after_token}
+use Rattle.pass_lock.specs.Concurrently.{concurrently_placed}
 use Rattle.pass_lock.specs.RequireConcurrentIndexCreation as build
 
 builds_all : (P : Violation → Type 0) (tree : Tree) (settings : LinterSettings) (i : ℕ) (s : Stmt) → ((word : ℕ) → P (build.report tree s word)) → All P (build.reports_of settings tree i s)
@@ -27,7 +27,7 @@ report_coded tree s word = refl
 
 report_placed : (tree : Tree) (s : Stmt) (word : ℕ) → IsRead tree → StandsIn tree (build.report tree s word)
 unfolding build.report
-report_placed tree s word read = record { range = span_place tree read s.first s.last; edits = after_token tree read (codes " concurrently") word }
+report_placed tree s word read = record { range = span_place tree read s.first s.last; edits = concurrently_placed tree read word }
 
 pub builds_coded : (tree : Tree) (settings : LinterSettings) (i : ℕ) (s : Stmt) → All (HasCode rule.RequireConcurrentIndexCreation) (build.reports_of settings tree i s)
 builds_coded tree settings i s = builds_all (HasCode rule.RequireConcurrentIndexCreation) tree settings i s (report_coded tree s)

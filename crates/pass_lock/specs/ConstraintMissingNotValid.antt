@@ -5,10 +5,7 @@ use Rattle.std.specs.Prelude.{ℕ, Bool, true, false, ◌&&◌, ◌||◌, not, L
 use Rattle.std.specs.List.{flat_map, list_any}
 use Rattle.std.specs.Str.{bytes_eq}
 use Rattle.sql_token.specs.declared.token.Span.{Span}
-use Rattle.sql_tree.specs.declared.kinds.ActionKind.{ActionKind}
 use Rattle.sql_tree.specs.declared.kinds.ActionKind.TheVariants as action
-use Rattle.sql_tree.specs.declared.kinds.StmtKind.{StmtKind}
-use Rattle.sql_tree.specs.declared.kinds.StmtKind.TheVariants as stmt
 use Rattle.sql_tree.specs.declared.nodes.Action.{Action}
 use Rattle.sql_tree.specs.declared.nodes.Body.{Body}
 use Rattle.sql_tree.specs.declared.nodes.Body.TheVariants as body
@@ -21,24 +18,14 @@ use Rattle.lint_base.specs.declared.rule.Rule.TheVariants as rule
 use Rattle.lint_base.specs.declared.settings.LinterSettings.{LinterSettings}
 use Rattle.lint_base.specs.declared.violation.Violation.{Violation}
 use Rattle.lint_base.specs.RuleSets.{Rules}
+use Rattle.lint_node.specs.Parts.{table_actions}
+use Rattle.lint_node.specs.Same.{same_action}
 use Rattle.lint_transaction.specs.Earlier.{since, pieces_below}
 use Rattle.lint_pass.specs.RuleLaws.{table_of}
 use Rattle.lint_transaction.specs.Names.{name_at}
 use Rattle.lint_transaction.specs.Transaction.{stmt_at, ends_at, is_open, is_new}
 
 -- ---- statements and actions
-
-abbrev pub is_alter_table_kind : StmtKind → Bool
-is_alter_table_kind stmt.AlterTable = true
-is_alter_table_kind _ = false
-
-abbrev pub actions_by : Body → List Action
-actions_by (body.Alter path actions) = actions
-actions_by _ = []
-
--- the actions of an ALTER TABLE statement
-abbrev pub actions_of : Stmt → List Action
-actions_of s = if is_alter_table_kind s.kind then actions_by s.body else []
 
 abbrev pub table_by : Body → Option Span
 table_by (body.Alter path actions) = path
@@ -48,21 +35,13 @@ table_by _ = None
 abbrev pub altered_table : Stmt → Option Span
 altered_table s = table_by s.body
 
-abbrev pub is_add_kind : ActionKind → Bool
-is_add_kind action.AddConstraint = true
-is_add_kind _ = false
-
-abbrev pub is_validate_kind : ActionKind → Bool
-is_validate_kind action.ValidateConstraint = true
-is_validate_kind _ = false
-
 -- the constraint that an action adds
 abbrev pub added : Action → Option Constraint
-added a = if is_add_kind a.kind then a.constraint else None
+added a = if same_action a.kind action.AddConstraint then a.constraint else None
 
 -- the path of the constraint that an action validates
 abbrev pub validated : Action → Option Span
-validated a = if is_validate_kind a.kind then a.path else None
+validated a = if same_action a.kind action.ValidateConstraint then a.path else None
 
 abbrev pub report_on : Tree → List ℕ → List ℕ → Action → Violation
 report_on tree message help a = record {
@@ -90,7 +69,7 @@ adds_not_valid tree name a = is_name tree name (name_if_not_valid (added a))
 
 -- statement j adds it in an open transaction
 abbrev pub adds_at : Bool → Tree → List ℕ → ℕ → Bool
-adds_at assumed tree name j = is_open assumed tree j && list_any (adds_not_valid tree name) (actions_of (stmt_at tree j))
+adds_at assumed tree name j = is_open assumed tree j && list_any (adds_not_valid tree name) (table_actions (stmt_at tree j))
 
 -- An earlier statement of the same open transaction as statement i added a constraint of this name as not valid.
 abbrev pub is_added : Bool → Tree → List ℕ → ℕ → Bool
@@ -123,7 +102,7 @@ validations tree is_known actions = pieces_below (validation_at tree is_known ac
 abbrev pub validations_in : LinterSettings → Tree → ℕ → List Violation
 validations_in settings tree i =
     if is_open settings.assume_in_transaction tree i
-    then validations tree (λ name. is_added settings.assume_in_transaction tree name i) (actions_of (stmt_at tree i))
+    then validations tree (λ name. is_added settings.assume_in_transaction tree name i) (table_actions (stmt_at tree i))
     else []
 
 abbrev pub reports_of_validations : Tree → Rules → LinterSettings → List Violation
@@ -150,7 +129,7 @@ is_new_table settings tree i (Some path) = is_new settings.assume_in_transaction
 
 -- the constraints that s, which is statement i, adds to a table that is not new
 abbrev pub additions_of : LinterSettings → Tree → ℕ → Stmt → List Violation
-additions_of settings tree i s = if is_new_table settings tree i (altered_table s) then [] else flat_map (addition tree) (actions_of s)
+additions_of settings tree i s = if is_new_table settings tree i (altered_table s) then [] else flat_map (addition tree) (table_actions s)
 
 abbrev pub reports_of_additions : Tree → Rules → LinterSettings → List Violation
 reports_of_additions tree rules settings =

@@ -8,6 +8,7 @@ use Rattle.sql_tree.specs.Statement.{Tree}
 use Rattle.lint_base.specs.declared.rule.Rule.TheVariants as rule
 use Rattle.lint_base.specs.declared.settings.LinterSettings.{LinterSettings}
 use Rattle.lint_base.specs.declared.violation.Violation.{Violation}
+use Rattle.lint_node.specs.Parts.{table_actions}
 use Rattle.lint_transaction.specs.Transaction.{is_open, stmt_at}
 use Rattle.lint_pass.specs.Laws.{HasCode, IsRead, StandsIn}
 use Rattle.lint_pass.specs.PlaceLaws.{span_place}
@@ -17,8 +18,8 @@ use Rattle.pass_lock.specs.ConstraintMissingNotValid as constraint
 -- what holds of each report of a validation
 pub validations_all : (P : Violation → Type 0) (tree : Tree) (settings : LinterSettings) (i : ℕ) → ((a : Action) → P (constraint.validation_report tree a)) → All P (constraint.validations_in settings tree i)
 validations_all P tree settings i h =
-    where_all P (is_open settings.assume_in_transaction tree i) (constraint.validations tree (λ name. constraint.is_added settings.assume_in_transaction tree name i) (constraint.actions_of (stmt_at tree i)))
-    (λ _. of_statement (λ name. constraint.is_added settings.assume_in_transaction tree name i) (constraint.actions_of (stmt_at tree i)))
+    where_all P (is_open settings.assume_in_transaction tree i) (constraint.validations tree (λ name. constraint.is_added settings.assume_in_transaction tree name i) (table_actions (stmt_at tree i)))
+    (λ _. of_statement (λ name. constraint.is_added settings.assume_in_transaction tree name i) (table_actions (stmt_at tree i)))
   where
     of_action : (known : List ℕ → Bool) (o : Option Action) → All P (constraint.validation tree known o)
     of_action known None = All-nil P
@@ -32,7 +33,7 @@ validations_all P tree settings i h =
 -- what holds of each report of an added constraint
 pub additions_all : (P : Violation → Type 0) (tree : Tree) (settings : LinterSettings) (i : ℕ) (s : Stmt) → ((a : Action) → P (constraint.addition_report tree a)) → All P (constraint.additions_of settings tree i s)
 additions_all P tree settings i s h =
-    unless_all P (constraint.is_new_table settings tree i (constraint.altered_table s)) (flat_map (constraint.addition tree) (constraint.actions_of s)) (flat_all P (constraint.addition tree) (constraint.actions_of s) of_action)
+    unless_all P (constraint.is_new_table settings tree i (constraint.altered_table s)) (flat_map (constraint.addition tree) (table_actions s)) (flat_all P (constraint.addition tree) (table_actions s) of_action)
   where
     of_action : (a : Action) → All P (constraint.addition tree a)
     of_action a = where_all P (constraint.is_checked (constraint.added a)) (constraint.addition_report tree a ∷ []) (λ _. one_all P (constraint.addition_report tree a) (h a))

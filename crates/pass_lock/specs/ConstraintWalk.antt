@@ -3,7 +3,7 @@ use Rattle.std.specs.Prelude.{◌≡◌, ℕ, Bool, List, [], ◌∷◌}
 use Rattle.sql_tree.specs.Statement.{Tree}
 use Rattle.lint_transaction.specs.SpanSet.{Spans, has_span}
 use Rattle.lint_transaction.specs.Transaction.{is_open}
-use Rattle.lint_transaction.specs.declared.span_set.SpanKey.TheVariants as by
+use Rattle.lint_transaction.specs.declared.span_key.SpanKey.TheVariants as by
 use Rattle.pass_lock.specs.ConstraintMissingNotValid.{is_added}
 
 -- a constraint of this name is in the set

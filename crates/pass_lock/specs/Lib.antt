@@ -1,7 +1,10 @@
+pub mod BanTruncateCascade
 pub mod BuildLaws
+pub mod Concurrently
 pub mod ConstraintMissingNotValid
 pub mod ConstraintReports
 pub mod ConstraintWalk
-pub mod FixLaws
-pub mod Fixes
 pub mod RequireConcurrentIndexCreation
+pub mod RequireConcurrentIndexDeletion
+pub mod RequireConcurrentPartitionDetach
+pub mod RequireConcurrentReindex

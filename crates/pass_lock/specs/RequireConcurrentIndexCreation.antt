@@ -6,7 +6,7 @@ use Rattle.sql_tree.specs.declared.nodes.Body.{Body}
 use Rattle.sql_tree.specs.declared.nodes.Body.TheVariants as body
 use Rattle.sql_tree.specs.declared.nodes.Stmt.{Stmt}
 use Rattle.sql_tree.specs.Path.{path_cuts}
-use Rattle.sql_tree.specs.Range.{span_range_of, stmt_range_of}
+use Rattle.sql_tree.specs.Range.{stmt_range_of}
 use Rattle.sql_tree.specs.Statement.{Tree}
 use Rattle.lint_base.specs.declared.rule.Rule.TheVariants as rule
 use Rattle.lint_base.specs.declared.settings.LinterSettings.{LinterSettings}
@@ -14,18 +14,13 @@ use Rattle.lint_base.specs.declared.violation.Violation.{Violation}
 use Rattle.lint_base.specs.RuleSets.{Rules}
 use Rattle.lint_transaction.specs.Transaction.{stmt_at, is_new}
 use Rattle.lint_pass.specs.RuleLaws.{table_of}
-use Rattle.pass_lock.specs.Fixes.{insertion_fix}
+use Rattle.pass_lock.specs.Concurrently.{plain_report}
 
 -- the report of an index build whose word INDEX has this number
 unfoldable pub report : Tree → Stmt → ℕ → Violation
-report tree s word = record {
-  code = rule.RequireConcurrentIndexCreation;
-  message = codes "during normal index creation, table updates are blocked, but reads are still allowed";
-  text_range = stmt_range_of tree.toks s;
-  note = None;
-  help = Some (codes "use `concurrently` to avoid blocking writes");
-  fix = Some (insertion_fix (codes "Add `concurrently`") (codes " concurrently") (span_range_of tree.toks word word).end);
-}
+report tree s word =
+    plain_report rule.RequireConcurrentIndexCreation (codes "during normal index creation, table updates are blocked, but reads are still allowed")
+    (codes "use `concurrently` to avoid blocking writes") tree (stmt_range_of tree.toks s) word
 
 abbrev pub unless_new : LinterSettings → Tree → ℕ → Stmt → ℕ → Span → List Violation
 unless_new settings tree i s word path =

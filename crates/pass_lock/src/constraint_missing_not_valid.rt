@@ -5,18 +5,20 @@ ghost use Rattle.std.specs.List.{flat_map, list_any};
 ghost use Rattle.sql_tree.specs.Statement.{Tree};
 ghost use Rattle.lint_base.specs.Grown.{GrownBy};
 ghost use Rattle.lint_base.specs.declared.settings.LinterSettings.{LinterSettings};
+ghost use Rattle.lint_node.specs.Parts.{table_actions};
 ghost use Rattle.lint_transaction.specs.Created.{IsKnown};
 ghost use Rattle.lint_transaction.specs.Transaction as track;
-ghost use Rattle.lint_transaction.specs.declared.span_set.SpanKey.TheVariants as by;
+ghost use Rattle.lint_transaction.specs.declared.span_key.SpanKey.TheVariants as by;
 ghost use Rattle.pass_lock.specs.ConstraintMissingNotValid as spec;
 ghost use Rattle.pass_lock.specs.ConstraintMissingNotValid.{adds_not_valid, addition, additions_of, report_on, validation, validations};
 ghost use Rattle.pass_lock.specs.ConstraintWalk.{has_name};
 
 use lint_base::{LinterSettings, Reports, Rule, RuleSet, Text, Violation};
+use lint_node::{same_action, table_actions};
 use lint_pass::{Block, Pair, RulePass, StepPass};
 use lint_transaction::{CreatedTables, OpenTransaction, SpanKey, SpanSet, ends};
 use sql_token::Span;
-use sql_tree::{Action, ActionKind, Body, Constraint, Parse, Stmt, StmtKind};
+use sql_tree::{Action, ActionKind, Body, Constraint, Parse, Stmt};
 use std::alloc::Global;
 use text_pos::NoMemory;
 
@@ -77,16 +79,6 @@ const PARTS: Parts = Pair {
     second: Additions,
 };
 
-/// The actions of an ALTER TABLE statement.
-fn actions_of(s: &Stmt) -> &[Action]
-    ensures { result.now ≡ spec.actions_of s.now }
-{
-    match &s.body {
-        Body::Alter { actions, .. } if s.kind == StmtKind::AlterTable => actions.as_slice(),
-        _ => &[],
-    }
-}
-
 /// The path of the table that an ALTER statement alters.
 fn altered_table(s: &Stmt) -> Option<Span>
     ensures { result ≡ spec.altered_table s.now }
@@ -101,9 +93,10 @@ fn altered_table(s: &Stmt) -> Option<Span>
 fn added(a: &Action) -> Option<&Constraint>
     ensures { option_copied result ≡ spec.added a.now }
 {
-    match a.kind {
-        ActionKind::AddConstraint => a.constraint.as_ref(),
-        _ => None,
+    if same_action(a.kind, ActionKind::AddConstraint) {
+        a.constraint.as_ref()
+    } else {
+        None
     }
 }
 
@@ -131,9 +124,10 @@ fn is_checked(a: &Action) -> bool
 fn validated(a: &Action) -> Option<Span>
     ensures { result ≡ spec.validated a.now }
 {
-    match a.kind {
-        ActionKind::ValidateConstraint => a.path,
-        _ => None,
+    if same_action(a.kind, ActionKind::ValidateConstraint) {
+        a.path
+    } else {
+        None
     }
 }
 
@@ -245,12 +239,12 @@ impl ValidationsMemory {
         ensures open { self.new.open ≡ self.old.open }
         ensures key { self.new.names.key ≡ by.LastName }
         ensures names { OnOk result ((name : List ℕ) → has_name p.now self.new.names name
-            ≡ (has_name p.now self.old.names name || (self.old.open && list_any (adds_not_valid p.now name) (spec.actions_of s.now)))) }
-        ensures ok { OnOk result (out.new ≡ out.old ++ (if self.old.open then validations p.now (has_name p.now self.old.names) (spec.actions_of s.now) else [])) }
-        ensures err { OnErr result (GrownBy out.old out.new (if self.old.open then validations p.now (has_name p.now self.old.names) (spec.actions_of s.now) else [])) }
+            ≡ (has_name p.now self.old.names name || (self.old.open && list_any (adds_not_valid p.now name) (table_actions s.now)))) }
+        ensures ok { OnOk result (out.new ≡ out.old ++ (if self.old.open then validations p.now (has_name p.now self.old.names) (table_actions s.now) else [])) }
+        ensures err { OnErr result (GrownBy out.old out.new (if self.old.open then validations p.now (has_name p.now self.old.names) (table_actions s.now) else [])) }
     {
         if self.open.inside() {
-            watch_actions(&mut self.names, p, actions_of(s), out)
+            watch_actions(&mut self.names, p, table_actions(s), out)
         } else {
             Ok(())
         }
@@ -374,7 +368,7 @@ impl AdditionsMemory {
         ensures err { OnErr result ((settings : LinterSettings) (i : ℕ) → IsKnown p.now settings.assume_in_transaction i self.now.created
             → GrownBy out.old out.new (additions_of settings p.now i s.now)) }
     {
-        let actions = actions_of(s);
+        let actions = table_actions(s);
         if !has_addition(actions) {
             return Ok(());
         }

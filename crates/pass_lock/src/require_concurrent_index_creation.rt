@@ -5,7 +5,7 @@ ghost use Rattle.lint_base.specs.declared.settings.LinterSettings.{LinterSetting
 ghost use Rattle.lint_transaction.specs.Created.{IsKnown};
 ghost use Rattle.pass_lock.specs.RequireConcurrentIndexCreation.{report, reports_of};
 
-use crate::fixes::insertion_fix;
+use crate::concurrently::plain_report;
 use lint_base::{LinterSettings, Reports, Rule, Text, Violation};
 use lint_pass::{Block, RulePass};
 use lint_transaction::CreatedTables;
@@ -17,10 +17,6 @@ const MESSAGE: &str =
     "during normal index creation, table updates are blocked, but reads are still allowed";
 
 const HELP: &str = "use `concurrently` to avoid blocking writes";
-
-const TITLE: &str = "Add `concurrently`";
-
-const INSERTED: &str = " concurrently";
 
 /// Reports each CREATE INDEX without CONCURRENTLY, except on a table that the same open transaction created.
 ///
@@ -44,16 +40,10 @@ pub struct RequireConcurrentIndexCreationMemory {
 fn report(alloc: Global, p: &Parse<'_>, s: &Stmt, word: u32) -> Result<Violation, NoMemory>
     ensures { IfOk result (λ v. v ≡ report p.now s.now word) }
 {
-    let at = p.span_range(word, word).end();
-    let fix = insertion_fix(alloc, Text::plain(TITLE), Text::plain(INSERTED), at)?;
-    Ok(Violation {
-        code: Rule::RequireConcurrentIndexCreation,
-        message: Text::plain(MESSAGE),
-        text_range: p.stmt_range(s),
-        note: None,
-        help: Some(Text::plain(HELP)),
-        fix: Some(fix),
-    })
+    let code = Rule::RequireConcurrentIndexCreation;
+    let message = Text::plain(MESSAGE);
+    let help = Text::plain(HELP);
+    plain_report(alloc, code, message, help, p, p.stmt_range(s), word)
 }
 
 /// Reports a statement that builds an index without CONCURRENTLY, unless the open transaction created its table.

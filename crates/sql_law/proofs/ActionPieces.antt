@@ -1,4 +1,4 @@
--- The pieces of ALTER actions under other numbers.
+-- The pieces of ALTER actions of changed terminals.
 use Rattle.std.proofs.Common.{◌≡◌, ℕ, zero, suc, ◌+◌, ◌-◌, ◌≤◌, ◌==◌, Bool, true, false, cond, List, [], ◌∷◌, map, take, refl, ap, arith, Option, Some, None}
 use Rattle.std.specs.Option.{option_map}
 use Rattle.std.proofs.lemmas.List.{length-map, take-map}
@@ -14,51 +14,44 @@ use Rattle.sql_tree.specs.declared.kinds.PieceKind.TheVariants as p
 use Rattle.sql_tree.specs.declared.nodes.Piece.{Piece}
 use Rattle.sql_tree.specs.Forms.{words_of, take_part, first_whole}
 use Rattle.sql_tree.specs.Split.{comma, split, chunks_after, chunks, before, closing, all_of}
-use Rattle.sql_tree.specs.ActionPieces.{sequence_option, identity_option, policy_part, is_pair, begins_pair, constraint_option_len, piece_len, type_in, is_always, piece_in, PieceRow, piece_by, piece_rows, pieces_of, attributes, alone, one_option, other_option, column_option}
+use Rattle.sql_tree.specs.ActionPieces.{sequence_option, identity_option, policy_part, begins_pair, constraint_option_len, piece_len, type_in, is_always, piece_in, PieceRow, piece_by, piece_rows, pieces_of, attributes, alone, one_option, other_option, column_option}
 use Rattle.sql_law.specs.Moved.{type_moved, piece_moved}
-use Rattle.sql_law.specs.Renumber.{renumber, IsBlind}
+use Rattle.sql_law.specs.Options.{OptionsKept, ListKept}
 use Rattle.sql_law.specs.Trees.{PiecesRenumber}
+use Rattle.sql_law.proofs.Seen.{class_sees, Change, Changes, Blind, changed}
+use Rattle.sql_law.proofs.Options.{begins_pair_sees, list_tail}
 use Rattle.sql_law.proofs.Basics.{moves, bind_moved, either_moved, others_moved, all_moved, HasEnds, ends}
 use Rattle.sql_law.proofs.Marks.{comma_is_blind, begins_sees, before_renumbers, split_renumbers, closing_renumbers}
 use Rattle.sql_law.proofs.Types.{type_len_renumbers, type_renumbers}
-use Rattle.sql_law.proofs.Fronts.{class_sees, whole_renumbers}
+use Rattle.sql_law.proofs.Fronts.{whole_renumbers}
 
 -- ---- where pieces begin, and how long they are
 
-pub sequence_is_blind : IsBlind sequence_option
+pub sequence_is_blind : Blind sequence_option
 unfolding sequence_option
 sequence_is_blind f None t after = refl
 sequence_is_blind f (Some earlier) t after = simp (moves, class_sees)
 
-pub identity_is_blind : IsBlind identity_option
+pub identity_is_blind : Blind identity_option
 unfolding identity_option
 identity_is_blind f None t after = refl
 identity_is_blind f (Some earlier) t after = simp moves
 
-pub policy_is_blind : IsBlind policy_part
+pub policy_is_blind : Blind policy_part
 unfolding policy_part
 policy_is_blind f None t after = refl
 policy_is_blind f (Some earlier) t after = simp (moves, begins_sees)
 
-pair_sees : (f : ℕ → ℕ) (t u : Terminal) → is_pair (renumber f t) (renumber f u) ≡ is_pair t u
-unfolding is_pair
-pair_sees f t u = simp moves
-
-begins_pair_sees : (f : ℕ → ℕ) (ts : List Terminal) → begins_pair (map (renumber f) ts) ≡ begins_pair ts
-begins_pair_sees f [] = refl
-begins_pair_sees f (t ∷ []) = refl
-begins_pair_sees f (t ∷ u ∷ ts) = pair_sees f t u
-
-option_len_sees : (f : ℕ → ℕ) (ts : List Terminal) → constraint_option_len (map (renumber f) ts) ≡ constraint_option_len ts
+option_len_sees : (f : Change) (ts : List Terminal) → OptionsKept (changed f) ts → constraint_option_len (map (changed f) ts) ≡ constraint_option_len ts
 unfolding constraint_option_len
-option_len_sees f ts = simp (begins_pair_sees, closing_renumbers)
+option_len_sees f ts h = simp (begins_pair_sees f ts h, closing_renumbers)
 
-piece_len_sees : (f : ℕ → ℕ) (list : PieceList) (ts : List Terminal) → piece_len list (map (renumber f) ts) ≡ piece_len list ts
+piece_len_sees : (f : Change) (list : PieceList) (ts : List Terminal) → ListKept (changed f) list ts → piece_len list (map (changed f) ts) ≡ piece_len list ts
 unfolding piece_len
-piece_len_sees f lists.ConstraintOptions ts = option_len_sees f ts
-piece_len_sees f lists.IdentityOptions ts = before_renumbers identity_option identity_is_blind f ts
-piece_len_sees f lists.SequenceOptions ts = before_renumbers sequence_option sequence_is_blind f ts
-piece_len_sees f lists.PolicyParts ts = before_renumbers policy_part policy_is_blind f ts
+piece_len_sees f lists.ConstraintOptions ts h = option_len_sees f ts h
+piece_len_sees f lists.IdentityOptions ts h = before_renumbers identity_option identity_is_blind f ts
+piece_len_sees f lists.SequenceOptions ts h = before_renumbers sequence_option sequence_is_blind f ts
+piece_len_sees f lists.PolicyParts ts h = before_renumbers policy_part policy_is_blind f ts
 
 -- A piece has a terminal.
 one_or_more : (b : Bool) (n : ℕ) → 1 ≤ cond b 1 (suc n)
@@ -77,28 +70,28 @@ piece_is_some lists.IdentityOptions t ts = omega arith
 piece_is_some lists.SequenceOptions t ts = omega arith
 piece_is_some lists.PolicyParts t ts = omega arith
 
-taken : (f : ℕ → ℕ) (n : ℕ) (t : Terminal) (ts : List Terminal) → 1 ≤ n → HasEnds f (take n (t ∷ ts))
+taken : (f : Change) (n : ℕ) (t : Terminal) (ts : List Terminal) → 1 ≤ n → HasEnds f (take n (t ∷ ts))
 taken f zero t ts h = absurd (omega arith)
 taken f (suc n) t ts h = ends f t (take n ts)
 
 -- ---- one piece
 
-type_in_moved : (f : ℕ → ℕ) (kind : PieceKind) (rest : List Terminal) → type_in kind (map (renumber f) rest) ≡ option_map (type_moved f) (type_in kind rest)
+type_in_moved : (f : Change) (kind : PieceKind) (rest : List Terminal) → type_in kind (map (changed f) rest) ≡ option_map (type_moved f.number) (type_in kind rest)
 unfolding type_in
 type_in_moved f p.SetType rest = simp (type_len_renumbers, take-map, type_renumbers)
 type_in_moved f kind rest = refl
 
-always_sees : (f : ℕ → ℕ) (kind : PieceKind) (rest : List Terminal) → is_always kind (map (renumber f) rest) ≡ is_always kind rest
+always_sees : (f : Change) (kind : PieceKind) (rest : List Terminal) → is_always kind (map (changed f) rest) ≡ is_always kind rest
 unfolding is_always
 always_sees f p.SetGenerated rest = begins_sees f keyword.ALWAYS rest
 always_sees f kind rest = refl
 
-piece_in_moved : (f : ℕ → ℕ) (ts : List Terminal) → HasEnds f ts → (kind : PieceKind) (rest : List Terminal) →
-    piece_in (map (renumber f) ts) kind (map (renumber f) rest) ≡ piece_moved f (piece_in ts kind rest)
+piece_in_moved : (f : Change) (ts : List Terminal) → HasEnds f ts → (kind : PieceKind) (rest : List Terminal) →
+    piece_in (map (changed f) ts) kind (map (changed f) rest) ≡ piece_moved f.number (piece_in ts kind rest)
 piece_in_moved f ts e kind rest = rw (type_in_moved f kind rest, always_sees f kind rest) (simp (length-map, e.first, e.last))
 
-piece_by_moved : (f : ℕ → ℕ) (rows : List PieceRow) (ts : List Terminal) → HasEnds f ts →
-    piece_by rows (map (renumber f) ts) ≡ option_map (piece_moved f) (piece_by rows ts)
+piece_by_moved : (f : Change) (rows : List PieceRow) (ts : List Terminal) → HasEnds f ts →
+    piece_by rows (map (changed f) ts) ≡ option_map (piece_moved f.number) (piece_by rows ts)
 unfolding piece_by
 piece_by_moved f rows ts e =
     rw (whole_renumbers f rows ts) (bind_moved _ _ _ _ (λ x. ap Some (piece_in_moved f ts e x.0 x.1.left)) (first_whole rows ts))
@@ -108,37 +101,37 @@ no_piece : (rows : List PieceRow) → first_whole rows [] ≡ None → piece_by 
 unfolding piece_by
 no_piece rows refused = rw refused refl
 
-piece_moved_by : (f : ℕ → ℕ) (rows : List PieceRow) → first_whole rows [] ≡ None → (ts : List Terminal) →
-    piece_by rows (map (renumber f) ts) ≡ option_map (piece_moved f) (piece_by rows ts)
+piece_moved_by : (f : Change) (rows : List PieceRow) → first_whole rows [] ≡ None → (ts : List Terminal) →
+    piece_by rows (map (changed f) ts) ≡ option_map (piece_moved f.number) (piece_by rows ts)
 piece_moved_by f rows refused [] = rw (no_piece rows refused) refl
 piece_moved_by f rows refused (t ∷ ts) = piece_by_moved f rows (t ∷ ts) (ends f t ts)
 
 -- ---- lists of pieces
 
-after_moved : (f : ℕ → ℕ) (rows : List PieceRow) (list : PieceList) (n : ℕ) (ts : List Terminal) →
-    all_of (piece_by rows) (chunks_after (piece_len list) n (map (renumber f) ts))
-    ≡ option_map (map (piece_moved f)) (all_of (piece_by rows) (chunks_after (piece_len list) n ts))
-after_moved f rows list zero [] = refl
-after_moved f rows list (suc n) [] = refl
-after_moved f rows list zero (t ∷ ts) =
+after_moved : (f : Change) (rows : List PieceRow) (list : PieceList) (n : ℕ) (ts : List Terminal) → ListKept (changed f) list ts →
+    all_of (piece_by rows) (chunks_after (piece_len list) n (map (changed f) ts))
+    ≡ option_map (map (piece_moved f.number)) (all_of (piece_by rows) (chunks_after (piece_len list) n ts))
+after_moved f rows list zero [] h = refl
+after_moved f rows list (suc n) [] h = refl
+after_moved f rows list zero (t ∷ ts) h =
     rw (
-      piece_len_sees f list (t ∷ ts),
-      take-map (renumber f) (piece_len list (t ∷ ts)) (t ∷ ts),
+      piece_len_sees f list (t ∷ ts) h,
+      take-map (changed f) (piece_len list (t ∷ ts)) (t ∷ ts),
       piece_by_moved f rows (take (piece_len list (t ∷ ts)) (t ∷ ts)) (taken f (piece_len list (t ∷ ts)) t ts (piece_is_some list t ts)),
-      after_moved f rows list (piece_len list (t ∷ ts) - 1) ts,
+      after_moved f rows list (piece_len list (t ∷ ts) - 1) ts (list_tail (changed f) list t ts h),
     )
     (others_moved _ (piece_by rows (take (piece_len list (t ∷ ts)) (t ∷ ts))) (all_of (piece_by rows) (chunks_after (piece_len list) (piece_len list (t ∷ ts) - 1) ts)))
-after_moved f rows list (suc n) (t ∷ ts) = after_moved f rows list n ts
+after_moved f rows list (suc n) (t ∷ ts) h = after_moved f rows list n ts (list_tail (changed f) list t ts h)
 
-pub pieces_renumber : PiecesRenumber
+pub pieces_renumber : Changes PiecesRenumber
 unfolding pieces_of chunks
-pieces_renumber f list ts = after_moved f (piece_rows list) list 0 ts
+pieces_renumber f list ts h = after_moved f (piece_rows list) list 0 ts h
 
 attribute_refuses : first_whole (map (λ r. (r.0, r.1.now)) ATTRIBUTE) [] ≡ None
 unfolding take_part
 attribute_refuses = refl
 
-pub attributes_moved : (f : ℕ → ℕ) (ts : List Terminal) → attributes (map (renumber f) ts) ≡ option_map (map (piece_moved f)) (attributes ts)
+pub attributes_moved : (f : Change) (ts : List Terminal) → attributes (map (changed f) ts) ≡ option_map (map (piece_moved f.number)) (attributes ts)
 unfolding attributes
 attributes_moved f ts =
     rw (split_renumbers comma comma_is_blind f ts)
@@ -146,30 +139,30 @@ attributes_moved f ts =
 
 -- ---- options of a column
 
-alone_moved : (f : ℕ → ℕ) (r : Option Piece) → alone (option_map (piece_moved f) r) ≡ option_map (map (piece_moved f)) (alone r)
+alone_moved : (f : Change) (r : Option Piece) → alone (option_map (piece_moved f.number) r) ≡ option_map (map (piece_moved f.number)) (alone r)
 alone_moved f None = refl
 alone_moved f (Some piece) = refl
 
-one_option_moved : (f : ℕ → ℕ) (ts : List Terminal) → HasEnds f ts →
-    one_option (map (renumber f) ts) ≡ option_map (map (piece_moved f)) (one_option ts)
+one_option_moved : (f : Change) (ts : List Terminal) → HasEnds f ts →
+    one_option (map (changed f) ts) ≡ option_map (map (piece_moved f.number)) (one_option ts)
 unfolding one_option
 one_option_moved f ts e = simp (piece_by_moved, alone_moved)
 
-other_option_moved : (f : ℕ → ℕ) (ts : List Terminal) → HasEnds f ts →
-    other_option (map (renumber f) ts) ≡ option_map (map (piece_moved f)) (other_option ts)
+other_option_moved : (f : Change) (ts : List Terminal) → HasEnds f ts →
+    other_option (map (changed f) ts) ≡ option_map (map (piece_moved f.number)) (other_option ts)
 unfolding other_option
 other_option_moved f ts e = simp (piece_by_moved, alone_moved)
 
-some_option_moved : (f : ℕ → ℕ) (ts : List Terminal) → HasEnds f ts →
-    column_option (map (renumber f) ts) ≡ option_map (map (piece_moved f)) (column_option ts)
+some_option_moved : (f : Change) (ts : List Terminal) → HasEnds f ts →
+    column_option (map (changed f) ts) ≡ option_map (map (piece_moved f.number)) (column_option ts)
 unfolding column_option
-some_option_moved f ts e = simp (one_option_moved, pieces_renumber, other_option_moved, either_moved)
+some_option_moved f ts e = simp (one_option_moved, pieces_renumber f lists.IdentityOptions ts tt, other_option_moved, either_moved)
 
 no_option : column_option [] ≡ Some []
 unfolding column_option one_option piece_by pieces_of chunks take_part words_of
 no_option = refl
 
-pub column_option_moved : (f : ℕ → ℕ) (ts : List Terminal) →
-    column_option (map (renumber f) ts) ≡ option_map (map (piece_moved f)) (column_option ts)
+pub column_option_moved : (f : Change) (ts : List Terminal) →
+    column_option (map (changed f) ts) ≡ option_map (map (piece_moved f.number)) (column_option ts)
 column_option_moved f [] = rw no_option refl
 column_option_moved f (t ∷ ts) = some_option_moved f (t ∷ ts) (ends f t ts)

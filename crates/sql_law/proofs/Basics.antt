@@ -1,16 +1,18 @@
--- What reading sees of terminals with other numbers. A law of a definition that reads by steps is mostly one `simp` with
+-- What reading sees of changed terminals (`Change`). A law of a definition that reads by steps is mostly one `simp` with
 -- the set `moves` and the laws of the definitions that it calls: each step's change of numbers moves to its result.
 use Rattle.std.proofs.Common.{◌≡◌, ℕ, zero, suc, ◌-◌, Bool, true, false, cond, List, [], ◌∷◌, length, map, get_or, refl, ap, arith, Option, Some, None}
-use Rattle.std.specs.List.{cons_option, filter_map}
+use Rattle.std.specs.List.{All, cons_option, filter_map}
 use Rattle.std.specs.Option.{option_map, option_and_then, is_some}
 use Rattle.std.proofs.lemmas.List.{get_or-map, length-map, take-map, drop-map, map-append}
+use Rattle.std.proofs.lemmas.List.Elements.{All-head, All-tail}
 use Rattle.sql_keyword.specs.declared.words.Keyword.{Keyword}
 use Rattle.sql_token.specs.declared.terminal.Terminal.{Terminal}
-use Rattle.sql_token.specs.Terminal.{is_keyword, is_name, is_dot, is_opener, is_closer}
+use Rattle.sql_token.specs.Terminal.{is_keyword}
 use Rattle.sql_token.specs.Depth.{nothing, span_of}
 use Rattle.sql_tree.specs.Forms.{after_word, after_words, either_of}
 use Rattle.sql_tree.specs.Split.{and_others, all_of}
-use Rattle.sql_law.specs.Renumber.{renumber}
+use Rattle.sql_law.proofs.There.{IfThere}
+use Rattle.sql_law.proofs.Seen.{Change, changed, keyword_sees, name_sees, opener_sees, closer_sees, dot_sees, comma_sees, verb_sees, operator_sees, colon_sees, equals_sees, targets_end_sees, round_opener_sees, square_opener_sees, star_sees, str_sees, kin_sees, one_number_sees, value_sign_sees, reindex_target_sees, query_sees, literal_sees, value_end_sees, constraint_word_sees, first_rows_sees, general_rows_sees}
 
 -- ---- steps
 
@@ -20,6 +22,13 @@ pub bind_moved : {A B C D : Type 0} (g : A → B) (h : C → D) (k : A → Optio
     option_and_then k' (option_map g r) ≡ option_map h (option_and_then k r)
 bind_moved g h k k' each None = refl
 bind_moved g h k k' each (Some a) = each a
+
+-- the same, where each value passes
+pub bind_there : {A B C D : Type 0} (P : A → Type 0) (g : A → B) (h : C → D) (k : A → Option C) (k' : B → Option D) →
+    ((a : A) → P a → k' (g a) ≡ option_map h (k a)) → (r : Option A) → IfThere P r →
+    option_and_then k' (option_map g r) ≡ option_map h (option_and_then k r)
+bind_there P g h k k' each None p = refl
+bind_there P g h k k' each (Some a) p = each a p
 
 pub then_map : {A B C : Type 0} (k : B → Option C) (g : A → B) (r : Option A) →
     option_and_then k (option_map g r) ≡ option_and_then (λ a. k (g a)) r
@@ -61,12 +70,20 @@ others_moved g None others = refl
 others_moved g (Some x) None = refl
 others_moved g (Some x) (Some others) = refl
 
--- what each of a list gives, where a function gives it under other numbers
+-- what each of a list gives, where a function gives it of the changed one
 pub all_moved : {X A B : Type 0} (r : X → X) (g : A → B) (k : X → Option A) (k' : X → Option B) →
     ((x : X) → k' (r x) ≡ option_map g (k x)) → (xs : List X) →
     all_of k' (map r xs) ≡ option_map (map g) (all_of k xs)
 all_moved r g k k' each [] = refl
 all_moved r g k k' each (x ∷ xs) = rw (each x, all_moved r g k k' each xs) (others_moved g (k x) (all_of k xs))
+
+-- the same, where each of the list passes
+pub all_there : {X A B : Type 0} (P : X → Type 0) (r : X → X) (g : A → B) (k : X → Option A) (k' : X → Option B) →
+    ((x : X) → P x → k' (r x) ≡ option_map g (k x)) → (xs : List X) → All P xs →
+    all_of k' (map r xs) ≡ option_map (map g) (all_of k xs)
+all_there P r g k k' each [] h = refl
+all_there P r g k k' each (x ∷ xs) h =
+    rw (each x (All-head P x xs h), all_there P r g k k' each xs (All-tail P x xs h)) (others_moved g (k x) (all_of k xs))
 
 pub map_moved : {X A B : Type 0} (r : X → X) (g : A → B) (k : X → A) (k' : X → B) →
     ((x : X) → k' (r x) ≡ g (k x)) → (xs : List X) → map k' (map r xs) ≡ map g (map k xs)
@@ -85,28 +102,6 @@ pub filter_map_moved : {X A B : Type 0} (r : X → X) (g : A → B) (k : X → O
 filter_map_moved r g k k' each [] = refl
 filter_map_moved r g k k' each (x ∷ xs) = rw (each x, filter_map_moved r g k k' each xs) (cons_moved g (k x) (filter_map k xs))
 
--- ---- terminals
-
-pub keyword_sees : (f : ℕ → ℕ) (w : Keyword) (t : Terminal) → is_keyword w (renumber f t) ≡ is_keyword w t
-unfolding is_keyword
-keyword_sees f w t = refl
-
-pub name_sees : (f : ℕ → ℕ) (t : Terminal) → is_name (renumber f t) ≡ is_name t
-unfolding is_name
-name_sees f t = refl
-
-pub opener_sees : (f : ℕ → ℕ) (t : Terminal) → is_opener (renumber f t) ≡ is_opener t
-unfolding is_opener
-opener_sees f t = refl
-
-pub closer_sees : (f : ℕ → ℕ) (t : Terminal) → is_closer (renumber f t) ≡ is_closer t
-unfolding is_closer
-closer_sees f t = refl
-
-pub dot_sees : (f : ℕ → ℕ) (t : Terminal) → is_dot (renumber f t) ≡ is_dot t
-unfolding is_dot
-dot_sees f t = refl
-
 pub ruleset moves = (
   then_map,
   map_then,
@@ -122,25 +117,45 @@ pub ruleset moves = (
   opener_sees,
   closer_sees,
   dot_sees,
+  comma_sees,
+  verb_sees,
+  operator_sees,
+  colon_sees,
+  equals_sees,
+  targets_end_sees,
+  round_opener_sees,
+  square_opener_sees,
+  star_sees,
+  str_sees,
+  kin_sees,
+  one_number_sees,
+  value_sign_sees,
+  reindex_target_sees,
+  query_sees,
+  literal_sees,
+  value_end_sees,
+  constraint_word_sees,
+  first_rows_sees,
+  general_rows_sees,
 )
 
 -- ---- words
 
-pub after_word_moved : (f : ℕ → ℕ) (w : Keyword) (ts : List Terminal) →
-    after_word w (map (renumber f) ts) ≡ option_map (map (renumber f)) (after_word w ts)
+pub after_word_moved : (f : Change) (w : Keyword) (ts : List Terminal) →
+    after_word w (map (changed f) ts) ≡ option_map (map (changed f)) (after_word w ts)
 after_word_moved f w [] = refl
 after_word_moved f w (t ∷ ts) = simp moves
 
-pub after_words_moved : (f : ℕ → ℕ) (ws : List Keyword) (ts : List Terminal) →
-    after_words ws (map (renumber f) ts) ≡ option_map (map (renumber f)) (after_words ws ts)
+pub after_words_moved : (f : Change) (ws : List Keyword) (ts : List Terminal) →
+    after_words ws (map (changed f) ts) ≡ option_map (map (changed f)) (after_words ws ts)
 after_words_moved f [] ts = refl
 after_words_moved f (w ∷ ws) ts =
     rw (after_word_moved f w ts) (bind_moved _ _ _ _ (after_words_moved f ws) (after_word w ts))
 
 -- ---- single terminals
 
-pub at_sees : (f : ℕ → ℕ) (w : Keyword) (ts : List Terminal) (i : ℕ) →
-    is_keyword w (get_or (map (renumber f) ts) i nothing) ≡ is_keyword w (get_or ts i nothing)
+pub at_sees : (f : Change) (w : Keyword) (ts : List Terminal) (i : ℕ) →
+    is_keyword w (get_or (map (changed f) ts) i nothing) ≡ is_keyword w (get_or ts i nothing)
 at_sees f w [] i = refl
 at_sees f w (t ∷ ts) zero = keyword_sees f w t
 at_sees f w (t ∷ ts) (suc i) = at_sees f w ts i
@@ -148,20 +163,20 @@ at_sees f w (t ∷ ts) (suc i) = at_sees f w ts i
 -- ---- spans
 
 -- the terminal at the end, where the list has one
-pub last_terminal : (f : ℕ → ℕ) (t : Terminal) (ts : List Terminal) →
-    get_or (map (renumber f) (t ∷ ts)) (length (map (renumber f) (t ∷ ts)) - 1) nothing
-    ≡ renumber f (get_or (t ∷ ts) (length (t ∷ ts) - 1) nothing)
+pub last_terminal : (f : Change) (t : Terminal) (ts : List Terminal) →
+    get_or (map (changed f) (t ∷ ts)) (length (map (changed f) (t ∷ ts)) - 1) nothing
+    ≡ changed f (get_or (t ∷ ts) (length (t ∷ ts) - 1) nothing)
 last_terminal f t ts =
-    rw (length-map (t ∷ ts) (renumber f)) (get_or-map (renumber f) (t ∷ ts) (length (t ∷ ts) - 1) nothing nothing (omega arith))
+    rw (length-map (t ∷ ts) (changed f)) (get_or-map (changed f) (t ∷ ts) (length (t ∷ ts) - 1) nothing nothing (omega arith))
 
 -- The ends of a list are those of its terminals, which a list without terminals has not.
-pub record HasEnds (f : ℕ → ℕ) (ts : List Terminal) : Type 0 where
-  pub first : (get_or (map (renumber f) ts) 0 nothing).number ≡ f (get_or ts 0 nothing).number
-  pub last : (get_or (map (renumber f) ts) (length ts - 1) nothing).number ≡ f (get_or ts (length ts - 1) nothing).number
+pub record HasEnds (f : Change) (ts : List Terminal) : Type 0 where
+  pub first : (get_or (map (changed f) ts) 0 nothing).number ≡ f.number (get_or ts 0 nothing).number
+  pub last : (get_or (map (changed f) ts) (length ts - 1) nothing).number ≡ f.number (get_or ts (length ts - 1) nothing).number
 
-pub ends : (f : ℕ → ℕ) (t : Terminal) (ts : List Terminal) → HasEnds f (t ∷ ts)
-ends f t ts = record { first = refl; last = rw (length-map (t ∷ ts) (renumber f)) at (ap (λ x. x.number) (last_terminal f t ts)) }
+pub ends : (f : Change) (t : Terminal) (ts : List Terminal) → HasEnds f (t ∷ ts)
+ends f t ts = record { first = refl; last = rw (length-map (t ∷ ts) (changed f)) at (ap (λ x. x.number) (last_terminal f t ts)) }
 
-pub last_moved : (f : ℕ → ℕ) (t : Terminal) (ts : List Terminal) →
-    (span_of (map (renumber f) (t ∷ ts))).last ≡ f (span_of (t ∷ ts)).last
+pub last_moved : (f : Change) (t : Terminal) (ts : List Terminal) →
+    (span_of (map (changed f) (t ∷ ts))).last ≡ f.number (span_of (t ∷ ts)).last
 last_moved f t ts = ap (λ x. x.number) (last_terminal f t ts)

@@ -1,4 +1,4 @@
--- Bracket groups and paths under other numbers.
+-- Bracket groups and paths of changed terminals.
 use Rattle.std.proofs.Common.{◌≡◌, ℕ, ◌&&◌, List, [], ◌∷◌, map, refl}
 use Rattle.std.specs.Option.{option_map}
 use Rattle.sql_token.specs.declared.token.Span.{Span}
@@ -7,8 +7,8 @@ use Rattle.sql_token.specs.Terminal.{is_dot, is_name}
 use Rattle.sql_tree.specs.Forms.{names_end}
 use Rattle.sql_tree.specs.Groups.{is_empty, is_list, inside_list, begins_square, is_square, path_first}
 use Rattle.sql_law.specs.Moved.{span_moved}
-use Rattle.sql_law.specs.Renumber.{renumber}
-use Rattle.sql_law.proofs.Basics.{moves, cond_under, dot_sees, name_sees}
+use Rattle.sql_law.proofs.Seen.{square_opener_sees, Change, changed, dot_sees, name_sees}
+use Rattle.sql_law.proofs.Basics.{moves, cond_under}
 use Rattle.sql_law.proofs.Marks.{begins_list_sees, closing_renumbers}
 
 pub is_empty_moved : {A B : Type 0} (g : A → B) (xs : List A) → is_empty (map g xs) ≡ is_empty xs
@@ -17,40 +17,40 @@ is_empty_moved g (x ∷ xs) = refl
 
 -- ---- bracket groups
 
-pub is_list_sees : (f : ℕ → ℕ) (ts : List Terminal) → is_list (map (renumber f) ts) ≡ is_list ts
+pub is_list_sees : (f : Change) (ts : List Terminal) → is_list (map (changed f) ts) ≡ is_list ts
 unfolding is_list
 is_list_sees f ts = simp (moves, begins_list_sees, closing_renumbers)
 
-pub inside_list_moved : (f : ℕ → ℕ) (ts : List Terminal) → inside_list (map (renumber f) ts) ≡ map (renumber f) (inside_list ts)
+pub inside_list_moved : (f : Change) (ts : List Terminal) → inside_list (map (changed f) ts) ≡ map (changed f) (inside_list ts)
 unfolding inside_list
 inside_list_moved f ts = simp (moves, begins_list_sees, closing_renumbers)
 
-begins_square_sees : (f : ℕ → ℕ) (ts : List Terminal) → begins_square (map (renumber f) ts) ≡ begins_square ts
+begins_square_sees : (f : Change) (ts : List Terminal) → begins_square (map (changed f) ts) ≡ begins_square ts
 begins_square_sees f [] = refl
-begins_square_sees f (t ∷ ts) = refl
+begins_square_sees f (t ∷ ts) = square_opener_sees f t
 
-pub is_square_sees : (f : ℕ → ℕ) (ts : List Terminal) → is_square (map (renumber f) ts) ≡ is_square ts
+pub is_square_sees : (f : Change) (ts : List Terminal) → is_square (map (changed f) ts) ≡ is_square ts
 unfolding is_square
 is_square_sees f ts = simp (moves, begins_square_sees, closing_renumbers)
 
 -- ---- paths
 
-abbrev pub end_moved : (ℕ → ℕ) → ℕ × List Terminal → ℕ × List Terminal
-end_moved f e = (f e.0, map (renumber f) e.1)
+abbrev pub end_moved : Change → ℕ × List Terminal → ℕ × List Terminal
+end_moved f e = (f.number e.0, map (changed f) e.1)
 
-pub names_end_moved : (f : ℕ → ℕ) (n : ℕ) (ts : List Terminal) →
-    names_end (f n) (map (renumber f) ts) ≡ end_moved f (names_end n ts)
+pub names_end_moved : (f : Change) (n : ℕ) (ts : List Terminal) →
+    names_end (f.number n) (map (changed f) ts) ≡ end_moved f (names_end n ts)
 names_end_moved f n [] = refl
 names_end_moved f n (d ∷ []) = refl
 names_end_moved f n (d ∷ t ∷ ts) =
     rw (dot_sees f d, name_sees f t, names_end_moved f t.number ts)
     (cond_under (end_moved f) (is_dot d && is_name t) (names_end t.number ts) (n, d ∷ t ∷ ts))
 
-abbrev pub path_moved : (ℕ → ℕ) → Span × List Terminal → Span × List Terminal
-path_moved f r = (span_moved f r.0, map (renumber f) r.1)
+abbrev pub path_moved : Change → Span × List Terminal → Span × List Terminal
+path_moved f r = (span_moved f.number r.0, map (changed f) r.1)
 
-pub path_first_moved : (f : ℕ → ℕ) (ts : List Terminal) →
-    path_first (map (renumber f) ts) ≡ option_map (path_moved f) (path_first ts)
+pub path_first_moved : (f : Change) (ts : List Terminal) →
+    path_first (map (changed f) ts) ≡ option_map (path_moved f) (path_first ts)
 unfolding path_first
 path_first_moved f [] = refl
 path_first_moved f (t ∷ ts) = simp (names_end_moved f t.number ts, moves)

@@ -1,3 +1,7 @@
+pub mod Seen
+pub mod There
+pub mod Left
+pub mod Options
 pub mod Basics
 pub mod Places
 pub mod Marks
@@ -15,9 +19,11 @@ pub mod Tails
 pub mod Soundness
 pub mod Statements
 pub mod Readings
-pub mod There
+pub mod Names
 pub mod Paths
 pub mod Added
 pub mod WholeLaws
 pub mod Ordered
 pub mod NodeOrder
+pub mod ElementOrder
+pub mod TypeOrder

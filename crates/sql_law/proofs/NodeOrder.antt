@@ -24,12 +24,13 @@ use Rattle.sql_tree.specs.declared.forms.BodyShape.TheVariants as shape
 use Rattle.sql_tree.specs.declared.nodes.Action.{Action}
 use Rattle.sql_tree.specs.declared.nodes.Body.{Body}
 use Rattle.sql_tree.specs.declared.nodes.Body.TheVariants as body
+use Rattle.sql_tree.specs.declared.nodes.Elem.{Elem}
 use Rattle.sql_tree.specs.declared.nodes.Stmt.{Stmt}
 use Rattle.sql_tree.specs.Action as act
 use Rattle.sql_tree.specs.Column.{domain_constraints, drops_on_commit, elements}
 use Rattle.sql_tree.specs.Forms.{State}
 use Rattle.sql_tree.specs.Groups.{inside_list}
-use Rattle.sql_tree.specs.Nodes.{actions_in, action_starts}
+use Rattle.sql_tree.specs.Nodes.{actions_in, action_starts, elements_in}
 use Rattle.sql_tree.specs.Split.{all_of, and_others, comma, split, split_from, Test}
 use Rattle.sql_tree.specs.Statement.{Tree, IsTree, final_kind, body_shape_of, body_by, told, front_by, from_verb, form_from, form_of, last_of, without_semicolon, stmt_in, statement, and_then_all, all_statements, read_tokens}
 use Rattle.sql_tree.specs.Tails.{after_flag, after_options, paths_from, reindex, reindex_body, reindex_object, target_symbol, whole_path}
@@ -37,19 +38,19 @@ use Rattle.sql_tree.specs.Write.{targets, table_write}
 use Rattle.sql_law.specs.Moved.{action_moved}
 use Rattle.sql_law.specs.Renumber.{renumber}
 use Rattle.sql_law.specs.Order.{StatementsAscend, ActionsAscend}
-use Rattle.sql_law.proofs.Actions.{action_renumbers}
+use Rattle.sql_law.proofs.Actions.{action_numbers}
 use Rattle.sql_law.proofs.There.{IfThere, from_there, if_there}
 use Rattle.sql_law.proofs.Ordered.{Up, up_lower, up-append, Numbered, numbered_le, numbered_lower, LeftOf, front_left, verb_left}
 
 -- ---- a number that no change outside of a range changes is in the range
 
-abbrev Fixes : ℕ → ℕ → (ℕ → ℕ) → Type 0
+abbrev pub Fixes : ℕ → ℕ → (ℕ → ℕ) → Type 0
 Fixes lo hi f = (n : ℕ) → lo ≤ n → n < hi → f n ≡ n
 
 renumbered : (f : ℕ → ℕ) (t : Terminal) → f t.number ≡ t.number → renumber f t ≡ t
 renumbered f t e = ap (λ (n : ℕ). record { symbol = t.symbol; number = n }) e
 
-fixed : (lo hi : ℕ) (f : ℕ → ℕ) → Fixes lo hi f → (ts : List Terminal) → Numbered lo ts hi → map (renumber f) ts ≡ ts
+pub fixed : (lo hi : ℕ) (f : ℕ → ℕ) → Fixes lo hi f → (ts : List Terminal) → Numbered lo ts hi → map (renumber f) ts ≡ ts
 fixed lo hi f fix [] h = refl
 fixed lo hi f fix (t ∷ ts) h =
     let rest = numbered_le (suc t.number) ts hi h.1 in
@@ -80,12 +81,12 @@ action_in kind lo [] hi h = no_action kind lo hi
 action_in kind lo (t ∷ ts) hi h =
     let rest = numbered_le (suc t.number) ts hi h.1 in
     in_range lo hi (omega (arith, rest)) (act.action kind (t ∷ ts))
-    (λ f fix. sym (action_renumbers f kind (t ∷ ts)) ∙ ap (act.action kind) (fixed lo hi f fix (t ∷ ts) h))
+    (λ f fix. sym (action_numbers f kind (t ∷ ts)) ∙ ap (act.action kind) (fixed lo hi f fix (t ∷ ts) h))
 
 -- ---- slices
 
 -- each slice ascends, and is below those after it
-abbrev Sliced : ℕ → List (List Terminal) → ℕ → Type 0
+abbrev pub Sliced : ℕ → List (List Terminal) → ℕ → Type 0
 Sliced lo [] hi = lo ≤ hi
 Sliced lo (p ∷ ps) hi = (mid : ℕ) × (Numbered lo p mid × Sliced mid ps hi)
 
@@ -97,7 +98,7 @@ cut_by : (b : Bool) (lo : ℕ) (t : Terminal) (cut ps : List (List Terminal)) (h
 cut_by true lo t cut ps hi le h k = (suc t.number, (omega (arith, le), h))
 cut_by false lo t cut ps hi le h k = onto_sliced lo t ps hi le k
 
-split_sliced : (mark : Test) (earlier : Option Terminal) (o c lo : ℕ) (ts : List Terminal) (hi : ℕ) → Numbered lo ts hi → Sliced lo (split_from mark earlier o c ts) hi
+pub split_sliced : (mark : Test) (earlier : Option Terminal) (o c lo : ℕ) (ts : List Terminal) (hi : ℕ) → Numbered lo ts hi → Sliced lo (split_from mark earlier o c ts) hi
 split_sliced mark earlier o c lo [] hi h = (lo, (omega arith, h))
 split_sliced mark earlier o c lo (t ∷ ts) hi h =
     cut_by (o == c && mark earlier t ts) lo t (split_from mark (Some t) 0 0 ts) (split_from mark (Some t) (o + one_if (is_opener t)) (c + one_if (is_closer t)) ts) hi h.0
@@ -156,11 +157,15 @@ actions_up kind lo ts hi h =
 
 -- ---- statements
 
-module _ (lo hi : ℕ) where
+-- the numbers that a body has, by the elements of its table and by its actions
+module _ (nums : List Elem → List Action → List ℕ) (lo hi : ℕ)
+    (none : lo ≤ hi → Up lo (nums [] []) hi)
+    (table : (ts : List Terminal) → Numbered lo ts hi → Up lo (nums (elements ts) []) hi)
+    (alter : (kind : StmtKind) (ts : List Terminal) → Numbered lo ts hi → IfThere (λ xs. Up lo (nums [] xs) hi) (act.actions_of kind ts)) where
   abbrev InBody : Body → Type 0
-  InBody b = Up lo (starts (actions_in b)) hi
+  InBody b = Up lo (nums (elements_in b) (actions_in b)) hi
 
-  with_actions : (path : Option Span) (o : Option (List Action)) → IfThere (λ xs. Up lo (starts xs) hi) o → IfThere InBody (option_and_then (λ actions. Some (body.Alter path actions)) o)
+  with_actions : (path : Option Span) (o : Option (List Action)) → IfThere (λ xs. Up lo (nums [] xs) hi) o → IfThere InBody (option_and_then (λ actions. Some (body.Alter path actions)) o)
   with_actions path None h = tt
   with_actions path (Some actions) h = h
 
@@ -177,23 +182,23 @@ module _ (lo hi : ℕ) where
   unfolding reindex_object
   reindex_up inside [] le = tt
   reindex_up inside (t ∷ ts) le =
-      two_body (λ found path. reindex_body inside t ts found path) (λ found path. le) (target_symbol t.symbol) (whole_path (after_flag keyword.CONCURRENTLY ts))
+      two_body (λ found path. reindex_body inside t ts found path) (λ found path. none le) (target_symbol t.symbol) (whole_path (after_flag keyword.CONCURRENTLY ts))
 
   body_up : (sh : BodyShape) (kind : StmtKind) (x : State) (ts : List Terminal) → lo ≤ hi → Numbered lo x.left hi → IfThere InBody (body_by sh kind x ts)
   unfolding body_by reindex
-  body_up shape.Alter kind x ts le left = with_actions x.kept.path (act.actions_of kind x.left) (actions_up kind lo x.left hi left)
+  body_up shape.Alter kind x ts le left = with_actions x.kept.path (act.actions_of kind x.left) (alter kind x.left left)
   body_up shape.Table kind x ts le left =
-      two_body (λ word path. body.Table x.kept.temp x.kept.guarded (drops_on_commit x.left) word path (elements x.left)) (λ word path. le) x.kept.word x.kept.path
-  body_up shape.Into kind x ts le left = some_body (λ path. body.Into path (targets ts)) (λ path. le) x.kept.path
+      two_body (λ word path. body.Table x.kept.temp x.kept.guarded (drops_on_commit x.left) word path (elements x.left)) (λ word path. table x.left left) x.kept.word x.kept.path
+  body_up shape.Into kind x ts le left = some_body (λ path. body.Into path (targets ts)) (λ path. none le) x.kept.path
   body_up shape.Index kind x ts le left =
-      two_body (λ word path. body.Index word x.kept.unique x.kept.concurrently x.kept.guarded x.kept.name path) (λ word path. le) x.kept.word x.kept.path
+      two_body (λ word path. body.Index word x.kept.unique x.kept.concurrently x.kept.guarded x.kept.name path) (λ word path. none le) x.kept.word x.kept.path
   body_up shape.Drop kind x ts le left =
-      two_body (λ (word : ℕ) (path : Span). body.Drop word (is_some x.kept.concurrently) x.kept.guarded (paths_from path.first path.last x.left)) (λ word path. le) x.kept.word x.kept.path
+      two_body (λ (word : ℕ) (path : Span). body.Drop word (is_some x.kept.concurrently) x.kept.guarded (paths_from path.first path.last x.left)) (λ word path. none le) x.kept.word x.kept.path
   body_up shape.Reindex kind x ts le left = reindex_up (inside_list x.left) (after_options x.left) le
-  body_up shape.Domain kind x ts le left = some_body (λ constraints. body.Domain constraints) (λ constraints. le) (domain_constraints x.left)
-  body_up shape.Made kind x ts le left = some_body (λ path. body.Made path x.kept.guarded) (λ path. le) x.kept.path
-  body_up shape.Write kind x ts le left = some_body (λ path. body.Write (table_write kind path x.left)) (λ path. le) x.kept.path
-  body_up _ kind x ts le left = le
+  body_up shape.Domain kind x ts le left = some_body (λ constraints. body.Domain constraints) (λ constraints. none le) (domain_constraints x.left)
+  body_up shape.Made kind x ts le left = some_body (λ path. body.Made path x.kept.guarded) (λ path. none le) x.kept.path
+  body_up shape.Write kind x ts le left = some_body (λ path. body.Write (table_write kind path x.left)) (λ path. none le) x.kept.path
+  body_up _ kind x ts le left = none le
 
   abbrev InForm : StmtKind × Body → Type 0
   InForm f = InBody f.1
@@ -208,17 +213,17 @@ module _ (lo hi : ℕ) where
 
   form_from_up : (ts : List Terminal) → Numbered lo ts hi → IfThere InForm (form_from ts)
   unfolding form_from
-  form_from_up [] h = h
+  form_from_up [] h = none h
   form_from_up (t ∷ ts) h =
       from_there (LeftOf lo hi) InForm (told ts) (told_up ts (numbered_le lo (t ∷ ts) hi h)) (front_by t.symbol ts)
       (front_left lo hi t.symbol ts (numbered_lower lo (suc t.number) ts hi (omega (arith, h.0)) h.1))
 
   form_up : (ts : List Terminal) → Numbered lo ts hi → IfThere InForm (form_of ts)
   unfolding form_of
-  form_up [] h = h
+  form_up [] h = none h
   form_up (t ∷ ts) h = form_from_up (from_verb (t ∷ ts)) (verb_left lo hi (t ∷ ts) h)
 
-take_numbered : (n lo : ℕ) (ts : List Terminal) (hi : ℕ) → Numbered lo ts hi → Numbered lo (take n ts) hi
+pub take_numbered : (n lo : ℕ) (ts : List Terminal) (hi : ℕ) → Numbered lo ts hi → Numbered lo (take n ts) hi
 take_numbered zero lo ts hi h = numbered_le lo ts hi h
 take_numbered (suc n) lo [] hi h = h
 take_numbered (suc n) lo (t ∷ ts) hi h = (h.0, take_numbered n (suc t.number) ts hi h.1)
@@ -234,11 +239,20 @@ with_span : (P : Body → Type 0) (span : Span) (o : Option (StmtKind × Body)) 
 with_span P span None h = tt
 with_span P span (Some f) h = h
 
-statement_actions : (lo : ℕ) (ts : List Terminal) (hi : ℕ) → Numbered lo ts hi → IfThere (λ (s : Stmt). Up lo (starts (actions_in s.body)) hi) (statement ts)
+-- The numbers of a statement's body ascend where those of a table's elements and those of actions do.
+pub statement_up : (nums : List Elem → List Action → List ℕ) (lo hi : ℕ)
+    → (lo ≤ hi → Up lo (nums [] []) hi)
+    → ((ts : List Terminal) → Numbered lo ts hi → Up lo (nums (elements ts) []) hi)
+    → ((kind : StmtKind) (ts : List Terminal) → Numbered lo ts hi → IfThere (λ xs. Up lo (nums [] xs) hi) (act.actions_of kind ts))
+    → (ts : List Terminal) → Numbered lo ts hi → IfThere (λ (s : Stmt). Up lo (nums (elements_in s.body) (actions_in s.body)) hi) (statement ts)
 unfolding statement
+statement_up nums lo hi none table alter ts h =
+    if_there (λ (s : Stmt). Up lo (nums (elements_in s.body) (actions_in s.body)) hi) (is_sound ts) _ None
+    (with_span (InBody nums lo hi none table alter) (span_of ts) (form_of (without_semicolon ts)) (form_up nums lo hi none table alter (without_semicolon ts) (without_numbered lo ts hi h))) tt
+
+statement_actions : (lo : ℕ) (ts : List Terminal) (hi : ℕ) → Numbered lo ts hi → IfThere (λ (s : Stmt). Up lo (starts (actions_in s.body)) hi) (statement ts)
 statement_actions lo ts hi h =
-    if_there (λ (s : Stmt). Up lo (starts (actions_in s.body)) hi) (is_sound ts) _ None
-    (with_span (InBody lo hi) (span_of ts) (form_of (without_semicolon ts)) (form_up lo hi (without_semicolon ts) (without_numbered lo ts hi h))) tt
+    statement_up (λ es xs. starts xs) lo hi (λ le. le) (λ ts k. numbered_le lo ts hi k) (λ kind ts k. actions_up kind lo ts hi k) ts h
 
 with_first : (lo hi : ℕ) (span : Span) → Up lo (span.first ∷ []) hi → (o : Option (StmtKind × Body)) → IfThere (λ (s : Stmt). Up lo (s.first ∷ []) hi) (option_and_then (λ f. Some (stmt_in span f)) o)
 with_first lo hi span h None = tt
@@ -286,7 +300,7 @@ module _ (g : Stmt → List ℕ) (each : (lo : ℕ) (t : Terminal) (ts : List Te
           test true all = (omega arith, all)
           test false all = numbered_lower n (suc n) (terminals_from t (n + 1) toks) (n + length (k ∷ toks)) (omega arith) all
 
-  tree_up : (tree : Tree) → IsTree tree → Up 0 (flat_map g tree.stmts) (0 + length tree.toks)
+  pub tree_up : (tree : Tree) → IsTree tree → Up 0 (flat_map g tree.stmts) (0 + length tree.toks)
   unfolding read_tokens terminals
   tree_up tree is =
       let ts : List Terminal = terminals_from tree.text 0 tree.toks in

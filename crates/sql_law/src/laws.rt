@@ -1,4 +1,4 @@
-//! Terminals with other numbers give the same reading, with its numbers changed alike.
+//! A map of terminals that keeps what reading sees gives the same reading, with its numbers changed alike.
 
 ghost use Rattle.sql_tree.specs.declared.kinds.ActionKind.{ActionKind};
 ghost use Rattle.sql_tree.specs.declared.kinds.PieceKind.{PieceKind};
@@ -7,11 +7,11 @@ ghost use Rattle.sql_tree.specs.ColumnMarks as column_marks;
 ghost use Rattle.sql_tree.specs.ColumnType as types;
 ghost use Rattle.sql_tree.specs.Write as writes;
 ghost use Rattle.sql_tree.specs.ActionPieces as piece_marks;
-ghost use Rattle.sql_law.specs.Order.{StatementsAscend, ActionsAscend};
-ghost use Rattle.sql_law.specs.Renumber.{IsBlind, WordIsBlind, BeforeRenumbers, SplitRenumbers, ClosingRenumbers, PartRenumbers, PartsRenumber, FrontRenumbers, WholeRenumbers};
+ghost use Rattle.sql_law.specs.Order.{StatementsAscend, ActionsAscend, ElementsAscend, TypesAscend};
+ghost use Rattle.sql_law.specs.Renumber.{ForKept, IsBlind, WordIsBlind, BeforeRenumbers, SplitRenumbers, ClosingRenumbers, PartRenumbers, PartsRenumber, FrontRenumbers, WholeRenumbers};
 ghost use Rattle.sql_law.specs.Trees.{ExpressionRenumbers, TypeLenRenumbers, TypeRenumbers, ConstraintRenumbers, ColumnRenumbers, ElementsRenumber, DropRenumbers, DomainRenumbers, ActionRenumbers, PiecesRenumber, ActionsRenumber, TargetsRenumber, ViewRenumbers, WriteRenumbers, SoundRenumbers, FormRenumbers, StatementRenumbers};
 
-/// The marks are blind to numbers. Such a mark is at the same place, a list is split at the same places, and a bracket
+/// The marks are blind to such maps. Such a mark is at the same place, a list is split at the same places, and a bracket
 /// list is as long.
 pub fn marks_renumber()
     ensures comma { IsBlind marks.comma }
@@ -23,9 +23,9 @@ pub fn marks_renumber()
     ensures operator { IsBlind marks.operator }
     ensures cast { IsBlind marks.cast }
     ensures on_commit_drop { IsBlind marks.on_commit_drop }
-    ensures before { BeforeRenumbers }
-    ensures split { SplitRenumbers }
-    ensures closing { ClosingRenumbers }
+    ensures before { ForKept BeforeRenumbers }
+    ensures split { ForKept SplitRenumbers }
+    ensures closing { ForKept ClosingRenumbers }
 {}
 
 /// So are the marks by which columns, options and clauses are cut.
@@ -50,62 +50,65 @@ pub fn piece_marks_renumber()
 
 /// An expression stays the same.
 pub fn expression_renumbers()
-    ensures { ExpressionRenumbers }
+    ensures { ForKept ExpressionRenumbers }
 {}
 
 /// A column's type is as long, and stays the same.
 pub fn type_renumbers()
-    ensures length { TypeLenRenumbers }
-    ensures tree { TypeRenumbers }
+    ensures length { ForKept TypeLenRenumbers }
+    ensures tree { ForKept TypeRenumbers }
 {}
 
 /// A table constraint stays one.
 pub fn constraint_renumbers()
-    ensures { ConstraintRenumbers }
+    ensures { ForKept ConstraintRenumbers }
 {}
 
 /// A column stays the same, and so do the elements of a table, what is done with it at the end of a transaction, and the
 /// constraints of a domain.
 pub fn columns_renumber()
-    ensures column { ColumnRenumbers }
-    ensures elements { ElementsRenumber }
-    ensures drop { DropRenumbers }
-    ensures domain { DomainRenumbers }
+    ensures column { ForKept ColumnRenumbers }
+    ensures elements { ForKept ElementsRenumber }
+    ensures drop { ForKept DropRenumbers }
+    ensures domain { ForKept DomainRenumbers }
 {}
 
 /// An action of an ALTER statement stays the same, and so do its pieces, and a list of actions.
 pub fn actions_renumber()
-    ensures one { ActionRenumbers }
-    ensures pieces { PiecesRenumber }
-    ensures all { ActionsRenumber }
+    ensures one { ForKept ActionRenumbers }
+    ensures pieces { ForKept PiecesRenumber }
+    ensures all { ForKept ActionsRenumber }
 {}
 
 /// What a query gives, what a view is and what a statement writes stay the same.
 pub fn queries_renumber()
-    ensures targets { TargetsRenumber }
-    ensures view { ViewRenumbers }
-    ensures write { WriteRenumbers }
+    ensures targets { ForKept TargetsRenumber }
+    ensures view { ForKept ViewRenumbers }
+    ensures write { ForKept WriteRenumbers }
 {}
 
 /// A part takes the same terminals, and parts one after another do. Of any table of rows the same row reads a statement,
 /// an action or a piece of one.
 pub fn fronts_renumber()
-    ensures part { PartRenumbers }
-    ensures parts { PartsRenumber }
-    ensures rows { FrontRenumbers }
-    ensures action_rows { WholeRenumbers ActionKind }
-    ensures piece_rows { WholeRenumbers PieceKind }
+    ensures part { ForKept PartRenumbers }
+    ensures parts { ForKept PartsRenumber }
+    ensures rows { ForKept FrontRenumbers }
+    ensures action_rows { ForKept (WholeRenumbers ActionKind) }
+    ensures piece_rows { ForKept (WholeRenumbers PieceKind) }
 {}
 
 /// A statement stays sound or not, has the same form, and is the same statement.
 pub fn statements_renumber()
-    ensures sound { SoundRenumbers }
-    ensures form { FormRenumbers }
-    ensures statement { StatementRenumbers }
+    ensures sound { ForKept SoundRenumbers }
+    ensures form { ForKept FormRenumbers }
+    ensures statement { ForKept StatementRenumbers }
 {}
 
-/// The statements of a tree, and its actions, begin at tokens that ascend: no two of them begin at one place.
+/// The statements of a tree, its actions, the elements of its tables and its column types begin at tokens that ascend: no
+/// two of a list begin at one place.
 pub fn starts_ascend()
     ensures statements { StatementsAscend }
     ensures actions { ActionsAscend }
+    ensures elements { ElementsAscend }
+    ensures types { TypesAscend }
 {}

@@ -1,6 +1,7 @@
-//! Laws of whole texts: of the places of their tokens, and of their reading under other numbers.
+//! Laws of whole texts: of the places of their tokens, and of their reading under a map that keeps what reading sees.
 
 ghost use Rattle.sql_law.specs.Order.{PlacesAscend};
+ghost use Rattle.sql_law.specs.Renumber.{ForKept};
 ghost use Rattle.sql_law.specs.Texts.{StatementsRenumber, ReadingRenumbers, TextRenumbers};
 
 /// Tokens of a text begin at bytes that ascend, so a token's place identifies it. Ranges are compared by bytes.
@@ -8,10 +9,10 @@ pub fn places_ascend()
     ensures places { PlacesAscend }
 {}
 
-/// The statements of terminals with other numbers are cut at the same places, and reading them gives the same statements, or
-/// the same fault, with its numbers changed alike.
+/// Under a map of terminals that keeps what reading sees, statements are cut at the same places, and reading them gives the
+/// same statements, or the same fault, with its numbers changed alike.
 pub fn texts_renumber()
-    ensures statements { StatementsRenumber }
-    ensures reading { ReadingRenumbers }
-    ensures text { TextRenumbers }
+    ensures statements { ForKept StatementsRenumber }
+    ensures reading { ForKept ReadingRenumbers }
+    ensures text { ForKept TextRenumbers }
 {}

@@ -103,8 +103,8 @@ pub fn is_in_number(b: u8) -> bool
     RUNS[b as usize] & NUMBER != 0
 }
 
-/// Whether a token that begins with this byte is a word whatever follows. Of a letter that may be the prefix of a
-/// string constant this is not told.
+/// Whether a token that begins with this byte is a word whatever follows. Letters that may be the prefix of a string
+/// constant are not among them.
 #[inline]
 pub fn leads_word(b: u8) -> bool
     ensures { result ≡ true → LeadsWord b }

@@ -165,7 +165,7 @@ fn opens_marks(symbol: Symbol) -> bool
     }
 }
 
-/// The same as `begins`, told on the spot for commas, at which most lists are cut, and for symbols that begin no mark.
+/// The same as `begins`, decided here for commas, at which most lists are cut, and for symbols that begin no mark.
 #[inline(always)]
 #[tactic(auto, unfolding(sql_tree::specs::Split::comma), using(crate::proofs::Opens::no_mark))]
 fn begins_soon(mark: Mark, earlier: Option<Terminal>, first: Terminal, after: &[Terminal]) -> bool

@@ -7,7 +7,7 @@ use Rattle.sql_tree.specs.declared.nodes.Body.{Body}
 use Rattle.sql_tree.specs.declared.nodes.Stmt.{Stmt}
 use Rattle.sql_tree.specs.Statement.{stmt_in}
 
--- The statement that was read, if any, comes after those before, and it is told whether there is one.
+-- The statement that was read, if any, comes after those before, and the answer says whether there is one.
 pub record Pushes (reading : Option Stmt) (before : List Stmt) (pushed : Bool) (after : List Stmt) : Type 0 where
   pub stmts : after ≡ before ++ option_to_list reading
   pub told : pushed ≡ is_some reading

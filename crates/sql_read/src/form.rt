@@ -123,8 +123,8 @@ fn push_table(
     }
 }
 
-/// Puts a statement after the others, of whose front so much was kept and left; `query` is what follows its first word.
-/// CREATE TABLE has a way of its own, and the bodies that most statements have are made on the spot.
+/// Puts a statement after the others. `kept` is what was kept of its front, `left` what follows the front, and `query`
+/// what follows its first word. CREATE TABLE has a way of its own, and the bodies that most statements have are made here.
 #[inline(always)]
 #[tactic(auto, unfolding(sql_tree::specs::Statement::told, sql_tree::specs::Statement::body_by, sql_tree::specs::Statement::final_kind, sql_tree::specs::Statement::body_shape_of))]
 fn push_body(

@@ -11,10 +11,10 @@
 use crate::kinds::{ActionKind, StmtKind};
 use sql_token::{Keyword as K, Span};
 
-/// What a form tells by words that are there or do not.
+/// What the optional words of a form say.
 #[derive(Clone, Copy, PartialEq, Eq)]
 pub enum Fact {
-    /// Nothing is told.
+    /// Nothing.
     Nothing,
     /// UNIQUE.
     Unique,
@@ -30,7 +30,7 @@ pub enum Fact {
     Placed,
 }
 
-/// Words that stand together.
+/// Words that belong together.
 #[derive(Clone, Copy, PartialEq, Eq)]
 pub enum Phrase {
     IfExists,
@@ -63,13 +63,13 @@ pub enum Part {
     MaybeObject(K),
     /// `[WORD]`, known by the mark.
     Flag(K, Fact),
-    /// Nothing at all: the mark is told.
+    /// No word: the form itself says so.
     Tell(Fact),
     /// `[A or B]`: its number is kept.
     Either(K, K),
     /// `[PHRASE]`, known by the mark.
     Maybe(Phrase, Fact),
-    /// `[AND CHAIN or AND NO CHAIN]`: the first is told.
+    /// `[AND CHAIN or AND NO CHAIN]`: the first says that a transaction follows.
     Chain,
     /// `[CONCURRENTLY]`: its number is kept.
     Concurrently,

@@ -11,7 +11,7 @@ use Rattle.text_pos.specs.Range.{Range}
 use Rattle.sql_tree.specs.declared.kinds.StmtKind.{StmtKind}
 use Rattle.sql_tree.specs.declared.kinds.StmtKind.TheVariants.{AlterTable}
 use Rattle.sql_tree.specs.declared.kinds.ActionKind.{ActionKind}
-use Rattle.sql_tree.specs.declared.kinds.ActionKind.TheVariants.{AddConstraint}
+use Rattle.sql_tree.specs.declared.kinds.ActionKind.TheVariants.{AddConstraint, ValidateConstraint}
 use Rattle.sql_tree.specs.declared.nodes.Action.{Action}
 use Rattle.sql_tree.specs.declared.nodes.Body.{Body}
 use Rattle.sql_tree.specs.declared.nodes.Body.TheVariants as body
@@ -30,6 +30,8 @@ use Rattle.lint_ignore.specs.Comment.{ignore_in_token}
 use Rattle.lint_ignore.specs.Found.{all_said, found_in, ignore_comments, nothing}
 use Rattle.lint_transaction.specs.Earlier.{pieces_below}
 use Rattle.lint_transaction.specs.Transaction.{stmt_at, is_new, is_open, no_stmt}
+use Rattle.lint_node.specs.Parts.{table_actions}
+use Rattle.lint_node.specs.Same as node
 use Rattle.lint_pass.specs.Laws.{IsOf}
 use Rattle.lint_pass.specs.Pieces.{no_piece}
 use Rattle.pass_lock.specs.ConstraintMissingNotValid as constraint
@@ -40,7 +42,7 @@ use Rattle.squawk_linter.specs.Laws.{HeadlineHolds, Table}
 use Rattle.squawk_linter.specs.ByStart.{by_key}
 use Rattle.sql_law.specs.Order.{ActionsAscend}
 use Rattle.squawk_linter.specs.Headline.{Entry, HasNoIgnoreComment, addition_entry, additions_at, alteration_entries, build_at, build_entry, built, entries_of, headline_of, is_adding, is_alter_table, is_on_new, is_scanned, adds_on, is_in_headline, same_range}
-use Rattle.pass_groups.specs.OwnTable.{before_builds, before_constraints, group1_table, group2_table, group3_table, group4_table, group5_table, group6_table, group7_table, group8_table, own_table}
+use Rattle.pass_groups.specs.OwnTable.{after_constraints, before_builds, before_constraints, group1_table, group2_table, group3_table, group4_table, group5_table, group6_table, group7_table, group8_table, own_table}
 use Rattle.squawk_linter.specs.Reports.{cleared, reports_from, start_of, with_unknown_names}
 use Rattle.squawk_linter.proofs.ActionPlaces.{adds_elsewhere}
 use Rattle.squawk_linter.proofs.Gathering.{gathered_plain}
@@ -177,15 +179,12 @@ none_of mine rules first second tree vs all =
 
 -- ---- validations of constraints
 
-same_actions : (b : Body) → constraint.actions_by b ≡ actions_in b
-same_actions (body.Alter path actions) = refl
-same_actions _ = refl
-
-not_adding : (k : ActionKind) → constraint.is_validate_kind k ≡ true → is_adding k ≡ false
+not_adding : (k : ActionKind) → node.same_action k ValidateConstraint ≡ true → is_adding k ≡ false
+unfolding node.same_action
 not_adding AddConstraint e = absurd (cc)
 not_adding _ e = refl
 
-validation_not_told : ActionsAscend → (tree : Tree) → IsTree tree → (s : Stmt) (a : Action) → Member s tree.stmts → Member a (actions_in s.body) → constraint.is_validate_kind a.kind ≡ true
+validation_not_told : ActionsAscend → (tree : Tree) → IsTree tree → (s : Stmt) (a : Action) → Member s tree.stmts → Member a (actions_in s.body) → node.same_action a.kind ValidateConstraint ≡ true
     → is_told tree (validation_report tree a) ≡ false
 unfolding validation_report
 validation_not_told ascend tree is s a in_s in_a validates = adds_elsewhere ascend tree is s a in_s in_a (not_adding a.kind validates)
@@ -195,13 +194,13 @@ validations_told ascend tree rules settings is =
     nothing_in_pieces tree (λ i. if has rules rule.ConstraintMissingNotValid then constraint.validations_in settings tree i else []) (length tree.stmts)
     (λ i lt.
     nothing_where tree (has rules rule.ConstraintMissingNotValid) (constraint.validations_in settings tree i)
-    (nothing_where tree (is_open settings.assume_in_transaction tree i) (constraint.validations tree (λ name. constraint.is_added settings.assume_in_transaction tree name i) (constraint.actions_of (stmt_at tree i)))
+    (nothing_where tree (is_open settings.assume_in_transaction tree i) (constraint.validations tree (λ name. constraint.is_added settings.assume_in_transaction tree name i) (table_actions (stmt_at tree i)))
     (of_statement (λ name. constraint.is_added settings.assume_in_transaction tree name i) (stmt_at tree i) (member_at no_stmt tree.stmts i lt))))
   where
     of_action : (known : List ℕ → Bool) (s : Stmt) → Member s tree.stmts → (a : Action) → Member a (actions_in s.body) → headline_of tree (constraint.validation tree known (Some a)) ≡ []
-    of_action known s in_s a in_a = by_kind (constraint.is_validate_kind a.kind) refl
+    of_action known s in_s a in_a = by_kind (node.same_action a.kind ValidateConstraint) refl
       where
-        by_kind : (b : Bool) → constraint.is_validate_kind a.kind ≡ b → headline_of tree (constraint.validation tree known (Some a)) ≡ []
+        by_kind : (b : Bool) → node.same_action a.kind ValidateConstraint ≡ b → headline_of tree (constraint.validation tree known (Some a)) ≡ []
         by_kind true e =
             nothing_where tree (constraint.is_known_path tree known (constraint.validated a)) (validation_report tree a ∷ []) (not_told_one tree (validation_report tree a) (validation_not_told ascend tree is s a in_s in_a e))
         by_kind false e = λ i. headline_of tree (if constraint.is_known_path tree known (if e i then a.path else None) then validation_report tree a ∷ [] else [])
@@ -215,20 +214,22 @@ validations_told ascend tree rules settings is =
         nothing_in_pieces tree (constraint.validation_at tree known (actions_in s.body)) (length (actions_in s.body))
         (λ k lt. of_option (λ name. known name || list_any (constraint.adds_not_valid tree name) (take k (actions_in s.body))) s in_s (slice_get (actions_in s.body) k) (member_got (actions_in s.body) k))
 
-    of_kind : (known : List ℕ → Bool) (s : Stmt) → Member s tree.stmts → (b : Bool) → headline_of tree (constraint.validations tree known (if b then constraint.actions_by s.body else [])) ≡ []
-    of_kind known s in_s true = ap (λ actions. headline_of tree (constraint.validations tree known actions)) (same_actions s.body) ∙ of_actions known s in_s
+    of_kind : (known : List ℕ → Bool) (s : Stmt) → Member s tree.stmts → (b : Bool) → headline_of tree (constraint.validations tree known (if b then actions_in s.body else [])) ≡ []
+    of_kind known s in_s true = of_actions known s in_s
     of_kind known s in_s false = refl
 
-    of_statement : (known : List ℕ → Bool) (s : Stmt) → Member s tree.stmts → headline_of tree (constraint.validations tree known (constraint.actions_of s)) ≡ []
-    of_statement known s in_s = of_kind known s in_s (constraint.is_alter_table_kind s.kind)
+    of_statement : (known : List ℕ → Bool) (s : Stmt) → Member s tree.stmts → headline_of tree (constraint.validations tree known (table_actions s)) ≡ []
+    of_statement known s in_s = of_kind known s in_s (node.same_kind s.kind AlterTable)
 
 -- ---- added constraints
 
-same_kind : (k : StmtKind) → constraint.is_alter_table_kind k ≡ is_alter_table k
+same_kind : (k : StmtKind) → node.same_kind k AlterTable ≡ is_alter_table k
+unfolding node.same_kind
 same_kind AlterTable = refl
 same_kind _ = refl
 
-same_adding : (k : ActionKind) → constraint.is_add_kind k ≡ is_adding k
+same_adding : (k : ActionKind) → node.same_action k AddConstraint ≡ is_adding k
+unfolding node.same_action
 same_adding AddConstraint = refl
 same_adding _ = refl
 
@@ -257,7 +258,7 @@ addition_told : (tree : Tree) (s : Stmt) → Member s tree.stmts → is_alter_ta
 addition_told tree s in_s alters a in_a = by_kind (is_adding a.kind) refl
   where
     test : constraint.is_checked (constraint.added a) ≡ (is_adding a.kind && is_scanned a.constraint)
-    test = scanned (constraint.is_add_kind a.kind) a.constraint ∙ ap (λ (b : Bool). b && is_scanned a.constraint) (same_adding a.kind)
+    test = scanned (node.same_action a.kind AddConstraint) a.constraint ∙ ap (λ (b : Bool). b && is_scanned a.constraint) (same_adding a.kind)
 
     here : Entry
     here = (rule.ConstraintMissingNotValid, span_range_of tree.toks a.first a.last)
@@ -284,21 +285,21 @@ additions_told tree rules settings =
     same_table i (Some path) = refl
 
     by_body : (i : ℕ) (b : Body) → ((a : Action) → Member a (actions_in b) → headline_of tree (constraint.addition tree a) ≡ addition_entry tree a)
-        → headline_of tree (if constraint.is_new_table settings tree i (constraint.table_by b) then [] else flat_map (constraint.addition tree) (constraint.actions_by b)) ≡ alteration_entries settings.assume_in_transaction tree i b
+        → headline_of tree (if constraint.is_new_table settings tree i (constraint.table_by b) then [] else flat_map (constraint.addition tree) (actions_in b)) ≡ alteration_entries settings.assume_in_transaction tree i b
     by_body i (body.Alter path actions) each =
         headline_unless tree (constraint.is_new_table settings tree i path) (flat_map (constraint.addition tree) actions) (flat_map (addition_entry tree) actions) (headline_flat tree (constraint.addition tree) (addition_entry tree) actions each)
         ∙ (λ j. if same_table i path j then [] else flat_map (addition_entry tree) actions)
     by_body i _ each = refl
 
     by_kind : (i : ℕ) (s : Stmt) → Member s tree.stmts → (k : Bool) → is_alter_table s.kind ≡ k
-        → headline_of tree (if constraint.is_new_table settings tree i (constraint.table_by s.body) then [] else flat_map (constraint.addition tree) (if k then constraint.actions_by s.body else []))
+        → headline_of tree (if constraint.is_new_table settings tree i (constraint.table_by s.body) then [] else flat_map (constraint.addition tree) (if k then actions_in s.body else []))
         ≡ (if k then alteration_entries settings.assume_in_transaction tree i s.body else [])
     by_kind i s in_s true alters = by_body i s.body (addition_told tree s in_s alters)
     by_kind i s in_s false other = nothing_unless tree (constraint.is_new_table settings tree i (constraint.table_by s.body))
 
     of_statement : (i : ℕ) (s : Stmt) → Member s tree.stmts → headline_of tree (constraint.additions_of settings tree i s) ≡ (if is_alter_table s.kind then alteration_entries settings.assume_in_transaction tree i s.body else [])
     of_statement i s in_s =
-        (λ j. headline_of tree (if constraint.is_new_table settings tree i (constraint.table_by s.body) then [] else flat_map (constraint.addition tree) (if same_kind s.kind j then constraint.actions_by s.body else [])))
+        (λ j. headline_of tree (if constraint.is_new_table settings tree i (constraint.table_by s.body) then [] else flat_map (constraint.addition tree) (if same_kind s.kind j then actions_in s.body else [])))
         ∙ by_kind i s in_s (is_alter_table s.kind) refl
 
 -- ---- the answer
@@ -333,6 +334,7 @@ IsSilent table = (tree : Tree) (rules : Rules) (settings : LinterSettings) → h
 pub record OthersAreSilent : Type 0 where
   pub first : IsSilent group1_table
   pub before_constraints : IsSilent before_constraints
+  pub after_constraints : IsSilent after_constraints
   pub before_builds : IsSilent before_builds
   pub fourth : IsSilent group4_table
   pub fifth : IsSilent group5_table
@@ -376,11 +378,15 @@ parts ascend others tree rules set is =
         none_both tree (g5 ++ g6) (g7 ++ g8) (none_both tree g5 g6 (others.fifth tree rules set) (others.sixth tree rules set))
         (none_both tree g7 g8 (others.seventh tree rules set) (others.eighth tree rules set))
 
+    own : List Violation
+    own = constraint.reports_of_constraint_missing_not_valid tree rules set
+
     two : headline_of tree (g1 ++ g2) ≡ entries_of tree rules rule.ConstraintMissingNotValid (additions_at set.assume_in_transaction tree)
     two =
         none_left tree g1 g2 (others.first tree rules set)
-        ∙ (none_left tree (before_constraints tree rules set) (constraint.reports_of_constraint_missing_not_valid tree rules set) (others.before_constraints tree rules set)
-        ∙ (none_left tree (constraint.reports_of_validations tree rules set) (constraint.reports_of_additions tree rules set) (validations_told ascend tree rules set is) ∙ additions_told tree rules set))
+        ∙ (none_left tree (before_constraints tree rules set) (own ++ after_constraints tree rules set) (others.before_constraints tree rules set)
+        ∙ (none_right tree own (after_constraints tree rules set) (others.after_constraints tree rules set)
+        ∙ (none_left tree (constraint.reports_of_validations tree rules set) (constraint.reports_of_additions tree rules set) (validations_told ascend tree rules set is) ∙ additions_told tree rules set)))
 
     three : headline_of tree (g3 ++ g4) ≡ entries_of tree rules rule.RequireConcurrentIndexCreation (build_at set.assume_in_transaction tree)
     three =

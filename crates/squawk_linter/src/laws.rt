@@ -5,11 +5,11 @@ ghost use Rattle.lint_base.specs.RuleSets.{Rules};
 ghost use Rattle.lint_pass.specs.Ranges.{AllLieIn};
 ghost use Rattle.squawk_linter.specs.Laws.{AllPlaced, BareFileLeavesNothing, BareLineCoversNothing, HeadlineHolds, NotInHeadline, RulesApart, RulesApartIn, SecondAnswer};
 
-use lint_pass::{Pair, StepPass};
-use pass_compat::{RenamingColumn, RenamingTable};
-use pass_drop::{BanDropColumn, BanDropNotNull, BanDropTable};
-use pass_groups::{Group1, Group4, Group5, Group6, Group7, Group8, OwnPasses};
-use pass_type::ChangingColumnType;
+use lint_pass::StepPass;
+use pass_groups::{
+    AFTER_CONSTRAINTS, BEFORE_BUILDS, BEFORE_CONSTRAINTS, Group1, Group4, Group5, Group6, Group7,
+    Group8, OwnPasses,
+};
 use sql_law::laws::starts_ascend;
 use sql_tree::Parse;
 
@@ -52,31 +52,6 @@ fn not_in_headline<P: StepPass>(_pass: &P)
     ensures { NotInHeadline (P.own _pass.now) (P.table _pass.now) }
 {}
 
-/// The passes before the one on added constraints in its group.
-type BeforeConstraints = Pair<
-    Pair<BanDropColumn, BanDropNotNull>,
-    Pair<BanDropTable, ChangingColumnType>,
->;
-
-const BEFORE_CONSTRAINTS: BeforeConstraints = Pair {
-    first: Pair {
-        first: BanDropColumn,
-        second: BanDropNotNull,
-    },
-    second: Pair {
-        first: BanDropTable,
-        second: ChangingColumnType,
-    },
-};
-
-/// The passes before the one on index builds in its group.
-type BeforeBuilds = Pair<RenamingColumn, RenamingTable>;
-
-const BEFORE_BUILDS: BeforeBuilds = Pair {
-    first: RenamingColumn,
-    second: RenamingTable,
-};
-
 /// What the rules on index builds and on added constraints answer for a tree without ignore comments.
 pub fn headline()
     ensures { HeadlineHolds }
@@ -84,6 +59,7 @@ pub fn headline()
     starts_ascend();
     not_in_headline(&Group1);
     not_in_headline(&BEFORE_CONSTRAINTS);
+    not_in_headline(&AFTER_CONSTRAINTS);
     not_in_headline(&BEFORE_BUILDS);
     not_in_headline(&Group4);
     not_in_headline(&Group5);

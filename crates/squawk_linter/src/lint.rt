@@ -15,7 +15,7 @@ use crate::laws::{headline, placed};
 use crate::linter::Linter;
 use lint_base::{LinterSettings, Reports, RuleSet, Violation};
 use lint_ignore::has_disable_assume_in_transaction;
-use lint_pass::{Pass, Steps, drive};
+use lint_pass::{Pass, StepPass, Steps, drive};
 use pass_groups::OwnPasses;
 use sql_read::{LintError, parse};
 use sql_tree::Parse;
@@ -48,6 +48,24 @@ fn found_by<P: Pass>(
     Ok(found)
 }
 
+// The same of a step pass, whose steps are counted.
+fn counted_by<P: StepPass, L: Ledger>(
+    alloc: Global,
+    file: &Parse<'_>,
+    pass: &P,
+    rules: &RuleSet,
+    settings: &LinterSettings,
+    steps: &mut Steps<L>,
+) -> Result<Reports, NoMemory>
+    requires { IsCleared file.now settings.now }
+    ensures found { IfOk result (λ found. found ≡ P.table pass.now file.now rules.now settings.now) }
+    ensures steps { steps.new ≤ steps.old + 2 * length file.now.stmts }
+{
+    let mut found = Reports::new(alloc);
+    drive(alloc, pass, file, rules, settings, &mut found, steps)?;
+    Ok(found)
+}
+
 impl Linter {
     // Lints a tree, whose text is `text`, with a pass.
     fn lint_by<P: Pass>(
@@ -66,6 +84,28 @@ impl Linter {
     {
         clear(file, &mut self.settings);
         let found = found_by(alloc, file, pass, &self.rules, &self.settings)?;
+        answer(alloc, file, text, &self.rules, found)
+    }
+
+    // The same with a step pass, and counts the steps of the walk over the statements.
+    fn lint_counted_by<P: StepPass, L: Ledger>(
+        &mut self,
+        alloc: Global,
+        file: &Parse<'_>,
+        text: &str,
+        pass: &P,
+        steps: &mut Steps<L>,
+    ) -> Result<Vec<Violation>, NoMemory>
+        requires text { text.now ≡ file.now.text }
+        requires tree { IsTree file.now }
+        requires lie { AllLieIn file.now (P.table pass.now file.now self.old.rules (cleared file.now self.old.settings)) }
+        ensures ok { IfOk result (λ v. v.items ≡ reports_from file.now (P.table pass.now file.now self.old.rules (cleared file.now self.old.settings)) self.old.rules) }
+        ensures rules { self.new.rules ≡ self.old.rules }
+        ensures settings { self.new.settings ≡ cleared file.now self.old.settings }
+        ensures steps { steps.new ≤ steps.old + 2 * length file.now.stmts }
+    {
+        clear(file, &mut self.settings);
+        let found = counted_by(alloc, file, pass, &self.rules, &self.settings, steps)?;
         answer(alloc, file, text, &self.rules, found)
     }
 
@@ -117,19 +157,7 @@ impl Linter {
         ensures steps { steps.new ≤ steps.old + 2 * length file.now.stmts }
     {
         placed(file, &OwnPasses);
-        let text = file.text();
-        clear(file, &mut self.settings);
-        let mut found = Reports::new(alloc);
-        drive(
-            alloc,
-            &OwnPasses,
-            file,
-            &self.rules,
-            &self.settings,
-            &mut found,
-            steps,
-        )?;
-        answer(alloc, file, text, &self.rules, found)
+        self.lint_counted_by(alloc, file, file.text(), &OwnPasses, steps)
     }
 }
 

@@ -6,7 +6,7 @@ use std::test::Fail;
 /// What is printed where nothing is reported.
 const NOTHING: &str = "violations: 0\n";
 
-/// Runs over `BEGIN;`: how many bytes a read gives at most and which reads fail; how many bytes the sink holds at most and
+/// Runs over `CLOSE;`: how many bytes a read gives at most and which reads fail; how many bytes the sink holds at most and
 /// which writes fail; how many bytes the error sink holds at most; then the status, and what both sinks hold.
 const FAULTS: &[(usize, &[u32], usize, &[u32], usize, Status, &str, &str)] = &[
     (100, &[], 14, &[], 0, Status::Clean, NOTHING, ""),
@@ -133,7 +133,7 @@ fn faults(rt: HostRuntime) -> Result<(), Fail> {
     let words = Words::new(rt.alloc());
     for row in FAULTS {
         assert!(rt; row.0 >= 1);
-        let mut src = MemSource::new(rt.alloc(), b"BEGIN;", row.0, row.1)?;
+        let mut src = MemSource::new(rt.alloc(), b"CLOSE;", row.0, row.1)?;
         let mut out = MemSink::new(rt.alloc(), row.2, row.3)?;
         let mut err = MemSink::new(rt.alloc(), row.4, &[])?;
         let status = run(rt.alloc(), &words, &mut src, &mut out, &mut err);

@@ -15,7 +15,7 @@ use text_pos::NoMemory;
 pub struct Choices {
     /// The rules that are enabled.
     pub rules: RuleSet,
-    /// What the linter is told.
+    /// The linter's settings.
     pub settings: LinterSettings,
     /// Whether the locks of the statements are asked for. No word does so yet.
     pub locks: bool,

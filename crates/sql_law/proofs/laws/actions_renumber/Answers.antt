@@ -1,12 +1,13 @@
+use Rattle.sql_law.proofs.Seen.{for_kept}
 use Rattle.sql_law.proofs.Actions as law
 use Rattle.sql_law.proofs.ActionPieces as pieces
 use Rattle.sql_law.proofs.laws.actions_renumber.Goals as goal
 
 pub returns-clause-one : goal.returns-clause-one
-returns-clause-one c = law.action_renumbers
+returns-clause-one c = for_kept _ law.action_renumbers
 
 pub returns-clause-pieces : goal.returns-clause-pieces
-returns-clause-pieces c = pieces.pieces_renumber
+returns-clause-pieces c = for_kept _ pieces.pieces_renumber
 
 pub returns-clause-all : goal.returns-clause-all
-returns-clause-all c = law.actions_renumber
+returns-clause-all c = for_kept _ law.actions_renumber

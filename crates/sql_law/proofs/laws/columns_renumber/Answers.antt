@@ -1,14 +1,15 @@
+use Rattle.sql_law.proofs.Seen.{for_kept}
 use Rattle.sql_law.proofs.Columns as law
 use Rattle.sql_law.proofs.laws.columns_renumber.Goals as goal
 
 pub returns-clause-column : goal.returns-clause-column
-returns-clause-column c = law.column_renumbers
+returns-clause-column c = for_kept _ law.column_renumbers
 
 pub returns-clause-elements : goal.returns-clause-elements
-returns-clause-elements c = law.elements_renumber
+returns-clause-elements c = for_kept _ law.elements_renumber
 
 pub returns-clause-drop : goal.returns-clause-drop
-returns-clause-drop c = law.drop_renumbers
+returns-clause-drop c = for_kept _ law.drop_renumbers
 
 pub returns-clause-domain : goal.returns-clause-domain
-returns-clause-domain c = law.domain_renumbers
+returns-clause-domain c = for_kept _ law.domain_renumbers

@@ -1,5 +1,6 @@
+use Rattle.sql_law.proofs.Seen.{for_kept}
 use Rattle.sql_law.proofs.Expressions as law
 use Rattle.sql_law.proofs.laws.expression_renumbers.Goals as goal
 
 pub returns : goal.returns
-returns c = law.expression_renumbers
+returns c = for_kept _ law.expression_renumbers

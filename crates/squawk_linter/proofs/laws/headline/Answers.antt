@@ -11,10 +11,11 @@ returns c =
     (record {
       first = c.not_in_headline.ensures refl refl;
       before_constraints = c.not_in_headline-2.ensures refl refl;
-      before_builds = c.not_in_headline-3.ensures refl refl;
-      fourth = c.not_in_headline-4.ensures refl refl;
-      fifth = c.not_in_headline-5.ensures refl refl;
-      sixth = c.not_in_headline-6.ensures refl refl;
-      seventh = c.not_in_headline-7.ensures refl refl;
-      eighth = c.not_in_headline-8.ensures refl refl;
+      after_constraints = c.not_in_headline-3.ensures refl refl;
+      before_builds = c.not_in_headline-4.ensures refl refl;
+      fourth = c.not_in_headline-5.ensures refl refl;
+      fifth = c.not_in_headline-6.ensures refl refl;
+      sixth = c.not_in_headline-7.ensures refl refl;
+      seventh = c.not_in_headline-8.ensures refl refl;
+      eighth = c.not_in_headline-9.ensures refl refl;
     })

@@ -1,5 +1,6 @@
 use Rattle.std.proofs.Common.{◌∙◌, sym, ap, refl}
-use Rattle.lint_transaction.specs.SpanSet.{Spans, key_of, hash_of}
+use Rattle.lint_transaction.specs.SpanKey.{key_of, hash_of}
+use Rattle.lint_transaction.specs.SpanSet.{Spans}
 use Rattle.lint_transaction.proofs.SpanLaws.{on_ok, hashed_span, held_span, put_span}
 use Rattle.lint_transaction.proofs.span_set.SpanSet.insert_hashed.Goals as goal
 

@@ -1,6 +1,7 @@
 use Rattle.std.proofs.Common.{◌≡◌, false, take}
 use Rattle.std.specs.List.{list_any}
-use Rattle.lint_transaction.specs.SpanSet.{has_names, key_of}
+use Rattle.lint_transaction.specs.SpanKey.{key_of}
+use Rattle.lint_transaction.specs.SpanSet.{has_names}
 use Rattle.lint_transaction.proofs.span_set.SpanSet.is_other.Given as goal
 
 -- none of the spans so far has the names

@@ -4,4 +4,4 @@ use Rattle.pass_lock.proofs.constraint_missing_not_valid.AdditionsMemory.report.
 
 pub returns-then-not-has_addition-clause-ok : goal.returns-then-not-has_addition-clause-ok
 returns-then-not-has_addition-clause-ok c settings i h =
-    none_added settings c.args.p.now i c.args.s.now c.actions_of-actions.result.now c.actions_of-actions.ensures (sym c.has_addition.ensures ∙ c.if-not-has_addition.true) c.args.out.now
+    none_added settings c.args.p.now i c.args.s.now c.table_actions-actions.result.now c.table_actions-actions.ensures (sym c.has_addition.ensures ∙ c.if-not-has_addition.true) c.args.out.now

@@ -1,29 +1,17 @@
-use Rattle.std.proofs.Common.{◌≡◌, ◌∙◌, ◌++◌, ap, subst, sym}
+use Rattle.std.proofs.Common.{subst}
 use Rattle.std.specs.Str.{IsUtf8}
 use Rattle.std.proofs.lemmas.Result.{IfOk-weaker}
-use Rattle.lint_pass.specs.Ranges.{AllLieIn}
-use Rattle.pass_groups.specs.OwnTable.{own_table}
-use Rattle.squawk_linter.specs.Reports.{cleared, reports_from}
+use Rattle.squawk_linter.specs.Reports.{cleared}
 use Rattle.squawk_linter.proofs.Tables.{reports_placed}
 use Rattle.squawk_linter.proofs.linter.Linter.lint_counted.Goals as goal
 
-pub answer-requires-clause-lie : goal.answer-requires-clause-lie
-answer-requires-clause-lie g c =
-    let tree = c.args.file.now in
-    let rules = c.args.self.now.rules in
-    let set = cleared tree c.args.self.now.settings in
-    let found : c.drive.new.out ≡ own_table tree rules set =
-    c.in_ok-drive.ensures.ok ∙ (λ i. c.new-found.ensures i ++ own_table tree rules (c.clear.ensures i)) in
-    subst (AllLieIn tree) (sym found) (c.placed.ensures.lie rules set)
+pub lint_counted_by-requires-clause-lie : goal.lint_counted_by-requires-clause-lie
+lint_counted_by-requires-clause-lie g c =
+    c.placed.ensures.lie c.args.self.now.rules (cleared c.args.file.now c.args.self.now.settings)
 
 pub returns-clause-places : goal.returns-clause-places
 returns-clause-places g c =
-    let tree = c.args.file.now in
-    let rules = c.args.self.now.rules in
-    let settings = c.args.self.now.settings in
-    let set = cleared tree settings in
-    let found : c.drive.new.out ≡ own_table tree rules set =
-    c.in_ok-drive.ensures.ok ∙ (λ i. c.new-found.ensures i ++ own_table tree rules (c.clear.ensures i)) in
-    IfOk-weaker c.answer.result _ _
-    (λ v is. reports_placed tree rules settings v.items c.text-text.ensures.tree (subst IsUtf8 c.text-text.ensures.value c.text-text.utf8) (c.placed.ensures.placed rules set) (is ∙ ap (λ x. reports_from tree x rules) found))
-    c.answer.ensures
+    let set = cleared c.args.file.now c.args.self.now.settings in
+    IfOk-weaker c.lint_counted_by.result _ _
+    (λ v is. reports_placed c.args.file.now c.args.self.now.rules c.args.self.now.settings v.items c.text.ensures.tree (subst IsUtf8 c.text.ensures.value c.text.utf8) (c.placed.ensures.placed c.args.self.now.rules set) is)
+    c.lint_counted_by.ensures.ok

@@ -1,0 +1,2 @@
+pub mod NameSearch
+pub mod VolatilityLevels

@@ -1,0 +1,4 @@
+pub mod AddedConstraints
+pub mod FieldWithDefault
+pub mod RequiredField
+pub mod Volatility

@@ -1,0 +1,242 @@
+//! Constraints that are added to tables in use.
+
+ghost use Rattle.std.specs.Prelude.{◌≡◌};
+ghost use Rattle.pass_constraint.specs.AddedConstraints as spec;
+ghost use Rattle.pass_constraint.specs.AddedConstraints.{lent};
+
+use crate::constraint_rows::{ConstraintRow, Excuse, report_statement};
+use lint_base::{LinterSettings, Reports, Rule};
+use lint_pass::{Block, RulePass};
+use lint_transaction::CreatedTables;
+use sql_tree::{ConKind, Parse, Stmt};
+use std::alloc::Global;
+use text_pos::NoMemory;
+
+/// Reports each FOREIGN KEY that an ALTER TABLE adds without NOT VALID, except on a table that the same open transaction created; and
+/// each REFERENCES of a column that it adds.
+///
+/// Every row is looked up in the referenced table, under a SHARE ROW EXCLUSIVE lock on both tables: writes to both wait for as long.
+/// With NOT VALID the look-up is left out, and a later VALIDATE CONSTRAINT makes it under weaker locks. The referenced table is in use
+/// also where the other one is new.
+///
+/// PostgreSQL manual, ALTER TABLE, "ADD table_constraint [ NOT VALID ]", "VALIDATE CONSTRAINT" and Notes.
+#[derive(Drop)]
+pub struct AddingForeignKeyConstraint;
+
+/// Reports each PRIMARY KEY that an ALTER TABLE adds without USING INDEX, and that of a column that it adds, except on a table that
+/// the same open transaction created.
+///
+/// The index is built, and the columns are searched for nulls, under an ACCESS EXCLUSIVE lock: reads and writes wait until the index
+/// is complete. A unique index that was built with CONCURRENTLY becomes the key at once, where its columns are NOT NULL already.
+///
+/// PostgreSQL manual, ALTER TABLE, "ADD table_constraint_using_index".
+#[derive(Drop)]
+pub struct AddingPrimaryKeyConstraint;
+
+/// Reports each UNIQUE that an ALTER TABLE adds without USING INDEX, except on a table that the same open transaction created; and
+/// each UNIQUE of a column that it adds.
+///
+/// The index is built under an ACCESS EXCLUSIVE lock: reads and writes wait until it is complete. A unique index that was built with
+/// CONCURRENTLY becomes the constraint at once.
+///
+/// PostgreSQL manual, ALTER TABLE, "ADD table_constraint_using_index".
+#[derive(Drop)]
+pub struct DisallowUniqueConstraint;
+
+const FOREIGN_KEYS: ConstraintRow = ConstraintRow {
+    code: Rule::AddingForeignKeyConstraint,
+    of_table: ConKind::ForeignKey,
+    excuse: Excuse::NotValid,
+    of_column: ConKind::References,
+    is_excused_on_new: false,
+    message: "adding a foreign key constraint requires a table scan and a `share row exclusive` lock on both tables, which blocks writes to each table",
+    help: "add `not valid` to the constraint in one transaction and then `validate` the constraint in a separate transaction",
+};
+
+const PRIMARY_KEYS: ConstraintRow = ConstraintRow {
+    code: Rule::AddingSerialPrimaryKeyField,
+    of_table: ConKind::PrimaryKey,
+    excuse: Excuse::ByIndex,
+    of_column: ConKind::PrimaryKey,
+    is_excused_on_new: true,
+    message: "adding a primary key constraint requires an `access exclusive` lock that will block all reads and writes to the table while the primary key index is built",
+    help: "add the `primary key` constraint `using` an index",
+};
+
+const UNIQUES: ConstraintRow = ConstraintRow {
+    code: Rule::DisallowedUniqueConstraint,
+    of_table: ConKind::Unique,
+    excuse: Excuse::ByIndex,
+    of_column: ConKind::Unique,
+    is_excused_on_new: false,
+    message: "adding a `unique` constraint requires an `access exclusive` lock which blocks reads and writes to the table while the index is built",
+    help: "create an index `concurrently` and create the constraint using the index",
+};
+
+fn foreign_keys() -> &'static ConstraintRow
+    ensures { lent result.now ≡ spec.foreign_keys }
+{
+    &FOREIGN_KEYS
+}
+
+fn primary_keys() -> &'static ConstraintRow
+    ensures { lent result.now ≡ spec.primary_keys }
+{
+    &PRIMARY_KEYS
+}
+
+fn uniques() -> &'static ConstraintRow
+    ensures { lent result.now ≡ spec.uniques }
+{
+    &UNIQUES
+}
+
+impl RulePass for AddingForeignKeyConstraint {
+    ghost use Rattle.std.specs.Prelude.{false};
+    ghost use Rattle.lint_base.specs.declared.rule.Rule.TheVariants as rule;
+    ghost use Rattle.lint_transaction.specs.Created.{IsKnown};
+    ghost use Rattle.lint_transaction.specs.Transaction.{stmt_at};
+    ghost use Rattle.pass_constraint.specs.AddedConstraints as spec;
+    ghost use Rattle.pass_constraint.specs.AddedConstraints.{added_by, added_coded, added_placed};
+
+    type Memory = CreatedTables;
+
+    ghost code = { λ _. rule.AddingForeignKeyConstraint };
+
+    ghost knows = { λ _ created tree set i. IsKnown tree set.assume_in_transaction i created };
+
+    ghost wants = { λ _. false };
+
+    ghost reports = { λ _ tree set i. added_by spec.foreign_keys set tree i (stmt_at tree i) };
+
+    ghost coded = { λ _ tree set i. added_coded spec.foreign_keys set tree i (stmt_at tree i) };
+
+    ghost placed = { λ _ tree set i. added_placed spec.foreign_keys set tree i (stmt_at tree i) };
+
+    fn code(&self) -> Rule {
+        Rule::AddingForeignKeyConstraint
+    }
+
+    fn wants_blocks(&self) -> bool {
+        false
+    }
+
+    fn begin(&self, alloc: Global, set: &LinterSettings) -> Result<CreatedTables, NoMemory> {
+        Ok(CreatedTables::new(alloc, set.assume_in_transaction))
+    }
+
+    fn tell(
+        &self,
+        created: &mut CreatedTables,
+        p: &Parse<'_>,
+        _i: u32,
+        s: &Stmt,
+        _blocks: &[Block],
+        _set: &LinterSettings,
+        out: &mut Reports,
+    ) -> Result<(), NoMemory> {
+        report_statement(foreign_keys(), created, p, s, out)?;
+        created.update(p, s)?;
+        Ok(())
+    }
+}
+
+impl RulePass for AddingPrimaryKeyConstraint {
+    ghost use Rattle.std.specs.Prelude.{false};
+    ghost use Rattle.lint_base.specs.declared.rule.Rule.TheVariants as rule;
+    ghost use Rattle.lint_transaction.specs.Created.{IsKnown};
+    ghost use Rattle.lint_transaction.specs.Transaction.{stmt_at};
+    ghost use Rattle.pass_constraint.specs.AddedConstraints as spec;
+    ghost use Rattle.pass_constraint.specs.AddedConstraints.{added_by, added_coded, added_placed};
+
+    type Memory = CreatedTables;
+
+    ghost code = { λ _. rule.AddingSerialPrimaryKeyField };
+
+    ghost knows = { λ _ created tree set i. IsKnown tree set.assume_in_transaction i created };
+
+    ghost wants = { λ _. false };
+
+    ghost reports = { λ _ tree set i. added_by spec.primary_keys set tree i (stmt_at tree i) };
+
+    ghost coded = { λ _ tree set i. added_coded spec.primary_keys set tree i (stmt_at tree i) };
+
+    ghost placed = { λ _ tree set i. added_placed spec.primary_keys set tree i (stmt_at tree i) };
+
+    fn code(&self) -> Rule {
+        Rule::AddingSerialPrimaryKeyField
+    }
+
+    fn wants_blocks(&self) -> bool {
+        false
+    }
+
+    fn begin(&self, alloc: Global, set: &LinterSettings) -> Result<CreatedTables, NoMemory> {
+        Ok(CreatedTables::new(alloc, set.assume_in_transaction))
+    }
+
+    fn tell(
+        &self,
+        created: &mut CreatedTables,
+        p: &Parse<'_>,
+        _i: u32,
+        s: &Stmt,
+        _blocks: &[Block],
+        _set: &LinterSettings,
+        out: &mut Reports,
+    ) -> Result<(), NoMemory> {
+        report_statement(primary_keys(), created, p, s, out)?;
+        created.update(p, s)?;
+        Ok(())
+    }
+}
+
+impl RulePass for DisallowUniqueConstraint {
+    ghost use Rattle.std.specs.Prelude.{false};
+    ghost use Rattle.lint_base.specs.declared.rule.Rule.TheVariants as rule;
+    ghost use Rattle.lint_transaction.specs.Created.{IsKnown};
+    ghost use Rattle.lint_transaction.specs.Transaction.{stmt_at};
+    ghost use Rattle.pass_constraint.specs.AddedConstraints as spec;
+    ghost use Rattle.pass_constraint.specs.AddedConstraints.{added_by, added_coded, added_placed};
+
+    type Memory = CreatedTables;
+
+    ghost code = { λ _. rule.DisallowedUniqueConstraint };
+
+    ghost knows = { λ _ created tree set i. IsKnown tree set.assume_in_transaction i created };
+
+    ghost wants = { λ _. false };
+
+    ghost reports = { λ _ tree set i. added_by spec.uniques set tree i (stmt_at tree i) };
+
+    ghost coded = { λ _ tree set i. added_coded spec.uniques set tree i (stmt_at tree i) };
+
+    ghost placed = { λ _ tree set i. added_placed spec.uniques set tree i (stmt_at tree i) };
+
+    fn code(&self) -> Rule {
+        Rule::DisallowedUniqueConstraint
+    }
+
+    fn wants_blocks(&self) -> bool {
+        false
+    }
+
+    fn begin(&self, alloc: Global, set: &LinterSettings) -> Result<CreatedTables, NoMemory> {
+        Ok(CreatedTables::new(alloc, set.assume_in_transaction))
+    }
+
+    fn tell(
+        &self,
+        created: &mut CreatedTables,
+        p: &Parse<'_>,
+        _i: u32,
+        s: &Stmt,
+        _blocks: &[Block],
+        _set: &LinterSettings,
+        out: &mut Reports,
+    ) -> Result<(), NoMemory> {
+        report_statement(uniques(), created, p, s, out)?;
+        created.update(p, s)?;
+        Ok(())
+    }
+}

@@ -1,0 +1,3 @@
+pub mod DropLaws
+pub mod NotNullLaws
+pub mod RobustLaws

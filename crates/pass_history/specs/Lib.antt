@@ -1,0 +1,12 @@
+pub mod Constraints
+pub mod Dropped
+pub mod History
+pub mod HistoryLaws
+pub mod NotNull
+pub mod NotNullReports
+pub mod NotNullWalk
+pub mod Robust
+pub mod RobustActions
+pub mod RobustReports
+pub mod RobustStatements
+pub mod RobustWalk

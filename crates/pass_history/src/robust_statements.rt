@@ -1,0 +1,142 @@
+//! Statements other than ALTER TABLE that can't be run again.
+
+ghost use Rattle.std.specs.Prelude.{◌≡◌, ◌++◌, ◌∷◌, [], IfOk, OnOk, OnErr};
+ghost use Rattle.pass_history.specs.RobustStatements as spec;
+ghost use Rattle.pass_history.specs.RobustStatements.{index_reports, statement_reports};
+
+use crate::robust_reports::{
+    EXISTS_TITLE, NOT_EXISTS_TITLE, after_word, before_word, missing_exists, missing_not_exists,
+};
+use lint_base::{Reports, Text, Violation};
+use lint_node::same_kind;
+use sql_token::Span;
+use sql_tree::{Body, Parse, Stmt, StmtKind};
+use std::alloc::Global;
+use text_pos::NoMemory;
+
+fn index_report(alloc: Global, p: &Parse<'_>, s: &Stmt, name: u32) -> Result<Violation, NoMemory>
+    ensures { IfOk result (λ v. v ≡ spec.index_report p.now s.now name) }
+{
+    let title = Text::plain(NOT_EXISTS_TITLE);
+    let fix = before_word(alloc, p, title, Text::plain("if not exists "), Some(name))?;
+    Ok(missing_not_exists(p.stmt_range(s), fix))
+}
+
+fn table_report(alloc: Global, p: &Parse<'_>, s: &Stmt, word: u32) -> Result<Violation, NoMemory>
+    ensures { IfOk result (λ v. v ≡ spec.table_report p.now s.now word) }
+{
+    let title = Text::plain(NOT_EXISTS_TITLE);
+    let fix = after_word(alloc, p, title, Text::plain(" if not exists"), Some(word))?;
+    Ok(missing_not_exists(p.stmt_range(s), fix))
+}
+
+fn first_token(paths: &[Span]) -> Option<u32>
+    ensures { result ≡ spec.first_of paths.now }
+{
+    match paths.first() {
+        Some(path) => Some(path.first),
+        None => None,
+    }
+}
+
+fn index_drop(alloc: Global, p: &Parse<'_>, s: &Stmt, paths: &[Span]) -> Result<Violation, NoMemory>
+    ensures { IfOk result (λ v. v ≡ spec.index_drop p.now s.now paths.now) }
+{
+    let title = Text::plain(EXISTS_TITLE);
+    let text = Text::plain("if exists ");
+    let fix = before_word(alloc, p, title, text, first_token(paths))?;
+    Ok(missing_exists(p.stmt_range(s), fix))
+}
+
+fn object_drop(alloc: Global, p: &Parse<'_>, s: &Stmt, word: u32) -> Result<Violation, NoMemory>
+    ensures { IfOk result (λ v. v ≡ spec.object_drop p.now s.now word) }
+{
+    let title = Text::plain(EXISTS_TITLE);
+    let fix = after_word(alloc, p, title, Text::plain(" if exists"), Some(word))?;
+    Ok(missing_exists(p.stmt_range(s), fix))
+}
+
+fn drop_report(
+    alloc: Global,
+    p: &Parse<'_>,
+    s: &Stmt,
+    word: u32,
+    paths: &[Span],
+) -> Result<Violation, NoMemory>
+    ensures { IfOk result (λ v. v ≡ spec.drop_report p.now s.now word paths.now) }
+{
+    if same_kind(s.kind, StmtKind::DropIndex) {
+        index_drop(alloc, p, s, paths)
+    } else {
+        object_drop(alloc, p, s, word)
+    }
+}
+
+/// Reports an index build, where the index has a name.
+fn report_index(
+    alloc: Global,
+    p: &Parse<'_>,
+    s: &Stmt,
+    quiet: bool,
+    name: Option<u32>,
+    out: &mut Reports,
+) -> Result<(), NoMemory>
+    ensures ok { OnOk result (out.new ≡ out.old ++ index_reports p.now s.now quiet name) }
+    ensures err { OnErr result (out.new ≡ out.old) }
+{
+    match name {
+        Some(name) if !quiet => out.push(index_report(alloc, p, s, name)?),
+        _ => Ok(()),
+    }
+}
+
+/// Reports a statement other than ALTER TABLE that can't be run again.
+pub(crate) fn report_statement(
+    alloc: Global,
+    p: &Parse<'_>,
+    robust: bool,
+    s: &Stmt,
+    out: &mut Reports,
+) -> Result<(), NoMemory>
+    ensures ok { OnOk result (out.new ≡ out.old ++ statement_reports p.now robust s.now) }
+    ensures err { OnErr result (out.new ≡ out.old) }
+{
+    match &s.body {
+        Body::Index {
+            concurrently,
+            guarded,
+            name,
+            ..
+        } => {
+            let quiet = *guarded || (robust && concurrently.is_none());
+            report_index(alloc, p, s, quiet, *name, out)
+        }
+        Body::Table {
+            temp,
+            guarded,
+            on_commit_drop,
+            word,
+            ..
+        } => {
+            let is_table = same_kind(s.kind, StmtKind::CreateTable);
+            if robust || *guarded || (*temp && *on_commit_drop) || !is_table {
+                Ok(())
+            } else {
+                out.push(table_report(alloc, p, s, *word)?)
+            }
+        }
+        Body::Drop {
+            word,
+            guarded,
+            paths,
+            ..
+        } => {
+            if robust || *guarded {
+                Ok(())
+            } else {
+                out.push(drop_report(alloc, p, s, *word, paths.as_slice())?)
+            }
+        }
+        _ => Ok(()),
+    }
+}

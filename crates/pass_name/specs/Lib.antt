@@ -1,0 +1,9 @@
+pub mod LongNames
+pub mod Groups
+pub mod Members
+pub mod Entries
+pub mod Gathered
+pub mod Duplicates
+pub mod SetOrder
+pub mod EditOrder
+pub mod DuplicateLaws

@@ -1,0 +1,10 @@
+use Rattle.lint_base.specs.Grown.{at_err}
+use Rattle.lint_pass.proofs.PartLaws.{part_refused_in}
+use Rattle.pass_object.specs.Changes.{at_action, by}
+use Rattle.pass_object.proofs.changes.Changes.report_actions.Goals as goal
+
+pub returns-in_err-report_action-clause-err : goal.returns-in_err-report_action-clause-err
+returns-in_err-report_action-clause-err c =
+    at_err _
+    (part_refused_in (at_action (by c.args.self.now) c.args.p.now) c.args.actions.now c.loop-a.a-index c.a-item.result c.args.out.now c.loop-a.out c.report_action.new.out
+    c.loop-a-test.true c.a-item.is c.loop-a.invariant c.in_err-report_action.ensures.err)

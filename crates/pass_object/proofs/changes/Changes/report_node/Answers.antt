@@ -1,0 +1,14 @@
+use Rattle.lint_base.specs.Grown.{at_err}
+use Rattle.pass_object.specs.Changes.{by_row, lent}
+use Rattle.lint_pass.proofs.PartLaws.{lent_all, lent_refused}
+use Rattle.pass_object.proofs.changes.Changes.report_node.Goals as goal
+
+pub returns-clause-ok : goal.returns-clause-ok
+returns-clause-ok c =
+    lent_all (by_row c.args.self.now.rules c.args.at c.args.range) lent c.args.self.now.rows.now c.loop-row.row-index c.args.out.now c.loop-row.out c.loop-row-test.false c.loop-row.invariant
+
+pub returns-in_err-report_by-clause-err : goal.returns-in_err-report_by-clause-err
+returns-in_err-report_by-clause-err c =
+    at_err _
+    (lent_refused (by_row c.args.self.now.rules c.args.at c.args.range) lent c.args.self.now.rows.now c.loop-row.row-index c.args.out.now c.loop-row.out c.report_by.new.out
+    c.loop-row.invariant c.in_err-report_by.ensures.err)

@@ -1,0 +1,75 @@
+//! The words with which a piece of an ALTER SEQUENCE begins.
+
+ghost use Rattle.std.specs.Prelude.{◌≡◌, ◌<◌, IfSome, length, position, drop};
+ghost use Rattle.pass_object.specs.Words as spec;
+
+use lint_node::same_piece;
+use sql_token::{Tok, TokKind};
+use sql_tree::{Parse, Piece, PieceKind};
+
+/// Whether the token is neither blanks nor a comment.
+fn is_significant(tok: &Tok) -> bool
+    ensures { result ≡ spec.is_significant_token tok.now }
+{
+    !matches!(
+        tok.kind,
+        TokKind::Blank | TokKind::LineComment | TokKind::BlockComment
+    )
+}
+
+/// Whether the token of this number is the word, in any case.
+fn is_word(p: &Parse<'_>, number: usize, word: &str) -> bool
+    ensures { result ≡ spec.is_word p.now number word.now }
+{
+    number < p.tokens().len() && p.token_text(number).eq_ignore_ascii_case(word)
+}
+
+/// How many tokens come before the first significant one.
+fn blanks_before(toks: &[Tok]) -> Option<usize>
+    ensures number { result ≡ position spec.is_significant_token toks.now }
+    ensures within { IfSome result (λ n. n < length toks.now) }
+{
+    toks.iter().position(|tok| is_significant(tok))
+}
+
+/// The tokens from this number on.
+fn tokens_from<'p>(p: &'p Parse<'_>, number: usize) -> &'p [Tok]
+    ensures { result.now ≡ drop number p.now.toks }
+{
+    let toks = p.tokens();
+    if number < toks.len() {
+        &toks[number..]
+    } else {
+        &[]
+    }
+}
+
+/// Whether the first significant token after this one is LOGGED or UNLOGGED.
+fn is_logging_after(p: &Parse<'_>, number: u32) -> bool
+    ensures { result ≡ spec.is_logging_after p.now number }
+{
+    let number = number as usize + 1;
+    match blanks_before(tokens_from(p, number)) {
+        Some(blanks) => {
+            is_word(p, number + blanks, "logged") || is_word(p, number + blanks, "unlogged")
+        }
+        None => false,
+    }
+}
+
+/// Whether the piece leaves the values that a sequence gives as they are.
+fn keeps_values(p: &Parse<'_>, q: &Piece) -> bool
+    ensures { result ≡ spec.keeps_values p.now q.now }
+{
+    let first = q.first as usize;
+    is_word(p, first, "owned")
+        || is_word(p, first, "sequence")
+        || (is_word(p, first, "set") && is_logging_after(p, q.first))
+}
+
+/// Whether the piece is an option of a sequence that changes the values which it gives.
+pub(crate) fn changes_values(p: &Parse<'_>, q: &Piece) -> bool
+    ensures { result ≡ spec.changes_values p.now q.now }
+{
+    same_piece(q.kind, PieceKind::SequenceOption) && !keeps_values(p, q)
+}

@@ -1,0 +1,2 @@
+mod CharNames
+mod TypeWalk

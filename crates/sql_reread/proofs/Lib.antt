@@ -1,0 +1,4 @@
+pub mod Nested
+pub mod Cuts
+pub mod CutLaws
+pub mod Sound

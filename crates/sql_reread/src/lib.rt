@@ -1,0 +1,4 @@
+//! Laws of texts of which a run of terminals was exchanged: what a run is that may be exchanged, and what stays then.
+#![tactic(auto)]
+
+pub mod laws;
