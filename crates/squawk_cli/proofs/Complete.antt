@@ -1,15 +1,17 @@
--- Where nothing fails, a valid input is linted.
-use Rattle.std.proofs.Common.{ℕ, ◌≤◌, ◌^◌, List, length, None, Some, IfSome, ap, subst, arith, length-append}
+-- Where nothing fails, a valid text is linted.
+use Rattle.std.proofs.Common.{◌≡◌, ℕ, ◌≤◌, ◌^◌, List, length, None, Some, IfSome, ap, refl, subst, arith, length-append}
 use Rattle.std.specs.declared.option.Option.{Option}
 use Rattle.std.specs.Str.{IsUtf8}
 use Rattle.squawk_stream.specs.Faults.{Rose}
 use Rattle.squawk_stream.specs.Reading.{Took}
 use Rattle.squawk_words.specs.Choices.{IsAccepted}
+use Rattle.squawk_generate.specs.Made.{made}
 use Rattle.sql_token.specs.Token.{Text, Lexed}
 use Rattle.sql_token.proofs.TokenLaws as tokens
 use Rattle.sql_tree.specs.Statement.{IsValid}
 use Rattle.sql_tree.proofs.TreeLaws as tree
-use Rattle.squawk_cli.specs.Outcome.{WordsFor, ReadFor, InputFor, SourceCause, SinkCause, IsDone}
+use Rattle.squawk_cli.specs.Asked.{text_by}
+use Rattle.squawk_cli.specs.Outcome.{WordsFor, ReadBy, ReadForMade, ReadOfInput, InputFor, SourceCause, SinkCause, IsDone}
 use Rattle.squawk_cli.specs.declared.status.Status.{Status}
 use Rattle.squawk_cli.specs.declared.status.Status.TheVariants.{Clean, Found, BadArguments, NotUtf8, TooLong, Unterminated, Syntax, ReadFault, WriteFault, NoMemory}
 
@@ -18,19 +20,28 @@ took_fits : (t : List ℕ) (b : Option (List ℕ)) (n : ℕ) → Took (Some t) b
 took_fits t None n k = absurd k.taken
 took_fits t (Some y) n k = omega (arith, k.many, ap length k.taken, length-append k.bytes y)
 
-pub is_done : (s : Status) (words : List (List ℕ)) (a b : Option (List ℕ)) (f g h k : ℕ) → WordsFor s words → ReadFor s a b
-    → IfSome a (λ t. InputFor s words t) → SourceCause s f g → SinkCause s h k → IsAccepted words → ¬ (Rose f g) → ¬ (Rose h k)
-    → IfSome a (λ t. IsUtf8 t → IsValid t → IsDone s)
-is_done s words None b f g h k w r i source sink taken ns nk = tt
-is_done Clean words (Some t) b f g h k w r i source sink taken ns nk = λ u v. tt
-is_done Found words (Some t) b f g h k w r i source sink taken ns nk = λ u v. tt
-is_done BadArguments words (Some t) b f g h k w r i source sink taken ns nk = absurd (w taken)
-is_done NotUtf8 words (Some t) b f g h k w r i source sink taken ns nk = λ u v. i.0 u
-is_done TooLong words (Some t) b f g h k w r i source sink taken ns nk =
-    λ u v. let long : 2 ^ 32 ≤ length t = took_fits t b (2 ^ 32) r in let short = v.2.short in let same = ap length v.1 in omega arith
-is_done (Unterminated at) words (Some t) b f g h k w r i source sink taken ns nk =
-    λ u v. tokens.not_both t v.0.toks at (subst (λ (x : Text). Lexed x v.0.toks) v.1 v.2.lexed) i.2
-is_done (Syntax at) words (Some t) b f g h k w r i source sink taken ns nk = λ u v. tree.not_both v.0 t at v.1 v.2 i.1
-is_done ReadFault words (Some t) b f g h k w r i source sink taken ns nk = absurd (ns source)
-is_done WriteFault words (Some t) b f g h k w r i source sink taken ns nk = absurd (nk sink)
-is_done NoMemory words (Some t) b f g h k w r i source sink taken ns nk = λ u v. tt
+done_at : (s : Status) (words : List (List ℕ)) (t : List ℕ) (f g h k : ℕ) → WordsFor s words → (s ≡ TooLong → 2 ^ 32 ≤ length t)
+    → InputFor s words t → SourceCause s f g → SinkCause s h k → IsAccepted words → ¬ (Rose f g) → ¬ (Rose h k)
+    → IsUtf8 t → IsValid t → IsDone s
+done_at Clean words t f g h k w long i source sink taken ns nk u v = tt
+done_at Found words t f g h k w long i source sink taken ns nk u v = tt
+done_at BadArguments words t f g h k w long i source sink taken ns nk u v = absurd (w taken)
+done_at NotUtf8 words t f g h k w long i source sink taken ns nk u v = i.0 u
+done_at TooLong words t f g h k w long i source sink taken ns nk u v =
+    let most : 2 ^ 32 ≤ length t = long refl in let short = v.2.short in let same = ap length v.1 in omega arith
+done_at (Unterminated at) words t f g h k w long i source sink taken ns nk u v =
+    tokens.not_both t v.0.toks at (subst (λ (x : Text). Lexed x v.0.toks) v.1 v.2.lexed) i.2
+done_at (Syntax at) words t f g h k w long i source sink taken ns nk u v = tree.not_both v.0 t at v.1 v.2 i.1
+done_at ReadFault words t f g h k w long i source sink taken ns nk u v = absurd (ns source)
+done_at WriteFault words t f g h k w long i source sink taken ns nk u v = absurd (nk sink)
+done_at NoMemory words t f g h k w long i source sink taken ns nk u v = tt
+
+-- of an input the text is what is left of the source; a made text is never too long
+pub is_done : (s : Status) (words : List (List ℕ)) (generate : Option ℕ) (a b : Option (List ℕ)) (f g h k : ℕ) → WordsFor s words → ReadBy generate s a b
+    → IfSome (text_by generate a) (λ t. InputFor s words t) → SourceCause s f g → SinkCause s h k → IsAccepted words → ¬ (Rose f g) → ¬ (Rose h k)
+    → IfSome (text_by generate a) (λ t. IsUtf8 t → IsValid t → IsDone s)
+is_done s words (Some n) a b f g h k w r i source sink taken ns nk =
+    done_at s words (made n) f g h k w (λ e. absurd (subst (λ x. ReadForMade x a b) e r)) i source sink taken ns nk
+is_done s words None None b f g h k w r i source sink taken ns nk = tt
+is_done s words None (Some t) b f g h k w r i source sink taken ns nk =
+    done_at s words t f g h k w (λ e. took_fits t b (2 ^ 32) (subst (λ x. ReadOfInput x (Some t) b) e r)) i source sink taken ns nk

@@ -1,23 +1,38 @@
 -- What the reports of an input say of a run.
-use Rattle.std.proofs.Common.{◌≡◌, ◌≢◌, ◌∙◌, sym, ap, subst, ℕ, Bool, true, false, List, [], ◌∷◌, ◌++◌, append-nil, arith, Option, Some, None}
-use Rattle.std.specs.Prelude.{IfSome, length, ◌==◌}
+use Rattle.std.proofs.Common.{◌≡◌, ◌≢◌, ◌∙◌, ◌<◌, ◌^◌, sym, ap, refl, subst, ℕ, Bool, true, false, List, [], ◌∷◌, ◌++◌, append-nil, arith, Option, Some, None}
+use Rattle.std.specs.Prelude.{IfSome, length, ◌==◌, option_and_then}
 use Rattle.sql_tree.specs.Statement.{IsValid}
 use Rattle.std.specs.Io.KnownBytes.{Appends, Consumes, IsAtEnd}
 use Rattle.squawk_stream.specs.Parts.{AppendsPart}
 use Rattle.lint_base.specs.declared.violation.Violation.{Violation}
-use Rattle.squawk_print.specs.Printed.{printed}
 use Rattle.squawk_linter.specs.Answers.{IsAnswer}
 use Rattle.squawk_cli.specs.declared.config.Config.{Config}
 use Rattle.squawk_cli.specs.Config.{config_of}
 use Rattle.squawk_cli.specs.Answer.{AreReports}
-use Rattle.squawk_cli.specs.Outcome.{HasReports, AppendsReports, AppendsPartOfReports}
+use Rattle.squawk_cli.specs.Asked.{given_text, groups_asked, shown_by, text_by}
+use Rattle.squawk_cli.specs.declared.status.Status.{Status}
+use Rattle.squawk_cli.specs.declared.status.Status.TheVariants.{NotUtf8, Unterminated, Syntax, NoMemory}
+use Rattle.squawk_cli.specs.Outcome.{HasReports, AppendsReports, AppendsPartOfReports, InputFor, ReadBy, RefusalFits, WrittenFor}
 
--- what holds of the input that was read to its end holds of all that was left
-pub of_input : (a b : Option (List ℕ)) (input s : List ℕ) (P : List ℕ → Type 0) → Consumes a b input → IsAtEnd b → s ≡ input → P s → IfSome a P
-of_input None b input s P taken ended same h = tt
-of_input (Some t) None input s P taken ended same h = absurd taken
-of_input (Some t) (Some y) input s P taken ended same h =
-    subst P (same ∙ sym (taken ∙ ap (λ z. input ++ z) ended ∙ append-nil input)) h
+-- the input that was read to its end is all that was left
+pub all_taken : (a b : Option (List ℕ)) (input : List ℕ) → Consumes a b input → IsAtEnd b → IfSome a (λ t. t ≡ input)
+all_taken None b input taken ended = tt
+all_taken (Some t) None input taken ended = absurd taken
+all_taken (Some t) (Some y) input taken ended = taken ∙ ap (λ z. input ++ z) ended ∙ append-nil input
+
+-- what the words ask for is what their configuration says
+pub asked : (words : List (List ℕ)) (config : Config) → Some config ≡ config_of words → config.generate ≡ groups_asked words
+asked words config named = ap (option_and_then (λ c. c.generate)) named
+
+holds : (given : Option (List ℕ)) (text s : List ℕ) (P : List ℕ → Type 0) → IfSome given (λ t. t ≡ text) → s ≡ text → P s → IfSome given P
+holds None text s P is same h = tt
+holds (Some t) text s P is same h = subst P (same ∙ sym is) h
+
+-- what holds of the text that was linted holds of the text of the run
+pub of_text : (words : List (List ℕ)) (config : Config) (left : Option (List ℕ)) (text s : List ℕ) (P : List ℕ → Type 0) → Some config ≡ config_of words
+    → IfSome (text_by config.generate left) (λ t. t ≡ text) → s ≡ text → P s → IfSome (given_text words left) P
+of_text words config left text s P named is same h =
+    subst (λ g. IfSome (text_by g left) P) (asked words config named) (holds (text_by config.generate left) text s P is same h)
 
 abbrev FoundBy : Config → List ℕ → List Violation → Type 0
 FoundBy config t found = IsAnswer t config.linter.rules config.linter.settings found
@@ -39,14 +54,20 @@ pub valid_text : (config : Config) (t : List ℕ) (found : List Violation) → F
 valid_text config t found are = (are.tree, are.of_text.0, are.of_text.1)
 
 pub reports_appended : (words : List (List ℕ)) (config : Config) (t : List ℕ) (found : List Violation) (old new : Option (List ℕ)) → Some config ≡ config_of words
-    → FoundBy config t found → Appends old new (printed found) → AppendsReports words t old new
-reports_appended words config t found old new named are appended =
-    record { violations = found; reports = reports_of_run words config t found named are; appended = appended }
+    → FoundBy config t found → Appends old new (shown_by config.generate found) → AppendsReports words t old new
+reports_appended words config t found old new named are appended = record {
+  violations = found;
+  reports = reports_of_run words config t found named are;
+  appended = subst (λ g. Appends old new (shown_by g found)) (asked words config named) appended;
+}
 
 pub part_appended : (words : List (List ℕ)) (config : Config) (t : List ℕ) (found : List Violation) (old new : Option (List ℕ)) → Some config ≡ config_of words
-    → FoundBy config t found → AppendsPart old new (printed found) → AppendsPartOfReports words t old new
-part_appended words config t found old new named are appended =
-    record { violations = found; reports = reports_of_run words config t found named are; appended = appended }
+    → FoundBy config t found → AppendsPart old new (shown_by config.generate found) → AppendsPartOfReports words t old new
+part_appended words config t found old new named are appended = record {
+  violations = found;
+  reports = reports_of_run words config t found named are;
+  appended = subst (λ g. AppendsPart old new (shown_by g found)) (asked words config named) appended;
+}
 
 pub none_where : (reports found : List Violation) (r : Bool) → reports ≡ found → r ≡ (length reports == 0) → r ≡ true → found ≡ []
 none_where [] found r same e h = sym same
@@ -55,3 +76,29 @@ none_where (v ∷ vs) found r same e h = absurd (grind (arith, e, h))
 pub some_where : (reports found : List Violation) (r : Bool) → reports ≡ found → r ≡ (length reports == 0) → r ≡ false → (found ≢ [])
 some_where [] found r same e h = absurd (cc)
 some_where (v ∷ vs) found r same e h = λ k. absurd (cc)
+
+-- ---- a text that is refused
+
+-- of each status that a refusal has, the clauses say what the text is, and nothing of what was written
+pub input_refused : (s : Status) (words : List (List ℕ)) (t : List ℕ) → length t < 2 ^ 32 → RefusalFits s t → InputFor s words t
+input_refused NotUtf8 words t short fits = (fits, short)
+input_refused (Unterminated at) words t short fits = fits
+input_refused (Syntax at) words t short fits = fits
+input_refused NoMemory words t short fits = tt
+input_refused _ words t short fits = absurd fits
+
+pub written_refused : (s : Status) (words : List (List ℕ)) (t u : List ℕ) (old new : Option (List ℕ)) → RefusalFits s t → WrittenFor s words u old new
+written_refused NotUtf8 words t u old new fits = tt
+written_refused (Unterminated at) words t u old new fits = tt
+written_refused (Syntax at) words t u old new fits = tt
+written_refused NoMemory words t u old new fits = tt
+written_refused _ words t u old new fits = absurd fits
+
+pub of_any : (o : Option (List ℕ)) (P : List ℕ → Type 0) → ((t : List ℕ) → P t) → IfSome o P
+of_any None P h = tt
+of_any (Some t) P h = h t
+
+-- out of memory before anything is read
+pub unread_at_first : (n : Option ℕ) (a : Option (List ℕ)) → ReadBy n NoMemory a a
+unread_at_first None a = tt
+unread_at_first (Some n) a = refl

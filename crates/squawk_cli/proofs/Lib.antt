@@ -1,3 +1,4 @@
 pub mod Complete
+pub mod Groups
 pub mod Inputs
 pub mod HeadlineOfRun

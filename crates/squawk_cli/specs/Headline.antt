@@ -8,19 +8,19 @@ use Rattle.sql_read.specs.Cause.{IsTreeOf}
 use Rattle.lint_base.specs.declared.violation.Violation.{Violation}
 use Rattle.squawk_linter.specs.Headline.{HasNoIgnoreComment, headline_of, headline_reports}
 use Rattle.squawk_linter.specs.Reports.{cleared}
-use Rattle.squawk_print.specs.Printed.{printed}
 use Rattle.squawk_cli.specs.declared.config.Config.{Config}
 use Rattle.squawk_cli.specs.declared.status.Status.{Status}
 use Rattle.squawk_cli.specs.declared.status.Status.TheVariants.{Clean, Found}
+use Rattle.squawk_cli.specs.Asked.{shown}
 use Rattle.squawk_cli.specs.Config.{config_of}
 
--- a run is clean exactly where nothing is printed
+-- a run is clean exactly where nothing is reported
 abbrev pub CountFor : Status → List Violation → Type 0
 CountFor Clean violations = violations ≡ []
 CountFor Found violations = violations ≢ []
 CountFor _ violations = ⊤
 
--- The words name a configuration, the text has a tree, and what was appended is the printed form of some reports. Where the
+-- The words name a configuration, the text has a tree, and what was appended is what is shown of some reports. Where the
 -- tree has no ignore comment, the index builds and the added constraints among them are exactly those of its statements.
 pub record PrintsHeadline (status : Status) (words : List (List ℕ)) (t : Text) (old new : Option (List ℕ)) : Type 0 where
   pub config : Config
@@ -28,14 +28,14 @@ pub record PrintsHeadline (status : Status) (words : List (List ℕ)) (t : Text)
   pub tree : Tree
   pub of_text : IsTreeOf t tree
   pub violations : List Violation
-  pub appended : Appends old new (printed violations)
+  pub appended : Appends old new (shown words violations)
   pub count : CountFor status violations
   pub headline :
       HasNoIgnoreComment tree
       → headline_of tree violations
       ≡ headline_reports tree config.linter.rules (cleared tree config.linter.settings).assume_in_transaction
 
--- a run that linted its input prints the headline
+-- a run that linted its text prints the headline
 abbrev pub HeadlineFor : Status → List (List ℕ) → Text → Option (List ℕ) → Option (List ℕ) → Type 0
 HeadlineFor Clean words t old new = PrintsHeadline Clean words t old new
 HeadlineFor Found words t old new = PrintsHeadline Found words t old new

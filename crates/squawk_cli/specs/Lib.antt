@@ -1,5 +1,6 @@
 pub mod Config
 pub mod Answer
+pub mod Asked
 pub mod Outcome
 pub mod Headline
 pub mod StatusLine

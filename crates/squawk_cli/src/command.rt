@@ -1,5 +1,5 @@
 //! The run of the program, over any source and sinks.
-ghost use Rattle.std.specs.Prelude.{◌≡◌, IfSome};
+ghost use Rattle.std.specs.Prelude.{◌≡◌, ◌⊎◌, IfSome, IsSome};
 ghost use Rattle.std.specs.Str.{IsUtf8};
 ghost use Rattle.std.specs.Io.KnownBytes.{Appends};
 ghost use Rattle.squawk_stream.specs.Faults.{Rose};
@@ -7,47 +7,47 @@ ghost use Rattle.squawk_stream.specs.Parts.{AppendsPart};
 ghost use Rattle.squawk_words.specs.Choices.{IsAccepted};
 ghost use Rattle.sql_tree.specs.Statement.{IsValid};
 ghost use Rattle.squawk_cli.specs.StatusLine.{line_of};
+ghost use Rattle.squawk_cli.specs.Asked.{given_text, groups_asked};
 ghost use Rattle.squawk_cli.specs.Headline.{HeadlineFor};
 ghost use Rattle.squawk_cli.specs.Outcome.{WordsFor, ReadFor, InputFor, WrittenFor, KeptFor, SourceCause, SinkCause, IsDone};
 
+use crate::asked::{text_for, write_found};
 use crate::config::read_words;
 use crate::input::lint_input;
 use crate::status::Status;
 use crate::status_line::say;
 use squawk_linter::laws::headline;
-use squawk_print::{WriteError, write_violations};
-use squawk_stream::{ReadError, Sink, Source, read_to_end};
+use squawk_print::WriteError;
+use squawk_stream::{Sink, Source};
 use squawk_words::Words;
 use std::alloc::Global;
 
 /// All of a run but the line on the error sink.
 fn work<S: Source, K: Sink>(alloc: Global, words: &Words, src: &mut S, out: &mut K) -> Status
     ensures words { WordsFor result words.now }
-    ensures unread { result ≡ Status.BadArguments → src.new ≡ src.old }
-    ensures read { ReadFor result (S.left src.old) (S.left src.new) }
-    ensures input { IfSome (S.left src.old) (λ t. InputFor result words.now t) }
-    ensures written { IfSome (S.left src.old) (λ t. WrittenFor result words.now t (K.held out.old) (K.held out.new)) }
+    ensures unread { (result ≡ Status.BadArguments) ⊎ IsSome (groups_asked words.now) → src.new ≡ src.old }
+    ensures read { ReadFor result words.now (S.left src.old) (S.left src.new) }
+    ensures input { IfSome (given_text words.now (S.left src.old)) (λ t. InputFor result words.now t) }
+    ensures written { IfSome (given_text words.now (S.left src.old)) (λ t. WrittenFor result words.now t (K.held out.old) (K.held out.new)) }
     ensures kept { KeptFor result (K.held out.old) (K.held out.new) }
     ensures source { SourceCause result (S.faults src.old) (S.faults src.new) }
     ensures sink { SinkCause result (K.faults out.old) (K.faults out.new) }
 {
-    let mut linter = match read_words(alloc, words) {
-        Ok(Some(config)) => config.linter,
+    let (mut linter, generate) = match read_words(alloc, words) {
+        Ok(Some(config)) => (config.linter, config.generate),
         Ok(None) => return Status::BadArguments,
         Err(_) => return Status::NoMemory,
     };
-    let input = match read_to_end(alloc, src) {
-        Ok(input) => input,
-        Err(ReadError::TooLong) => return Status::TooLong,
-        Err(ReadError::Fault) => return Status::ReadFault,
-        Err(ReadError::NoMemory) => return Status::NoMemory,
+    let text = match text_for(alloc, generate, src) {
+        Ok(text) => text,
+        Err(stopped) => return stopped,
     };
-    let found = match lint_input(alloc, &mut linter, input.as_slice()) {
+    let found = match lint_input(alloc, &mut linter, text.as_slice()) {
         Ok(found) => found,
         Err(refused) => return refused,
     };
     let reports = found.as_slice();
-    match write_violations(alloc, out, reports) {
+    match write_found(alloc, generate, out, reports) {
         Ok(()) => {
             if reports.is_empty() {
                 Status::Clean
@@ -63,10 +63,14 @@ fn work<S: Source, K: Sink>(alloc: Global, words: &Words, src: &mut S, out: &mut
 /// Reads the words, then all of the input, lints it as they say, and writes the printed reports to `out`. The line of
 /// the status goes to `err`, and a failure there changes no status.
 ///
-/// The clauses say by each status what the words and the input are (`words`, `input`), what was read and written (`read`,
+/// Where the words have `--generate`, a made text is linted and nothing is read, and in place of the printed reports a
+/// summary of them is written: how many each rule has, and how many there are.
+///
+/// The clauses say by each status what the words and the text are (`words`, `input`), what was read and written (`read`,
 /// `unread`, `written`, `kept`), which failure a fault stands for (`source`, `sink`), and what the error sink gets
-/// (`line`, `whole_line`). What is printed of index builds and of added constraints, `headline` says by the statements of
-/// the input alone. Where nothing fails, a valid input is linted (`complete`); only running out of memory is free.
+/// (`line`, `whole_line`). What is reported of index builds and of added constraints, `headline` says by the statements of
+/// the text alone. Where nothing fails, a valid text is linted (`complete`); only running out of memory is free. Of a
+/// made text all of it holds also where a source does not tell its bytes.
 pub fn run<S: Source, K: Sink, E: Sink>(
     alloc: Global,
     words: &Words,
@@ -75,11 +79,11 @@ pub fn run<S: Source, K: Sink, E: Sink>(
     err: &mut E,
 ) -> Status
     ensures words { WordsFor result words.now }
-    ensures unread { result ≡ Status.BadArguments → src.new ≡ src.old }
-    ensures read { ReadFor result (S.left src.old) (S.left src.new) }
-    ensures input { IfSome (S.left src.old) (λ t. InputFor result words.now t) }
-    ensures written { IfSome (S.left src.old) (λ t. WrittenFor result words.now t (K.held out.old) (K.held out.new)) }
-    ensures headline { IfSome (S.left src.old) (λ t. HeadlineFor result words.now t (K.held out.old) (K.held out.new)) }
+    ensures unread { (result ≡ Status.BadArguments) ⊎ IsSome (groups_asked words.now) → src.new ≡ src.old }
+    ensures read { ReadFor result words.now (S.left src.old) (S.left src.new) }
+    ensures input { IfSome (given_text words.now (S.left src.old)) (λ t. InputFor result words.now t) }
+    ensures written { IfSome (given_text words.now (S.left src.old)) (λ t. WrittenFor result words.now t (K.held out.old) (K.held out.new)) }
+    ensures headline { IfSome (given_text words.now (S.left src.old)) (λ t. HeadlineFor result words.now t (K.held out.old) (K.held out.new)) }
     ensures kept { KeptFor result (K.held out.old) (K.held out.new) }
     ensures source { SourceCause result (S.faults src.old) (S.faults src.new) }
     ensures sink { SinkCause result (K.faults out.old) (K.faults out.new) }
@@ -88,7 +92,7 @@ pub fn run<S: Source, K: Sink, E: Sink>(
         → Appends (E.held err.old) (E.held err.new) (line_of result) }
     ensures complete { IsAccepted words.now → ¬ (Rose (S.faults src.old) (S.faults src.new))
         → ¬ (Rose (K.faults out.old) (K.faults out.new))
-        → IfSome (S.left src.old) (λ t. IsUtf8 t → IsValid t → IsDone result) }
+        → IfSome (given_text words.now (S.left src.old)) (λ t. IsUtf8 t → IsValid t → IsDone result) }
 {
     headline();
     let status = work(alloc, words, src, out);

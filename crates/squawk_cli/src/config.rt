@@ -1,5 +1,5 @@
 //! The configuration that words name.
-ghost use Rattle.std.specs.Prelude.{◌≡◌, ◌↔◌, IfOk, IsSome};
+ghost use Rattle.std.specs.Prelude.{◌≡◌, ◌≤◌, ◌↔◌, IfOk, IfSome, IsSome};
 ghost use Rattle.squawk_words.specs.Choices.{IsAccepted};
 ghost use Rattle.squawk_cli.specs.Config.{config_by, config_of};
 
@@ -15,7 +15,7 @@ pub struct Config {
     pub linter: Linter,
     /// Whether the locks of the statements are asked for. No word does so yet.
     pub locks: bool,
-    /// How many groups of made statements are asked for. No word does so yet.
+    /// How many groups of made statements are to be linted in place of an input, if any are.
     pub generate: Option<u32>,
 }
 
@@ -26,6 +26,7 @@ pub struct Config {
 pub fn read_words(alloc: Global, words: &Words) -> Result<Option<Config>, NoMemory>
     ensures value { IfOk result (λ config. config ≡ config_of words.now) }
     ensures accepted { IfOk result (λ config. IsSome config ↔ IsAccepted words.now) }
+    ensures few { IfOk result (λ config. IfSome config (λ c. IfSome c.generate (λ n. n ≤ 100000))) }
 {
     match read_choices(alloc, words)? {
         None => Ok(None),

@@ -2,6 +2,7 @@
 //! over any source and sinks.
 #![tactic(auto)]
 
+mod asked;
 mod command;
 mod config;
 mod input;

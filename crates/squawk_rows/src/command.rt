@@ -180,6 +180,24 @@ fn nothing_is_read(rt: HostRuntime) -> Result<(), Fail> {
     Ok(())
 }
 
+// Where words ask for a made text no read is made either, so that a read that would fail ends no run.
+#[test]
+fn nothing_is_read_for_a_made_text(rt: HostRuntime) -> Result<(), Fail> {
+    let mut words = Words::new(rt.alloc());
+    words.push("--generate")?;
+    words.push("4")?;
+    let mut src = MemSource::new(rt.alloc(), b"BEGIN;", 100, &[0])?;
+    let mut out = MemSink::new(rt.alloc(), 1000, &[])?;
+    let mut err = MemSink::new(rt.alloc(), 100, &[])?;
+    let status = run(rt.alloc(), &words, &mut src, &mut out, &mut err);
+    assert_eq!(rt; status, Status::Found);
+    assert_eq!(rt; err.bytes(), "".as_bytes());
+    let mut buf = [0u8; 10];
+    assert_eq!(rt; src.read(&mut buf).ok(), None);
+    assert_eq!(rt; src.read(&mut buf).ok(), Some(6));
+    Ok(())
+}
+
 #[test]
 fn statuses(rt: HostRuntime) -> Result<(), Fail> {
     for row in STATUSES {

@@ -1,5 +1,5 @@
 -- What words choose: rules and settings.
-use Rattle.std.specs.Prelude.{ℤ, ◌^◌, ◌++◌, ◌&&◌, Bool, false, List, [], ◌∷◌, length, nat_lt, nat_le, Option, Some, None}
+use Rattle.std.specs.Prelude.{ℕ, ℤ, ◌^◌, ◌++◌, ◌&&◌, Bool, false, List, [], ◌∷◌, length, nat_lt, nat_le, Option, Some, None}
 use Rattle.std.specs.Prelude.{codes, pos, option_map, option_and_then, if◌then◌else◌, ◌==◌, IsSome}
 use Rattle.std.specs.Char.{is_ascii_digit}
 use Rattle.std.specs.List.{list_all, slice_split}
@@ -35,11 +35,17 @@ full_piece piece = if length piece == 0 then None else Some piece
 abbrev pub name_list : Text → Option (List Text)
 name_list list = each full_piece (pieces list)
 
+-- one to ten digits
+abbrev pub is_numeral : Text → Bool
+is_numeral text = nat_lt 0 (length text) && nat_le (length text) 10 && list_all is_ascii_digit text
+
 -- a number of one to ten digits, from 0 to 2147483647
 abbrev pub number : Text → Option ℤ
-number text =
-    if list_all is_ascii_digit text && nat_lt 0 (length text) && nat_le (length text) 10 && nat_lt (digits_value 10 text) (2 ^ 31)
-    then Some (pos (digits_value 10 text)) else None
+number text = if is_numeral text && nat_lt (digits_value 10 text) (2 ^ 31) then Some (pos (digits_value 10 text)) else None
+
+-- how many groups of statements are to be made: a number of one to ten digits, from 0 to 100000
+abbrev pub groups : Text → Option ℕ
+groups text = if is_numeral text && nat_le (digits_value 10 text) 100000 then Some (digits_value 10 text) else None
 
 -- a value read, or a default where there is none
 abbrev pub read_or : {X : Type 0} → X → (Text → Option X) → Option Text → Option X
@@ -57,6 +63,7 @@ pub record Said : Type 0 where
   pub pg_major : Option Text
   pub pg_minor : Option Text
   pub pg_patch : Option Text
+  pub generate : Option Text
   pub assume_in_transaction : Bool
 
 -- the values of what is set
@@ -69,6 +76,7 @@ said_in settings = record {
   pg_major = value_of (codes "pg-major") settings;
   pg_minor = value_of (codes "pg-minor") settings;
   pg_patch = value_of (codes "pg-patch") settings;
+  generate = value_of (codes "generate") settings;
   assume_in_transaction = has (codes "assume-in-transaction") settings;
 }
 
@@ -95,15 +103,19 @@ version_by major minor patch =
     option_and_then (λ a. option_and_then (λ b. option_map (λ c. a ∷ b ∷ c ∷ []) (read_or (pos 0) number patch))
     (read_or (pos 0) number minor)) (read_or (pos 15) number major)
 
+-- how many groups of statements are asked for, if any are
+abbrev pub groups_by : Option Text → Option (Option ℕ)
+groups_by text = read_or None (λ t. option_map (λ n. Some n) (groups t)) text
+
 -- the choices, or nothing where one of the values cannot be read
 abbrev pub choices_by : Said → Option Choices
 choices_by said =
-    option_and_then (λ version. option_and_then (λ names. option_map (λ rules. record {
+    option_and_then (λ version. option_and_then (λ generate. option_and_then (λ names. option_map (λ rules. record {
       rules = rules;
       settings = record { pg_version = version; assume_in_transaction = said.assume_in_transaction; non_volatile = names };
       locks = false;
-      generate = None;
-    }) (rules_by said.only said.include said.exclude)) (names_by said.non_volatile))
+      generate = generate;
+    }) (rules_by said.only said.include said.exclude)) (names_by said.non_volatile)) (groups_by said.generate))
     (version_by said.pg_major said.pg_minor said.pg_patch)
 
 -- what words choose, or nothing where they are refused

@@ -44,6 +44,7 @@ said_by given = record {
   pg_major = option_map (λ s. s.now) given.pg_major;
   pg_minor = option_map (λ s. s.now) given.pg_minor;
   pg_patch = option_map (λ s. s.now) given.pg_patch;
+  generate = option_map (λ s. s.now) given.generate;
   assume_in_transaction = given.assume_in_transaction;
 }
 
@@ -61,4 +62,5 @@ pub record IsGiven (found : Found) (said : Said) : Type 0 where
   pub pg_major : said.pg_major ≡ first_value found (codes "pg-major")
   pub pg_minor : said.pg_minor ≡ first_value found (codes "pg-minor")
   pub pg_patch : said.pg_patch ≡ first_value found (codes "pg-patch")
+  pub generate : said.generate ≡ first_value found (codes "generate")
   pub assume_in_transaction : IsFlag found (codes "assume-in-transaction") said.assume_in_transaction

@@ -18,7 +18,7 @@ Table = List (Text × Bool)
 abbrev pub table : Table
 table =
     (codes "only", true) ∷ (codes "include", true) ∷ (codes "exclude", true) ∷ (codes "non-volatile", true) ∷
-    (codes "pg-major", true) ∷ (codes "pg-minor", true) ∷ (codes "pg-patch", true) ∷
+    (codes "pg-major", true) ∷ (codes "pg-minor", true) ∷ (codes "pg-patch", true) ∷ (codes "generate", true) ∷
     (codes "assume-in-transaction", false) ∷ []
 
 -- whether a name takes a value, where it is one of the names

@@ -4,7 +4,7 @@ ghost use Rattle.squawk_words.specs.Command.{said_by};
 ghost use Rattle.squawk_words.specs.Choices.{IsAccepted, choices_by, choices_of, rules_by, version_by};
 
 use crate::given::{Given, given_words};
-use crate::values::{names_by, number_or, rule_list, rules_or_none};
+use crate::values::{groups_by, names_by, number_or, rule_list, rules_or_none};
 use crate::words::Words;
 use lint_base::{LinterSettings, RuleSet};
 use std::alloc::Global;
@@ -19,7 +19,7 @@ pub struct Choices {
     pub settings: LinterSettings,
     /// Whether the locks of the statements are asked for. No word does so yet.
     pub locks: bool,
-    /// How many groups of made statements are asked for. No word does so yet.
+    /// How many groups of made statements `--generate` asks for, 0 to 100000, or `None` without it.
     pub generate: Option<u32>,
 }
 
@@ -33,10 +33,12 @@ pub struct Choices {
 /// - `--non-volatile LIST`: functions that count as not volatile, beside the standard ones.
 /// - `--assume-in-transaction`: the text is run inside a transaction that was begun before it.
 /// - `--pg-major N`, `--pg-minor N`, `--pg-patch N`: the version of PostgreSQL, 15, 0 and 0 where a
-///   word is left out.
+///   word is left out. N is from 0 to 2147483647.
+/// - `--generate N`: N groups of made statements are checked in place of a text. N is from 0 to
+///   100000.
 ///
-/// A LIST is split at commas, and no piece is empty; N is one to ten digits, from 0 to 2147483647.
-/// The error comes when memory runs out.
+/// A LIST is split at commas, and no piece is empty; N is one to ten digits. The error comes when
+/// memory runs out.
 pub fn read_choices(alloc: Global, words: &Words) -> Result<Option<Choices>, NoMemory>
     ensures value { IfOk result (λ choices. choices ≡ choices_of words.now) }
     ensures accepted { IfOk result (λ choices. IsSome choices ↔ IsAccepted words.now) }
@@ -54,6 +56,9 @@ fn choices_by(alloc: Global, given: Given<'_>) -> Result<Option<Choices>, NoMemo
     let Some(pg_version) = version_by(given.pg_major, given.pg_minor, given.pg_patch) else {
         return Ok(None);
     };
+    let Some(generate) = groups_by(given.generate) else {
+        return Ok(None);
+    };
     let Some(non_volatile) = names_by(alloc, given.non_volatile)? else {
         return Ok(None);
     };
@@ -69,7 +74,7 @@ fn choices_by(alloc: Global, given: Given<'_>) -> Result<Option<Choices>, NoMemo
         rules,
         settings,
         locks: false,
-        generate: None,
+        generate,
     }))
 }
 

@@ -20,6 +20,7 @@ pub(crate) struct Given<'w> {
     pub(crate) pg_major: Option<&'w str>,
     pub(crate) pg_minor: Option<&'w str>,
     pub(crate) pg_patch: Option<&'w str>,
+    pub(crate) generate: Option<&'w str>,
     pub(crate) assume_in_transaction: bool,
 }
 
@@ -78,7 +79,8 @@ fn command<'w>(alloc: Global) -> Result<Command<'w>, AllocError>
     let with_pg_major = with_option(with_non_volatile, alloc, "pg-major")?;
     let with_pg_minor = with_option(with_pg_major, alloc, "pg-minor")?;
     let with_pg_patch = with_option(with_pg_minor, alloc, "pg-patch")?;
-    with_flag(with_pg_patch, alloc, "assume-in-transaction")
+    let with_generate = with_option(with_pg_patch, alloc, "generate")?;
+    with_flag(with_generate, alloc, "assume-in-transaction")
 }
 
 // A command and one more name that takes a value.
@@ -115,6 +117,7 @@ fn given_of<'w>(matches: &ArgMatches<'w>) -> Given<'w>
         pg_major: matches.get_str("pg-major"),
         pg_minor: matches.get_str("pg-minor"),
         pg_patch: matches.get_str("pg-patch"),
+        generate: matches.get_str("generate"),
         assume_in_transaction: matches.get_flag("assume-in-transaction"),
     }
 }

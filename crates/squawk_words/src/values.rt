@@ -2,11 +2,17 @@
 ghost use Rattle.std.specs.Prelude.{◌≡◌, [], IfOk, map, option_map, pos};
 ghost use Rattle.std.specs.Char.{is_ascii_digit};
 ghost use Rattle.std.specs.List.{list_all};
-ghost use Rattle.squawk_words.specs.Choices.{name_list, names_by, number, pieces, read_or, rule_list};
+ghost use Rattle.squawk_words.specs.Choices.{groups, groups_by, is_numeral, name_list, names_by, number, pieces, read_or, rule_list};
 
 use lint_base::{Names, Rule, UnknownName};
 use std::alloc::{AllocError, Global};
 use text_pos::NoMemory;
+
+// The most digits that a number may have.
+const MOST_DIGITS: usize = 10;
+
+// The most groups of statements that can be asked for.
+const MOST_GROUPS: u32 = 100_000;
 
 /// The rules whose names a list has, `Some` of none where there is no list, or `None` where a piece
 /// of the list names no rule. The error comes when memory runs out.
@@ -78,10 +84,45 @@ pub(crate) fn number_or(default: i32, text: Option<&str>) -> Option<i32>
 fn number(text: &str) -> Option<i32>
     ensures { result ≡ number text.now }
 {
-    if text.len() > 10 || !has_digits_alone(text) {
+    if !is_numeral(text) {
         return None;
     }
     text.parse::<i32>().ok()
+}
+
+/// How many groups of statements a text asks for, `Some` of none where there is no text; `None`
+/// where the text is not one to ten digits, or the number is above 100000.
+pub(crate) fn groups_by(text: Option<&str>) -> Option<Option<u32>>
+    ensures { result ≡ groups_by (option_map (λ s. s.now) text.entry) }
+{
+    match text {
+        None => Some(None),
+        Some(text) => Some(Some(groups(text)?)),
+    }
+}
+
+// The number that a text of one to ten digits is, if it is at most 100000.
+fn groups(text: &str) -> Option<u32>
+    ensures { result ≡ groups text.now }
+{
+    if !is_numeral(text) {
+        return None;
+    }
+    let Ok(number) = text.parse::<u32>() else {
+        return None;
+    };
+    if number <= MOST_GROUPS {
+        Some(number)
+    } else {
+        None
+    }
+}
+
+// Whether a text is one to ten digits.
+fn is_numeral(text: &str) -> bool
+    ensures { result ≡ is_numeral text.now }
+{
+    !text.is_empty() && text.len() <= MOST_DIGITS && has_digits_alone(text)
 }
 
 // Whether each byte of a text is a digit.

@@ -1,3 +1,4 @@
+use Rattle.squawk_cli.specs.Asked.{given_text, groups_asked}
 use Rattle.squawk_cli.proofs.Complete.{is_done}
 use Rattle.squawk_cli.proofs.HeadlineOfRun.{headline_for}
 use Rattle.squawk_cli.proofs.command.run.Goals as goal
@@ -5,8 +6,9 @@ use Rattle.squawk_cli.proofs.command.run.Goals as goal
 pub returns-clause-complete : goal.returns-clause-complete
 returns-clause-complete g c =
     let e = c.work-status.ensures in
-    λ taken ns nk. is_done c.work-status.result c.args.words.now _ _ _ _ _ _ e.words e.read e.input e.source e.sink taken ns nk
+    λ taken ns nk. is_done c.work-status.result c.args.words.now (groups_asked c.args.words.now) _ _ _ _ _ _ e.words e.read e.input e.source e.sink taken ns nk
 
 pub returns-clause-headline : goal.returns-clause-headline
 returns-clause-headline g c =
-    let e = c.work-status.ensures in headline_for c.headline.ensures c.work-status.result c.args.words.now (g.S.Source.left c.args.src.now) (g.K.Sink.held c.args.out.now) (g.K.Sink.held c.work-status.new.out) e.input e.written
+    let e = c.work-status.ensures in
+    headline_for c.headline.ensures c.work-status.result c.args.words.now (given_text c.args.words.now (g.S.Source.left c.args.src.now)) (g.K.Sink.held c.args.out.now) (g.K.Sink.held c.work-status.new.out) e.input e.written

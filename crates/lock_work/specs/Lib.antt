@@ -1,0 +1,6 @@
+pub mod Laws
+pub mod Machine
+pub mod MachineWalk
+pub mod Plain
+pub mod Steady
+pub mod Works

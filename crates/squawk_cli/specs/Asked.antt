@@ -1,0 +1,31 @@
+-- What words with `--generate` ask for: a made text in place of the input, and a summary in place of the printed reports.
+use Rattle.std.specs.Prelude.{ℕ, List, Some, None, option_and_then}
+use Rattle.std.specs.declared.option.Option.{Option}
+use Rattle.sql_token.specs.Token.{Text}
+use Rattle.lint_base.specs.declared.violation.Violation.{Violation}
+use Rattle.squawk_generate.specs.Made.{made}
+use Rattle.squawk_generate.specs.Summary.{summary}
+use Rattle.squawk_print.specs.Printed.{printed}
+use Rattle.squawk_cli.specs.Config.{config_of}
+
+-- how many made groups words ask for, if they ask for any
+abbrev pub groups_asked : List (List ℕ) → Option ℕ
+groups_asked words = option_and_then (λ config. config.generate) (config_of words)
+
+-- the made text, or else what is left of the source
+abbrev pub text_by : Option ℕ → Option Text → Option Text
+text_by (Some n) left = Some (made n)
+text_by None left = left
+
+-- the text of a run
+abbrev pub given_text : List (List ℕ) → Option Text → Option Text
+given_text words left = text_by (groups_asked words) left
+
+-- the summary of the reports, or else their printed form
+abbrev pub shown_by : Option ℕ → List Violation → List ℕ
+shown_by (Some n) violations = summary violations
+shown_by None violations = printed violations
+
+-- what a run writes of its reports
+abbrev pub shown : List (List ℕ) → List Violation → List ℕ
+shown words violations = shown_by (groups_asked words) violations

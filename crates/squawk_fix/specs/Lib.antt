@@ -1,0 +1,3 @@
+pub mod Answer
+pub mod Edited
+pub mod Faults
