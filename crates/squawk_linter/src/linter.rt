@@ -7,12 +7,12 @@ ghost use Rattle.lint_base.specs.Rules.{is_opt_in};
 
 use lint_base::{LinterSettings, Rule, RuleSet};
 
-/// A linter: the rules that are enabled, and what it is told.
+/// A linter: the rules that are enabled, and its settings.
 #[derive(Debug, Drop)]
 pub struct Linter {
     /// The rules that are enabled.
     pub rules: RuleSet,
-    /// What the linter is told.
+    /// Its settings.
     pub settings: LinterSettings,
 }
 
