@@ -6,15 +6,18 @@
 PROGRAM is the built linter. N texts (1000) are made, the text i from the seed S + i, so that `--seed` and `--count 1` make one
 text again. Makers are `grammar` (statements that the linter looks into), `tokens` (tokens at random), `cases` (texts of cases/
 with bytes or tokens dropped, doubled or exchanged) and `bytes` (bytes at random); each text takes one of the four, unless
-`--maker` names it. WORDS are the words of each run in one argument; without `--words` each text takes some at random, with all
-rules that are off by default. J processes (2) run at once. What is checked of each text:
+`--maker` names it or `locks` (transactions over few tables, with work that takes long locks). WORDS are the words of each run in
+one argument; without `--words` each text takes some at random, with all rules that are off by default. J processes (2) run at
+once. What is checked of each text:
 
 - a run ends within five seconds, with a line on the error stream that fits its status (README.md), and prints on standard output
   only with status 0 and 1; status 3 comes exactly where the text is not UTF-8; a place on the error stream lies in the text;
 - the printed form parses, its count is right, and status 1 comes exactly where the count is not 0;
 - ranges and edits lie in the text on character boundaries, reports ascend by start, edits of a fix ascend and do not overlap;
 - a second run prints the same; with `--only RULE`, for one rule at random, the rule's reports are those of the first run;
-- each fix is applied, and the new text is read again; there, a rule of SETTLED no longer reports at that place.
+- each fix is applied, and the new text is read again; there, a rule of SETTLED no longer reports at that place;
+- with `--locks` the same reports are printed, then works by statement, whose tables lie in the text, and whether the text is plain;
+  where it is plain, has no ignore comment and LOCK_RULES report nothing, no work is old.
 
 A failure is printed with its seed, the words and the text as a Python literal, and the first of its kind in each process with a
 text that is cut down as far as it still fails. At the end come the counts by rule, among them the fixes whose text is not read
@@ -51,6 +54,12 @@ MAY_NOT_READ = {
     "ban-uncommitted-transaction": lambda text, edits: text.rstrip()[-1:] != b";",
     "prefer-robust-stmts": lambda text, edits: any(is_word_byte(text, edit.start - 1) and edit.text[:1].isalpha() for edit in edits),
 }
+# Rules that report all work on old tables in a plain text.
+LOCK_RULES = [
+    "adding-field-with-default", "adding-foreign-key-constraint", "adding-serial-primary-key-field", "changing-column-type",
+    "constraint-missing-not-valid", "disallowed-unique-constraint", "require-concurrent-index-creation",
+    "require-concurrent-index-deletion", "require-concurrent-partition-detach", "require-concurrent-reindex",
+]
 
 ERRORS = {
     2: r"error: bad arguments",
@@ -102,6 +111,29 @@ GRAMMAR = {
         "CREATE EXTENSION <ine> <name>", "CREATE SCHEMA <ine> <name>", "UPDATE alembic_version SET version_num = <string>", "",
         "CREATE TABLE <path> PARTITION OF <path> FOR VALUES FROM (1) TO (2)",
         "CREATE FOREIGN TABLE <path> (<elements>) SERVER <name>",
+    ],
+    "migration": [
+        "<open>", "<open>", "<create>", "<create>", "<create>", "<close>", "<work>", "<work>", "<work>", "<work>", "SELECT 1",
+    ],
+    "open": ["BEGIN", "BEGIN", "START TRANSACTION", "COMMIT AND CHAIN"],
+    "close": ["COMMIT", "END", "ROLLBACK", "ROLLBACK AND CHAIN", "<end>", "<savepoint>"],
+    "few": ["t", "t", "t", "u", "s.t", "T", "\"T\""],
+    "create": [
+        "CREATE <temp> TABLE <ine> <few> (a int)", "CREATE TABLE <few> (a int)", "CREATE TABLE <few> AS SELECT 1",
+        "SELECT 1 INTO <few>",
+    ],
+    "work": [
+        "CREATE <unique> INDEX <conc> ON <only> <few> (a)", "CREATE INDEX ON <few> (a)", "DROP INDEX <conc> i",
+        "REINDEX <options> TABLE <conc> <few>", "REINDEX INDEX <conc> i", "ALTER TABLE <ie> <only> <few> <few-actions>",
+        "ALTER TABLE <few> <few-actions>", "ALTER TABLE <few> <few-action>",
+    ],
+    "few-actions": ["<few-action>", "<few-action>, <few-action>"],
+    "few-action": [
+        "ADD <table-constraint> <valid>", "ADD CONSTRAINT c <table-constraint> <valid>", "ADD UNIQUE USING INDEX i",
+        "ADD <column> b <type> <column-constraints>", "ADD b int DEFAULT <expression>", "ADD b int DEFAULT now()",
+        "ADD b int UNIQUE", "ADD b int PRIMARY KEY", "ADD b int REFERENCES u", "ADD b int GENERATED ALWAYS AS (1) STORED",
+        "ALTER a TYPE text", "ALTER a <alteration>", "DETACH PARTITION p <detach>", "DETACH PARTITION p",
+        "VALIDATE CONSTRAINT c", "ADD b int",
     ],
     "actions": ["<action>", "<action>", "<action>, <action>", "<action>, <action>, <action>"],
     "action": [
@@ -387,6 +419,13 @@ def mutated(chance):
     return text.encode("utf-8", "surrogateescape")
 
 
+def migrations(chance):
+    """Transactions over few tables, with work that takes long locks."""
+    first = ["BEGIN", expanded(chance, "create")] if chance.random() < 0.6 else []
+    made = first + [expanded(chance, "migration") for _ in range(chance.choice([1, 2, 3, 4, 6, 9]))]
+    return "".join(statement + chance.choice(["; ", ";\n"]) for statement in made)
+
+
 def random_bytes(chance):
     """Bytes at random: any, printable ones, or those that tokens begin and end with; after a statement or not."""
     length = chance.choice([0, 1, 2, 3, 5, 10, 30, 100])
@@ -405,7 +444,7 @@ MAKERS = {"grammar": statements, "tokens": tokens, "cases": mutated, "bytes": ra
 
 def made_text(chance, maker):
     """A text of the maker, in one of five with CRLF for each line feed."""
-    text = MAKERS[maker](chance)
+    text = MAKERS[maker](chance) if maker in MAKERS else migrations(chance)
     data = text if isinstance(text, bytes) else text.encode()
     return data.replace(b"\n", b"\r\n") if chance.random() < 0.2 else data
 
@@ -432,6 +471,7 @@ INSERT = re.compile(rf'    insert {PLACE} "({ESCAPED})"')
 REPLACE = re.compile(rf'    replace {PLACE}\.\.{PLACE} "({ESCAPED})"')
 DELETE = re.compile(rf"    delete {PLACE}\.\.{PLACE}")
 COUNT = re.compile(rf"violations: {PLACE}")
+WORK = re.compile(rf"work {PLACE}: `(?:share|share row exclusive|access exclusive)` (?:on {PLACE}\.\.{PLACE}|unnamed) (old|new)")
 
 
 NO_END = "no end in time"
@@ -613,6 +653,37 @@ def check_fix(program, words, text, report, counts):
             raise Failure(f"fix leaves its report: {report.rule}", found)
 
 
+def parsed_locks(out):
+    """What `--locks` prints after the reports: the matches of the works, and whether the text is plain."""
+    lines = out.decode("utf-8").split("\n")
+    if lines.pop() or not lines or lines[-1] not in ("plain: yes", "plain: no"):
+        raise Failure("printed locks", repr(out))
+    works = [WORK.fullmatch(line) for line in lines[:-1]]
+    if None in works:
+        raise Failure("printed locks", repr(out))
+    return works, lines[-1] == "plain: yes"
+
+
+def check_locks(program, words, text, counts):
+    """What is printed with `--locks`; no work is old in a clean text."""
+    rules = ["--only", ",".join(LOCK_RULES)]
+    without, done = (run(program, rules + words + more, text) for more in ([], ["--locks"]))
+    if done.status != without.status or not done.out.startswith(without.out):
+        raise Failure("reports with --locks", repr(done))
+    works, plain = parsed_locks(done.out[len(without.out):])
+    numbers = [int(work[1]) for work in works]
+    if numbers != sorted(numbers):
+        raise Failure("order of works", repr(done.out))
+    for work in works:
+        counts["works", work[4]] += 1
+        if work[2] and not (int(work[2]) < int(work[3]) and all(is_boundary(text, int(work[i])) for i in (2, 3))):
+            raise Failure("table of a work", repr(done.out))
+    if plain and done.status == 0 and b"squawk-ignore" not in text:
+        counts["clean", "with work" if works else "without work"] += 1
+        if any(work[4] == "old" for work in works):
+            raise Failure("old work in a clean text", repr(done.out))
+
+
 def check_text(program, words, text, number, counts):
     """All checks of one text. A check that fails is raised."""
     chosen = ALL_RULES if not {"--only", "--include", "--exclude"} & {word.split("=")[0] for word in words} else []
@@ -630,6 +701,8 @@ def check_text(program, words, text, number, counts):
         check_only(program, words, text, reports, number)
     for report in {(report.rule, report.start, report.edits): report for report in reports if report.edits}.values():
         check_fix(program, chosen + words, text, report, counts)
+    if chosen:
+        check_locks(program, words, text, counts)
 
 
 # The whole.
@@ -710,7 +783,7 @@ def print_counts(counts):
     """The counts of all texts."""
     texts = {key[1]: number for key, number in counts.items() if key[0] == "texts"}
     print(f"texts: {sum(texts.values())} ({', '.join(f'{number} {maker}' for maker, number in sorted(texts.items()))})")
-    for name in ("valid", "reports", "fixes", "not read again", "report left", "failures"):
+    for name in ("valid", "reports", "fixes", "not read again", "report left", "works", "clean", "failures"):
         found = {key[1]: number for key, number in counts.items() if key[0] == name}
         print(f"{name}: {sum(found.values())}")
         for key, number in sorted(found.items()):
@@ -725,7 +798,7 @@ def main():
     reader.add_argument("program")
     reader.add_argument("--count", type=int, default=1000)
     reader.add_argument("--seed", type=int, default=0)
-    reader.add_argument("--maker", choices=list(MAKERS))
+    reader.add_argument("--maker", choices=[*MAKERS, "locks"])
     reader.add_argument("--words")
     reader.add_argument("--jobs", type=int, default=2)
     given = reader.parse_args()

@@ -1,6 +1,6 @@
 //! One case, read line by line.
 
-ghost use Rattle.std.specs.Prelude.{◌≡◌, IfOk, true};
+ghost use Rattle.std.specs.Prelude.{◌≡◌, ◌↔◌, [], IfOk, IsTrue, string_bytes, true};
 
 use crate::escape::add_line;
 use crate::fault::Fault;
@@ -30,7 +30,12 @@ pub struct Case {
 
 impl Case {
     /// A case with no line.
-    pub fn new(alloc: Global) -> Case {
+    pub fn new(alloc: Global) -> Case
+        ensures part { result.part ≡ Part.Title }
+        ensures title { string_bytes result.title ≡ [] }
+        ensures words { result.words.items ≡ [] }
+        ensures text { result.text.items ≡ [] }
+    {
         Case {
             alloc,
             part: Part::Title,
@@ -43,7 +48,9 @@ impl Case {
     }
 
     /// Whether no line of it was taken.
-    pub fn is_empty(&self) -> bool {
+    pub fn is_empty(&self) -> bool
+        ensures { IsTrue result ↔ self.now.part ≡ Part.Title }
+    {
         self.part == Part::Title
     }
 

@@ -1,6 +1,7 @@
 //! Cases that are run, and what is printed of those that differ.
 
-ghost use Rattle.std.specs.Prelude.{◌≡◌, ◌&&◌, true, nat_eq, bytes_eq};
+ghost use Rattle.std.specs.Prelude.{◌≡◌, ◌≤◌, ◌&&◌, [], true, nat_eq, bytes_eq, IfOk, IsUtf8};
+ghost use Rattle.std.specs.Process.{exit_status};
 
 use crate::case::Case;
 use crate::fault::Fault;
@@ -17,8 +18,10 @@ pub struct Answer {
     pub err: Vec<u8>,
 }
 
-/// Bytes as a text; a remark where they are none. It serves the tests, so no clause is owed.
-pub fn shown(bytes: &[u8]) -> &str {
+/// Bytes as a text; a remark where they are none.
+pub fn shown(bytes: &[u8]) -> &str
+    ensures { IsUtf8 bytes.now → result.now ≡ bytes.now }
+{
     match std::str::from_utf8(bytes) {
         Ok(text) => text,
         Err(_) => "not UTF-8\n",
@@ -27,7 +30,11 @@ pub fn shown(bytes: &[u8]) -> &str {
 
 impl Answer {
     /// Status 0, and nothing written.
-    pub fn new(alloc: Global) -> Answer {
+    pub fn new(alloc: Global) -> Answer
+        ensures status { result.status ≡ 0 }
+        ensures out { result.out.items ≡ [] }
+        ensures err { result.err.items ≡ [] }
+    {
         Answer {
             status: 0,
             out: Vec::new(alloc),
@@ -151,7 +158,8 @@ fn counted(tally: Tally, is_passed: bool) -> Tally
 
 /// The exit status of the program.
 fn exit_status(tally: Tally) -> u8
-    ensures { result ≡ 0 → tally.failed ≡ 0 }
+    ensures passed { result ≡ 0 → tally.failed ≡ 0 }
+    ensures few { result ≤ 1 }
 {
     if tally.failed == 0 { 0 } else { 1 }
 }
@@ -210,12 +218,13 @@ fn run_cases<R: Print + Eprint, S: Subject>(
 }
 
 /// Runs the cases on standard input. It prints each case that differs, its title to standard error too, and at last how
-/// many passed. The status is 0 where all pass, 1 where some differ and 2 where the table is refused. It serves the tests,
-/// so no clause is owed.
+/// many passed. The status is 0 where all pass, 1 where some differ and 2 where the table is refused.
 pub fn run_table<R: Print + Eprint + Input + AllocGlobal, S: Subject>(
     rt: &R,
     subject: &S,
-) -> io::Result<ExitCode> {
+) -> io::Result<ExitCode>
+    ensures { IfOk result (λ code. exit_status code ≤ 2) }
+{
     let table = io::read_to_string(rt.alloc(), rt.reader())?;
     match run_cases(rt, rt.alloc(), subject, table.as_str()) {
         Ok(tally) => {

@@ -1,18 +1,22 @@
 -- What the loops over members and over their lists keep.
-use Rattle.std.proofs.Common.{◌≡◌, ◌∙◌, sym, ap, ℕ, ◌+◌, ◌<◌, ◌≤◌, List, [], ◌∷◌, ◌++◌, length, take, get_or, map, filter, append_assoc}
+use Rattle.std.proofs.Common.{◌≡◌, ◌∙◌, sym, ap, true, ℕ, ◌+◌, ◌<◌, ◌≤◌, List, [], ◌∷◌, ◌++◌, length, take, get_or, map, filter, append_assoc}
 use Rattle.std.proofs.lemmas.List.{append-nil, take_more, take_all}
 use Rattle.std.proofs.lemmas.List.Elements.{filter-append}
 use Rattle.std.proofs.lemmas.Simd.{map-map}
 use Rattle.std.specs.Prelude.{Vec}
+use Rattle.std.specs.List.{flat_map}
 use Rattle.std.specs.Str.{bytes_eq}
 use Rattle.sql_name.specs.declared.name.Name.{Name}
 use Rattle.sql_tree.specs.Statement.{Tree}
+use Rattle.lint_base.specs.declared.violation.Violation.{Violation}
+use Rattle.pass_name.specs.declared.members.ListKind.{ListKind}
 use Rattle.pass_name.specs.declared.members.Member.{Member}
+use Rattle.pass_name.specs.Duplicates.{reports_of_group, reports_of_names}
 use Rattle.pass_name.specs.Entries.{items_of, entry_seen}
 use Rattle.pass_name.specs.Gathered.{put}
-use Rattle.pass_name.specs.Groups.{groups, is_repeated}
+use Rattle.pass_name.specs.Groups.{are_apart, groups, is_repeated}
 use Rattle.pass_name.specs.Members.{key_of, same_name}
-use Rattle.pass_name.proofs.Gathered.{gathered, gathered-snoc, gathered-alike}
+use Rattle.pass_name.proofs.Gathered.{apart_groups, gathered, gathered-snoc, gathered-alike}
 use Rattle.pass_name.proofs.NameLaws.{same_bytes, equal_bytes}
 
 abbrev pub gathered_by : Tree → List Member → List (List ℕ × List Member)
@@ -48,3 +52,10 @@ all_seen {Z = Z} tree xs n es left all found l m a e h =
     ∙ ap (filter is_repeated) (map-map items_of (λ (p : Name × Vec Member Z). p.1) es ∙ sym (map-map (λ (p : List ℕ × List Member). p.1) entry_seen es)
     ∙ ap (map (λ (p : List ℕ × List Member). p.1)) (m ∙ ap (gathered_by tree) (take_all n xs l))
     ∙ gathered-alike bytes_eq same_bytes equal_bytes (key_of tree) xs)
+
+-- where no two names are equal, nothing is reported of them
+pub apart_reports : (kind : ListKind) (tree : Tree) (names : List Member) (out : List Violation) → are_apart (same_name tree) names ≡ true → out ≡ out ++ reports_of_names kind tree names
+unfolding reports_of_names
+apart_reports kind tree names out h =
+    sym (append-nil out)
+    ∙ ap (λ gs. out ++ flat_map (reports_of_group kind tree) gs) (sym (apart_groups bytes_eq same_bytes equal_bytes (key_of tree) names h))

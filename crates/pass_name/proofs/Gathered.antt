@@ -1,12 +1,13 @@
 -- One more element joins its group, or opens one at the end.
-use Rattle.std.proofs.Common.{◌≡◌, ◌∙◌, sym, ap, subst, refl, Bool, true, false, not, ◌||◌, cond, true≢false, List, [], ◌∷◌, ◌++◌, map, filter}
+use Rattle.std.proofs.Common.{◌≡◌, ◌∙◌, sym, ap, subst, refl, Bool, true, false, not, ◌&&◌, ◌||◌, cond, true≢false, List, [], ◌∷◌, ◌++◌, map, filter}
 use Rattle.std.proofs.lemmas.List.{append-nil, map-append}
-use Rattle.std.proofs.lemmas.List.Elements.{filter-append}
+use Rattle.std.specs.Prelude.{All}
+use Rattle.std.proofs.lemmas.List.Elements.{All-cons, All-head, All-nil, All-tail, filter-append}
 use Rattle.std.proofs.lemmas.Map.Views.{any-filter_same}
 use Rattle.std.proofs.lemmas.Simd.{map-map}
 use Rattle.std.specs.List.{list_any}
 use Rattle.pass_name.specs.Gathered.{put}
-use Rattle.pass_name.specs.Groups.{alike, firsts}
+use Rattle.pass_name.specs.Groups.{alike, are_apart, firsts, groups, is_repeated}
 
 module _ {K A : Type 0} (eq : K → K → Bool) (exact : (a b : K) → eq a b ≡ true → a ≡ b) (reflexive : (a : K) → eq a a ≡ true) (key : A → K) where
   abbrev same : A → A → Bool
@@ -160,3 +161,62 @@ module _ {K A : Type 0} (eq : K → K → Bool) (exact : (a b : K) → eq a b �
   -- the elements of the gathered
   pub gathered-alike : (xs : List A) → map (λ e. e.1) (gathered xs) ≡ map (alike same xs) (firsts same xs)
   gathered-alike xs = map-map (λ (e : K × List A). e.1) (entry_of xs) (firsts same xs)
+
+  -- ---- lists in which no two elements are equal
+
+  not_alike : (x : A) (xs : List A) → list_any (same x) xs ≡ false → alike same xs x ≡ []
+  not_alike x [] h = refl
+  not_alike x (y ∷ ys) h = by (not_alike x ys) (same x y) refl
+    where
+      by : (list_any (same x) ys ≡ false → alike same ys x ≡ []) → (b : Bool) → same x y ≡ b → alike same (y ∷ ys) x ≡ []
+      by ih true e = absurd (true≢false (sym (ap (λ (b : Bool). b || list_any (same x) ys) e) ∙ h))
+      by ih false e = ap (λ (b : Bool). cond b (y ∷ alike same ys x) (alike same ys x)) e ∙ ih (sym (ap (λ (b : Bool). b || list_any (same x) ys) e) ∙ h)
+
+  abbrev IsSingle : List A → A → Type 0
+  IsSingle xs y = is_repeated (alike same xs y) ≡ false
+
+  -- an element that is not equal to x is as alone with x in front
+  single_more : (x y : A) (xs : List A) → same x y ≡ false → IsSingle xs y → IsSingle (x ∷ xs) y
+  single_more x y xs e h = by (same y x) refl
+    where
+      by : (b : Bool) → same y x ≡ b → IsSingle (x ∷ xs) y
+      by true f = absurd (true≢false (sym (same-sym y x f) ∙ e))
+      by false f = ap (λ (b : Bool). is_repeated (cond b (x ∷ alike same xs y) (alike same xs y))) f ∙ h
+
+  singles_more : (x : A) (xs ys : List A) → All (IsSingle xs) ys → All (IsSingle (x ∷ xs)) (filter (λ y. not (same x y)) ys)
+  singles_more x xs [] h = All-nil (IsSingle (x ∷ xs))
+  singles_more x xs (y ∷ ys) h = by (singles_more x xs ys (All-tail (IsSingle xs) y ys h)) (same x y) refl
+    where
+      rest : List A
+      rest = filter (λ y. not (same x y)) ys
+
+      by : All (IsSingle (x ∷ xs)) rest → (b : Bool) → same x y ≡ b → All (IsSingle (x ∷ xs)) (cond (not (same x y)) (y ∷ rest) rest)
+      by ih true e = subst (λ (b : Bool). All (IsSingle (x ∷ xs)) (cond (not b) (y ∷ rest) rest)) (sym e) ih
+      by ih false e =
+          subst (λ (b : Bool). All (IsSingle (x ∷ xs)) (cond (not b) (y ∷ rest) rest)) (sym e)
+          (All-cons (IsSingle (x ∷ xs)) y rest (single_more x y xs e (All-head (IsSingle xs) y ys h)) ih)
+
+  all_single : (xs : List A) → are_apart same xs ≡ true → All (IsSingle xs) (firsts same xs)
+  unfolding firsts are_apart
+  all_single [] h = All-nil (IsSingle [])
+  all_single (x ∷ xs) h = by (all_single xs) (list_any (same x) xs) refl
+    where
+      alone : list_any (same x) xs ≡ false → IsSingle (x ∷ xs) x
+      alone e = λ i. is_repeated (cond (reflexive (key x) i) (x ∷ not_alike x xs e i) (not_alike x xs e i))
+
+      by : (are_apart same xs ≡ true → All (IsSingle xs) (firsts same xs)) → (b : Bool) → list_any (same x) xs ≡ b → All (IsSingle (x ∷ xs)) (firsts same (x ∷ xs))
+      by ih true e = absurd (true≢false (sym h ∙ ap (λ (b : Bool). not b && are_apart same xs) e))
+      by ih false e =
+          All-cons (IsSingle (x ∷ xs)) x (filter (λ y. not (same x y)) (firsts same xs)) (alone e)
+          (singles_more x xs (firsts same xs) (ih (sym (ap (λ (b : Bool). not b && are_apart same xs) e) ∙ h)))
+
+  none_repeated : (xs ys : List A) → All (IsSingle xs) ys → filter is_repeated (map (alike same xs) ys) ≡ []
+  none_repeated xs [] h = refl
+  none_repeated xs (y ∷ ys) h =
+      let more : List (List A) = filter is_repeated (map (alike same xs) ys) in
+      ap (λ (b : Bool). cond b (alike same xs y ∷ more) more) (All-head (IsSingle xs) y ys h) ∙ none_repeated xs ys (All-tail (IsSingle xs) y ys h)
+
+  -- where no two elements are equal, there are no groups
+  pub apart_groups : (xs : List A) → are_apart same xs ≡ true → groups same xs ≡ []
+  unfolding groups
+  apart_groups xs h = none_repeated xs (firsts same xs) (all_single xs h)

@@ -1,4 +1,5 @@
 pub mod NameCuts
+pub mod LongTokens
 pub mod NameLaws
 pub mod Gathered
 pub mod EntryLaws

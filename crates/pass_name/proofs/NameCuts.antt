@@ -23,13 +23,13 @@ floor_cuts n r s start within boundary nearest =
     ]
 
 -- the first number and those after it
-numbers_more : (first end : ℕ) → first < end → numbers_from first (end - first) ≡ first ∷ numbers_from (first + 1) (end - (first + 1))
+pub numbers_more : (first end : ℕ) → first < end → numbers_from first (end - first) ≡ first ∷ numbers_from (first + 1) (end - (first + 1))
 unfolding numbers_from
 numbers_more first end lt =
     let more : end - first ≡ suc (end - (first + 1)) = omega arith in
     ap (numbers_from first) more
 
-numbers_none : (first end : ℕ) → end ≤ first → numbers_from first (end - first) ≡ []
+pub numbers_none : (first end : ℕ) → end ≤ first → numbers_from first (end - first) ≡ []
 unfolding numbers_from
 numbers_none first end le =
     let none : end - first ≡ 0 = omega arith in

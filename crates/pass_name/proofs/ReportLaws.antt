@@ -1,17 +1,20 @@
 -- What the loops over elements and groups keep.
-use Rattle.std.proofs.Common.{◌≡◌, ◌∙◌, sym, ap, refl, ℕ, ◌+◌, ◌<◌, ◌≤◌, Bool, true, false, cond, Option, Some, None, List, [], ◌∷◌, ◌++◌, length, take, get_or, map, filter, arith}
+use Rattle.std.proofs.Common.{◌≡◌, ◌∙◌, sym, ap, refl, ℕ, ◌+◌, ◌<◌, ◌≤◌, Bool, true, false, true≢false, cond, Option, Some, None, List, [], ◌∷◌, ◌++◌, length, take, get_or, map, filter, arith}
 use Rattle.std.proofs.lemmas.List.{append-nil, take_more, take_all}
 use Rattle.std.proofs.lemmas.List.Elements.{filter_map-append}
 use Rattle.std.proofs.lemmas.List.Folds.{flat_map-map}
 use Rattle.std.specs.List.{cons_option, filter_map, flat_map}
 use Rattle.std.specs.Prelude.{Vec, option_to_list}
+use Rattle.sql_tree.specs.declared.nodes.Body.{Body}
+use Rattle.sql_tree.specs.declared.nodes.Body.TheVariants as body
+use Rattle.sql_tree.specs.declared.nodes.Stmt.{Stmt}
 use Rattle.sql_tree.specs.Statement.{Tree}
 use Rattle.lint_base.specs.declared.violation.Violation.{Violation}
 use Rattle.pass_name.specs.declared.members.ListKind.{ListKind}
 use Rattle.pass_name.specs.declared.members.Member.{Member}
-use Rattle.pass_name.specs.Duplicates.{reports_of_group, reports_of_names}
+use Rattle.pass_name.specs.Duplicates.{duplicates, lists_columns, reports_by, reports_of_group, reports_of_names}
 use Rattle.pass_name.specs.Entries.{items_of}
-use Rattle.pass_name.specs.Groups.{firsts, groups, is_repeated}
+use Rattle.pass_name.specs.Groups.{groups}
 use Rattle.pass_name.specs.Members.{same_name}
 
 module _ {A B : Type 0} (f : A → Option B) where
@@ -29,18 +32,17 @@ module _ {A B : Type 0} (f : A → Option B) where
       ∙ sym (filter_map-append f (take i xs) (x ∷ []))
       ∙ ap (λ y. filter_map f (take i xs ++ y ∷ [])) e ∙ ap (filter_map f) (sym (take_more xs i x l))
 
--- fewer than two elements have no groups
-no_groups : {A : Type 0} (same : A → A → Bool) (xs : List A) → length xs < 2 → groups same xs ≡ []
-unfolding groups firsts
-no_groups same [] h = refl
-no_groups same (x ∷ []) h =
-    elim (same x x) as (λ (b : Bool). filter is_repeated (cond b (x ∷ []) [] ∷ []) ≡ []) [ true ↦ refl | false ↦ refl ]
-no_groups same (x ∷ y ∷ xs) h = absurd (omega arith)
-
-pub few_names : (kind : ListKind) (tree : Tree) (names : List Member) (out : List Violation) → length names < 2 → out ≡ out ++ reports_of_names kind tree names
-unfolding reports_of_names
-few_names kind tree names out h =
-    sym (append-nil out) ∙ ap (λ gs. out ++ flat_map (reports_of_group kind tree) gs) (sym (no_groups (same_name tree) names h))
+-- what has no lists has no reports
+pub no_lists : (tree : Tree) (s : Stmt) (out : List Violation) → lists_columns s.body ≡ false → out ≡ out ++ duplicates tree s
+unfolding duplicates
+no_lists tree s out h = sym (append-nil out) ∙ ap (λ vs. out ++ vs) (sym (by s.body h))
+  where
+    by : (b : Body) → lists_columns b ≡ false → reports_by tree b ≡ []
+    by (body.Table temp guarded on_commit_drop word path elems) e = absurd (true≢false e)
+    by (body.Into path targets) e = absurd (true≢false e)
+    by (body.View view) e = absurd (true≢false e)
+    by (body.Write write) e = absurd (true≢false e)
+    by _ e = refl
 
 pub all_groups : {Z : Type 0} (kind : ListKind) (tree : Tree) (names : List Member) (old out : List Violation) (items found : List (Vec Member Z)) (n : ℕ)
     → length items ≤ n → items ≡ found → map items_of found ≡ groups (same_name tree) names

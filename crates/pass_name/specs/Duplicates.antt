@@ -138,6 +138,13 @@ reports_by tree (body.View view) = reports_of_list kind.Columns tree (view_names
 reports_by tree (body.Write write) = reports_of_write tree write.sets write.lists
 reports_by tree _ = []
 
+abbrev pub lists_columns : Body → Bool
+lists_columns (body.Table temp guarded on_commit_drop word path elems) = true
+lists_columns (body.Into path targets) = true
+lists_columns (body.View view) = true
+lists_columns (body.Write write) = true
+lists_columns _ = false
+
 -- the reports of a statement, list by list
 unfoldable pub duplicates : Tree → Stmt → List Violation
 duplicates tree s = reports_by tree s.body

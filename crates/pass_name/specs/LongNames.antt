@@ -37,6 +37,10 @@ kind_at tree number = (token_at tree.toks number).kind
 abbrev pub is_too_long : Tree → ℕ → Bool
 is_too_long tree number = is_name_kind (kind_at tree number) && nat_lt 63 (length (name_at tree number))
 
+-- a token of more than 63 bytes, as each identifier that is too long is
+abbrev pub is_long_at : Tree → ℕ → Bool
+is_long_at tree number = nat_lt ((token_at tree.toks number).start + 63) (token_at tree.toks number).end
+
 -- ---- the new name
 
 abbrev pub is_quoted_kind : TokKind → Bool

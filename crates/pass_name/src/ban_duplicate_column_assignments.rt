@@ -10,7 +10,7 @@ ghost use Rattle.pass_name.specs.Members.{lists_before, lists_from};
 ghost use Rattle.pass_name.specs.declared.members.ListKind.TheVariants as as_list;
 
 use crate::duplicate_report::{are_partial, fix_of, report};
-use crate::grouping::gather;
+use crate::grouping::{are_apart, gather};
 use crate::lists::{assigned, columns_of, first_name, first_token, members_of};
 use crate::members::{ListKind, Member};
 use lint_base::{LinterSettings, Reports, Rule};
@@ -31,6 +31,9 @@ use text_pos::NoMemory;
 /// PostgreSQL manual, UPDATE, "column_name"; INSERT, "column_name"; CREATE TABLE, "column_name"; section 4.1.1 on equal names.
 #[derive(Drop)]
 pub struct BanDuplicateColumnAssignments;
+
+/// Lists of up to so many names are looked through pair by pair.
+const FEW: usize = 8;
 
 /// Reports the names before the last one of a group.
 fn report_earlier(
@@ -69,7 +72,7 @@ fn report_group(
     out.push(report(alloc, kind, p, fix, last)?)
 }
 
-/// Reports the names that are twice in a list.
+/// Reports the names that are twice in a list. Most lists are short and have none, which is found out without memory.
 fn report_names(
     alloc: Global,
     kind: ListKind,
@@ -79,7 +82,7 @@ fn report_names(
 ) -> Result<(), NoMemory>
     ensures { OnOk result (out.new ≡ out.old ++ spec.reports_of_names kind p.now names.now) }
 {
-    if names.len() < 2 {
+    if names.len() <= FEW && are_apart(p, names) {
         return Ok(());
     }
     for group in &gather(alloc, p, names)? {
@@ -205,11 +208,25 @@ fn report_stmt(alloc: Global, p: &Parse<'_>, s: &Stmt, out: &mut Reports) -> Res
     }
 }
 
+/// Whether a statement is of a kind that lists columns.
+#[inline(always)]
+fn lists_columns(s: &Stmt) -> bool
+    ensures { result ≡ spec.lists_columns s.now.body }
+{
+    matches!(
+        &s.body,
+        Body::Table { .. } | Body::Into { .. } | Body::View(_) | Body::Write(_)
+    )
+}
+
 /// Adds the reports of a statement.
 fn add_reports(alloc: Global, p: &Parse<'_>, s: &Stmt, out: &mut Reports) -> Result<(), NoMemory>
     ensures ok { OnOk result (out.new ≡ out.old ++ duplicates p.now s.now) }
     ensures err { OnErr result (GrownBy out.old out.new (duplicates p.now s.now)) }
 {
+    if !lists_columns(s) {
+        return Ok(());
+    }
     let mut made = Reports::new(alloc);
     report_stmt(alloc, p, s, &mut made)?;
     out.append(made)

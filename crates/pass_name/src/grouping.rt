@@ -2,7 +2,9 @@
 
 ghost use Rattle.std.specs.Prelude.{◌≡◌, ◌∷◌, [], ◌++◌, filter, map, IfOk, OnOk};
 ghost use Rattle.sql_name.specs.Compared.{name_cut};
+ghost use Rattle.std.specs.List.{list_any};
 ghost use Rattle.pass_name.specs.Groups.{groups, is_repeated};
+ghost use Rattle.pass_name.specs.Groups as spec;
 ghost use Rattle.pass_name.specs.Members.{cut_at, same_name};
 ghost use Rattle.std.specs.Str.{bytes_eq};
 ghost use Rattle.pass_name.specs.Entries.{items_of, entry_seen};
@@ -25,6 +27,29 @@ fn key_at<'t>(p: &Parse<'t>, number: u32) -> Name<'t>
     } else {
         Name::of("")
     }
+}
+
+/// Whether a name is equal to one of the others.
+fn is_among(p: &Parse<'_>, member: &Member, others: &[Member]) -> bool
+    ensures { result ≡ list_any (same_name p.now member.now) others.now }
+{
+    let name = key_at(p, member.name);
+    others.iter().any(|other| name == key_at(p, other.name))
+}
+
+/// Whether no two names are equal. A short list is looked through in less time than a map is made of it.
+#[tactic(auto, unfolding(crate::specs::Groups::are_apart))]
+pub(crate) fn are_apart(p: &Parse<'_>, members: &[Member]) -> bool
+    ensures { result ≡ spec.are_apart (same_name p.now) members.now }
+{
+    let mut rest = members;
+    while let Some((first, later)) = rest.split_first() {
+        if is_among(p, first, later) {
+            return false;
+        }
+        rest = later;
+    }
+    true
 }
 
 /// Puts a member after those of equal names, or alone after all others.

@@ -1,14 +1,14 @@
 //! Identifiers that are too long.
 
 ghost use Rattle.std.specs.Prelude.{◌≡◌, ◌++◌, length, is_some, string_bytes, IfOk, IfSome, OnOk, OnErr};
-ghost use Rattle.std.specs.List.{list_all};
+ghost use Rattle.std.specs.List.{list_all, list_any};
 ghost use Rattle.sql_name.specs.Name.{cut_to};
 ghost use Rattle.sql_tree.specs.Path.{is_name_kind};
 ghost use Rattle.lint_base.specs.Grown.{GrownBy};
 ghost use Rattle.lint_pass.specs.Those.{that};
 ghost use Rattle.lint_transaction.specs.Names.{name_at};
 ghost use Rattle.pass_name.specs.LongNames as spec;
-ghost use Rattle.pass_name.specs.LongNames.{kind_at, long_names};
+ghost use Rattle.pass_name.specs.LongNames.{kind_at, long_names, token_numbers};
 
 use lint_base::{Fix, LinterSettings, Reports, Rule, Text, Violation};
 use lint_pass::{StatementPass, replacement_fix};
@@ -166,6 +166,31 @@ fn report(alloc: Global, p: &Parse<'_>, number: u32, full: &str) -> Result<Viola
     })
 }
 
+/// Whether the token of this number has more than 63 bytes. Only then it may be an identifier that is too long.
+#[inline(always)]
+fn is_long_at(p: &Parse<'_>, number: usize) -> bool
+    ensures { result ≡ spec.is_long_at p.now number }
+{
+    match p.tokens().get(number) {
+        Some(tok) => tok.start as usize + KEPT_LEN < tok.end as usize,
+        None => false,
+    }
+}
+
+/// Whether a statement has a token of more than 63 bytes. Few have, so that this is looked at first.
+#[inline(always)]
+fn has_long_token(p: &Parse<'_>, s: &Stmt) -> bool
+    ensures { result ≡ list_any (spec.is_long_at p.now) (token_numbers s.now) }
+{
+    let end = s.last as usize + 1;
+    for number in s.first as usize..end {
+        if is_long_at(p, number) {
+            return true;
+        }
+    }
+    false
+}
+
 /// The full text of an identifier that is too long. It is built only for a token of more than 63 bytes.
 #[tactic(auto, using(crate::proofs::NameCuts::full_within))]
 fn long_name(alloc: Global, p: &Parse<'_>, number: u32) -> Result<Option<String>, NoMemory>
@@ -238,6 +263,9 @@ impl StatementPass for IdentifierTooLong {
         _set: &LinterSettings,
         out: &mut Reports,
     ) -> Result<(), NoMemory> {
+        if !has_long_token(p, s) {
+            return Ok(());
+        }
         let mut made = Reports::new(alloc);
         report_tokens(alloc, p, s, &mut made)?;
         out.append(made)

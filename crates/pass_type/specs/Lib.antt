@@ -1,3 +1,4 @@
+pub mod TypedKinds
 pub mod BanCharField
 pub mod ChangingColumnType
 pub mod PreferIdentity

@@ -4,10 +4,11 @@ ghost use Rattle.std.specs.Prelude.{◌≡◌, ◌++◌, OnOk, OnErr};
 ghost use Rattle.lint_base.specs.Grown.{GrownBy};
 ghost use Rattle.lint_node.specs.ColumnTypes.{column_types};
 ghost use Rattle.lint_pass.specs.Those.{that, those};
+ghost use Rattle.pass_type.specs.TypedKinds as spec;
 
 use lint_base::Reports;
-use lint_node::column_types;
-use sql_tree::{ColType, Parse, Stmt};
+use lint_node::{column_types, same_kind};
+use sql_tree::{ColType, Parse, Stmt, StmtKind};
 use std::alloc::Global;
 use text_pos::NoMemory;
 
@@ -36,8 +37,9 @@ pub(crate) trait TypeRule {
         ensures err { OnErr result (out.new ≡ out.old) };
 }
 
-/// Reports the column types of a statement that the rule concerns, in the order of their places.
-pub(crate) fn report_types<T: TypeRule>(
+/// Reports the column types of a statement one after another.
+#[inline(never)]
+fn report_each_type<T: TypeRule>(
     rule: &T,
     alloc: Global,
     p: &Parse<'_>,
@@ -51,4 +53,31 @@ pub(crate) fn report_types<T: TypeRule>(
         rule.report_type(alloc, p, &t, out)?;
     }
     Ok(())
+}
+
+/// Whether statements of the kind have column types. Most have none, so that the kind is looked at first.
+#[inline(always)]
+fn types_columns(kind: StmtKind) -> bool
+    ensures { result ≡ spec.types_columns kind }
+{
+    same_kind(kind, StmtKind::CreateTable) || same_kind(kind, StmtKind::AlterTable)
+}
+
+/// Reports the column types of a statement that the rule concerns, in the order of their places.
+#[inline(always)]
+pub(crate) fn report_types<T: TypeRule>(
+    rule: &T,
+    alloc: Global,
+    p: &Parse<'_>,
+    s: &Stmt,
+    out: &mut Reports,
+) -> Result<(), NoMemory>
+    ensures ok { OnOk result (out.new ≡ out.old ++ those (T.concerns rule.now p.now) (T.report_on rule.now p.now) (column_types s.now)) }
+    ensures err { OnErr result (GrownBy out.old out.new (those (T.concerns rule.now p.now) (T.report_on rule.now p.now) (column_types s.now))) }
+{
+    if types_columns(s.kind) {
+        report_each_type(rule, alloc, p, s, out)
+    } else {
+        Ok(())
+    }
 }

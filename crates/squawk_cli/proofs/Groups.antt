@@ -35,14 +35,15 @@ few_read : (text : Text) → AreFew (groups text)
 few_read text =
     where_true _ (digits_value 10 text) (λ e. let small : nat_le (digits_value 10 text) 100000 ≡ true = (and_parts (is_numeral text) _ e).1 in grind arith)
 
-few_given : (text : Option Text) → IfSome (groups_by text) AreFew
-few_given None = tt
-few_given (Some text) = mapped _ (groups text) AreFew (few_read text)
+few_given : (locks : Bool) (text : Option Text) → IfSome (groups_by locks text) AreFew
+few_given locks None = tt
+few_given true (Some text) = tt
+few_given false (Some text) = mapped _ (groups text) AreFew (few_read text)
 
 few_chosen : (said : Said) → IfSome (choices_by said) (λ c. AreFew c.generate)
 few_chosen said =
     and_then_any _ (version_by said.pg_major said.pg_minor said.pg_patch) _ (λ version.
-    and_then _ (groups_by said.generate) AreFew _ (few_given said.generate) (λ generate few.
+    and_then _ (groups_by said.locks said.generate) AreFew _ (few_given said.locks said.generate) (λ generate few.
     and_then_any _ (names_by said.non_volatile) _ (λ names.
     mapped_any _ (rules_by said.only said.include said.exclude) _ (λ rules. few))))
 

@@ -1,18 +1,21 @@
--- What the reports of an input say of a run.
-use Rattle.std.proofs.Common.{◌≡◌, ◌≢◌, ◌∙◌, ◌<◌, ◌^◌, sym, ap, refl, subst, ℕ, Bool, true, false, List, [], ◌∷◌, ◌++◌, append-nil, arith, Option, Some, None}
-use Rattle.std.specs.Prelude.{IfSome, length, ◌==◌, option_and_then}
+-- What is found in an input, and what that says of a run.
+use Rattle.std.proofs.Common.{◌≡◌, ◌≢◌, ◌∙◌, ◌<◌, ◌^◌, sym, ap, refl, subst, ℕ, Bool, true, false, true≢false, List, [], ◌++◌, append-nil, Option, Some, None}
+use Rattle.std.specs.Prelude.{◌↔◌, IfSome, IsTrue, length, option_and_then}
 use Rattle.sql_tree.specs.Statement.{IsValid}
 use Rattle.std.specs.Io.KnownBytes.{Appends, Consumes, IsAtEnd}
 use Rattle.squawk_stream.specs.Parts.{AppendsPart}
+use Rattle.lint_base.specs.declared.settings.LinterSettings.{LinterSettings}
 use Rattle.lint_base.specs.declared.violation.Violation.{Violation}
+use Rattle.lint_base.specs.RuleSets.{Rules}
 use Rattle.squawk_linter.specs.Answers.{IsAnswer}
 use Rattle.squawk_cli.specs.declared.config.Config.{Config}
 use Rattle.squawk_cli.specs.Config.{config_of}
-use Rattle.squawk_cli.specs.Answer.{AreReports}
+use Rattle.squawk_cli.specs.Answer.{AreFindings, AreReports}
 use Rattle.squawk_cli.specs.Asked.{given_text, groups_asked, shown_by, text_by}
+use Rattle.squawk_cli.specs.Findings.{AreFoundIn, FindingsValue}
 use Rattle.squawk_cli.specs.declared.status.Status.{Status}
 use Rattle.squawk_cli.specs.declared.status.Status.TheVariants.{NotUtf8, Unterminated, Syntax, NoMemory}
-use Rattle.squawk_cli.specs.Outcome.{HasReports, AppendsReports, AppendsPartOfReports, InputFor, ReadBy, RefusalFits, WrittenFor}
+use Rattle.squawk_cli.specs.Outcome.{HasReports, AppendsFindings, AppendsPartOfFindings, InputFor, ReadBy, RefusalFits, WrittenFor}
 
 -- the input that was read to its end is all that was left
 pub all_taken : (a b : Option (List ℕ)) (input : List ℕ) → Consumes a b input → IsAtEnd b → IfSome a (λ t. t ≡ input)
@@ -34,48 +37,55 @@ pub of_text : (words : List (List ℕ)) (config : Config) (left : Option (List �
 of_text words config left text s P named is same h =
     subst (λ g. IfSome (text_by g left) P) (asked words config named) (holds (text_by config.generate left) text s P is same h)
 
-abbrev FoundBy : Config → List ℕ → List Violation → Type 0
-FoundBy config t found = IsAnswer t config.linter.rules config.linter.settings found
+abbrev FoundBy : Config → List ℕ → FindingsValue → Type 0
+FoundBy config t found = AreFoundIn config.locks t config.linter.rules config.linter.settings found
 
--- what the linter finds that the words name are the reports of the run
-reports_of_run : (words : List (List ℕ)) (config : Config) (t : List ℕ) (found : List Violation) → Some config ≡ config_of words
-    → FoundBy config t found → AreReports words t found
-reports_of_run words config t found named are = record { config = config; named = sym named; answer = are }
+-- the reports among what is found are the answer of the linter
+pub answer_among : (locks : Bool) (t : List ℕ) (rules : Rules) (settings : LinterSettings) (found : FindingsValue) → AreFoundIn locks t rules settings found
+    → IsAnswer t rules settings found.violations
+answer_among locks t rules settings found are = record { tree = are.tree; of_text = are.of_text; reports_of = ap (λ (f : FindingsValue). f.violations) are.is }
 
-pub no_reports : (words : List (List ℕ)) (config : Config) (t : List ℕ) (found : List Violation) → Some config ≡ config_of words
-    → FoundBy config t found → found ≡ [] → AreReports words t []
+reports_of_run : (words : List (List ℕ)) (config : Config) (t : List ℕ) (found : FindingsValue) → Some config ≡ config_of words
+    → FoundBy config t found → AreReports words t found.violations
+reports_of_run words config t found named are =
+    record { config = config; named = sym named; answer = answer_among config.locks t config.linter.rules config.linter.settings found are }
+
+pub no_reports : (words : List (List ℕ)) (config : Config) (t : List ℕ) (found : FindingsValue) → Some config ≡ config_of words
+    → FoundBy config t found → found.violations ≡ [] → AreReports words t []
 no_reports words config t found named are none = subst (AreReports words t) none (reports_of_run words config t found named are)
 
-pub some_reports : (words : List (List ℕ)) (config : Config) (t : List ℕ) (found : List Violation) → Some config ≡ config_of words
-    → FoundBy config t found → (found ≢ []) → HasReports words t
-some_reports words config t found named are some = (found, reports_of_run words config t found named are, some)
+pub some_reports : (words : List (List ℕ)) (config : Config) (t : List ℕ) (found : FindingsValue) → Some config ≡ config_of words
+    → FoundBy config t found → (found.violations ≢ []) → HasReports words t
+some_reports words config t found named are some = (found.violations, reports_of_run words config t found named are, some)
 
-pub valid_text : (config : Config) (t : List ℕ) (found : List Violation) → FoundBy config t found → IsValid t
+pub valid_text : (config : Config) (t : List ℕ) (found : FindingsValue) → FoundBy config t found → IsValid t
 valid_text config t found are = (are.tree, are.of_text.0, are.of_text.1)
 
-pub reports_appended : (words : List (List ℕ)) (config : Config) (t : List ℕ) (found : List Violation) (old new : Option (List ℕ)) → Some config ≡ config_of words
-    → FoundBy config t found → Appends old new (shown_by config.generate found) → AppendsReports words t old new
-reports_appended words config t found old new named are appended = record {
-  violations = found;
-  reports = reports_of_run words config t found named are;
+found_by_run : (words : List (List ℕ)) (config : Config) (t : List ℕ) (found : FindingsValue) → Some config ≡ config_of words
+    → FoundBy config t found → AreFindings words t found
+found_by_run words config t found named are = record { config = config; named = sym named; answer = are }
+
+pub all_appended : (words : List (List ℕ)) (config : Config) (t : List ℕ) (found : FindingsValue) (old new : Option (List ℕ)) → Some config ≡ config_of words
+    → FoundBy config t found → Appends old new (shown_by config.generate found) → AppendsFindings words t old new
+all_appended words config t found old new named are appended = record {
+  found = found;
+  are = found_by_run words config t found named are;
   appended = subst (λ g. Appends old new (shown_by g found)) (asked words config named) appended;
 }
 
-pub part_appended : (words : List (List ℕ)) (config : Config) (t : List ℕ) (found : List Violation) (old new : Option (List ℕ)) → Some config ≡ config_of words
-    → FoundBy config t found → AppendsPart old new (shown_by config.generate found) → AppendsPartOfReports words t old new
+pub part_appended : (words : List (List ℕ)) (config : Config) (t : List ℕ) (found : FindingsValue) (old new : Option (List ℕ)) → Some config ≡ config_of words
+    → FoundBy config t found → AppendsPart old new (shown_by config.generate found) → AppendsPartOfFindings words t old new
 part_appended words config t found old new named are appended = record {
-  violations = found;
-  reports = reports_of_run words config t found named are;
+  found = found;
+  are = found_by_run words config t found named are;
   appended = subst (λ g. AppendsPart old new (shown_by g found)) (asked words config named) appended;
 }
 
-pub none_where : (reports found : List Violation) (r : Bool) → reports ≡ found → r ≡ (length reports == 0) → r ≡ true → found ≡ []
-none_where [] found r same e h = sym same
-none_where (v ∷ vs) found r same e h = absurd (grind (arith, e, h))
+pub none_where : (vs : List Violation) (r : Bool) → IsTrue r ↔ (vs ≡ []) → r ≡ true → vs ≡ []
+none_where vs r tells h = tells.0 h
 
-pub some_where : (reports found : List Violation) (r : Bool) → reports ≡ found → r ≡ (length reports == 0) → r ≡ false → (found ≢ [])
-some_where [] found r same e h = absurd (cc)
-some_where (v ∷ vs) found r same e h = λ k. absurd (cc)
+pub some_where : (vs : List Violation) (r : Bool) → IsTrue r ↔ (vs ≡ []) → r ≡ false → (vs ≢ [])
+some_where vs r tells h = λ none. true≢false (sym (tells.1 none) ∙ h)
 
 -- ---- a text that is refused
 

@@ -2,3 +2,4 @@ pub mod Complete
 pub mod Groups
 pub mod Inputs
 pub mod HeadlineOfRun
+pub mod CleanOfRun

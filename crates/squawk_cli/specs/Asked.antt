@@ -1,12 +1,15 @@
--- What words with `--generate` ask for: a made text in place of the input, and a summary in place of the printed reports.
-use Rattle.std.specs.Prelude.{ℕ, List, Some, None, option_and_then}
+-- What words ask for: with `--generate` a made text in place of the input, and a summary in place of the printed reports; with
+-- `--locks` the work under locks after the printed reports.
+use Rattle.std.specs.Prelude.{ℕ, List, ◌++◌, Some, None, option_and_then}
 use Rattle.std.specs.declared.option.Option.{Option}
 use Rattle.sql_token.specs.Token.{Text}
 use Rattle.lint_base.specs.declared.violation.Violation.{Violation}
 use Rattle.squawk_generate.specs.Made.{made}
 use Rattle.squawk_generate.specs.Summary.{summary}
+use Rattle.squawk_locks.specs.PrintedLocks.{printed_locks}
 use Rattle.squawk_print.specs.Printed.{printed}
 use Rattle.squawk_cli.specs.Config.{config_of}
+use Rattle.squawk_cli.specs.Findings.{FindingsValue, LocksValue}
 
 -- how many made groups words ask for, if they ask for any
 abbrev pub groups_asked : List (List ℕ) → Option ℕ
@@ -21,11 +24,16 @@ text_by None left = left
 abbrev pub given_text : List (List ℕ) → Option Text → Option Text
 given_text words left = text_by (groups_asked words) left
 
--- the summary of the reports, or else their printed form
-abbrev pub shown_by : Option ℕ → List Violation → List ℕ
-shown_by (Some n) violations = summary violations
-shown_by None violations = printed violations
+-- the printed reports, and after them the locks that were asked for
+abbrev pub printed_findings : List Violation → Option LocksValue → List ℕ
+printed_findings violations None = printed violations
+printed_findings violations (Some locks) = printed violations ++ printed_locks locks.works locks.plain
 
--- what a run writes of its reports
-abbrev pub shown : List (List ℕ) → List Violation → List ℕ
-shown words violations = shown_by (groups_asked words) violations
+-- the summary of the reports, or else the printed form of all that was found
+abbrev pub shown_by : Option ℕ → FindingsValue → List ℕ
+shown_by (Some n) found = summary found.violations
+shown_by None found = printed_findings found.violations found.locks
+
+-- what a run writes of what it found
+abbrev pub shown : List (List ℕ) → FindingsValue → List ℕ
+shown words found = shown_by (groups_asked words) found

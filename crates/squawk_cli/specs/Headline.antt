@@ -1,5 +1,5 @@
 -- What a run prints of index builds and of added constraints.
-use Rattle.std.specs.Prelude.{◌≡◌, ◌≢◌, ℕ, List, [], Some, ⊤}
+use Rattle.std.specs.Prelude.{◌≡◌, ◌≢◌, ℕ, List, [], Some, is_some, ⊤}
 use Rattle.std.specs.declared.option.Option.{Option}
 use Rattle.std.specs.Io.KnownBytes.{Appends}
 use Rattle.sql_token.specs.Token.{Text}
@@ -13,6 +13,7 @@ use Rattle.squawk_cli.specs.declared.status.Status.{Status}
 use Rattle.squawk_cli.specs.declared.status.Status.TheVariants.{Clean, Found}
 use Rattle.squawk_cli.specs.Asked.{shown}
 use Rattle.squawk_cli.specs.Config.{config_of}
+use Rattle.squawk_cli.specs.Findings.{FindingsValue}
 
 -- a run is clean exactly where nothing is reported
 abbrev pub CountFor : Status → List Violation → Type 0
@@ -20,19 +21,21 @@ CountFor Clean violations = violations ≡ []
 CountFor Found violations = violations ≢ []
 CountFor _ violations = ⊤
 
--- The words name a configuration, the text has a tree, and what was appended is what is shown of some reports. Where the
--- tree has no ignore comment, the index builds and the added constraints among them are exactly those of its statements.
+-- The words name a configuration, the text has a tree, and what was appended is what is shown of some reports, with locks
+-- exactly where the words ask for them. Where the tree has no ignore comment, the index builds and the added constraints
+-- among the reports are exactly those of its statements.
 pub record PrintsHeadline (status : Status) (words : List (List ℕ)) (t : Text) (old new : Option (List ℕ)) : Type 0 where
   pub config : Config
   pub named : config_of words ≡ Some config
   pub tree : Tree
   pub of_text : IsTreeOf t tree
-  pub violations : List Violation
-  pub appended : Appends old new (shown words violations)
-  pub count : CountFor status violations
+  pub found : FindingsValue
+  pub locks : is_some found.locks ≡ config.locks
+  pub appended : Appends old new (shown words found)
+  pub count : CountFor status found.violations
   pub headline :
       HasNoIgnoreComment tree
-      → headline_of tree violations
+      → headline_of tree found.violations
       ≡ headline_reports tree config.linter.rules (cleared tree config.linter.settings).assume_in_transaction
 
 -- a run that linted its text prints the headline

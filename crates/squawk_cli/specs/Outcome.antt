@@ -10,8 +10,9 @@ use Rattle.sql_token.specs.Token.{OpenAt}
 use Rattle.sql_tree.specs.Statement.{IsValid, IsSyntaxAt}
 use Rattle.lint_base.specs.declared.violation.Violation.{Violation}
 use Rattle.squawk_words.specs.Choices.{IsAccepted}
-use Rattle.squawk_cli.specs.Answer.{AreReports}
+use Rattle.squawk_cli.specs.Answer.{AreFindings, AreReports}
 use Rattle.squawk_cli.specs.Asked.{groups_asked, shown}
+use Rattle.squawk_cli.specs.Findings.{FindingsValue}
 use Rattle.squawk_cli.specs.declared.status.Status.{Status}
 use Rattle.squawk_cli.specs.declared.status.Status.TheVariants.{Clean, Found, BadArguments, NotUtf8, TooLong, Unterminated, Syntax, ReadFault, WriteFault, NoMemory}
 
@@ -49,17 +50,17 @@ ReadFor status words old new = ReadBy (groups_asked words) status old new
 abbrev pub HasReports : List (List ℕ) → List ℕ → Type 0
 HasReports words t = (violations : List Violation) × AreReports words t violations × (violations ≢ [])
 
--- what was appended is what is shown of the reports of the text
-pub record AppendsReports (words : List (List ℕ)) (t : List ℕ) (old new : Option (List ℕ)) : Type 0 where
-  pub violations : List Violation
-  pub reports : AreReports words t violations
-  pub appended : Appends old new (shown words violations)
+-- what was appended is what is shown of what is found in the text
+pub record AppendsFindings (words : List (List ℕ)) (t : List ℕ) (old new : Option (List ℕ)) : Type 0 where
+  pub found : FindingsValue
+  pub are : AreFindings words t found
+  pub appended : Appends old new (shown words found)
 
 -- what was appended is a front of it
-pub record AppendsPartOfReports (words : List (List ℕ)) (t : List ℕ) (old new : Option (List ℕ)) : Type 0 where
-  pub violations : List Violation
-  pub reports : AreReports words t violations
-  pub appended : AppendsPart old new (shown words violations)
+pub record AppendsPartOfFindings (words : List (List ℕ)) (t : List ℕ) (old new : Option (List ℕ)) : Type 0 where
+  pub found : FindingsValue
+  pub are : AreFindings words t found
+  pub appended : AppendsPart old new (shown words found)
 
 -- what the whole text is
 abbrev pub InputFor : Status → List (List ℕ) → List ℕ → Type 0
@@ -71,11 +72,11 @@ InputFor (Syntax at) words t = IsUtf8 t × IsSyntaxAt t at
 InputFor WriteFault words t = IsUtf8 t × IsValid t
 InputFor _ words t = ⊤
 
--- what was written of the reports
+-- what was written of what was found
 abbrev pub WrittenFor : Status → List (List ℕ) → List ℕ → Option (List ℕ) → Option (List ℕ) → Type 0
-WrittenFor Clean words t old new = AppendsReports words t old new
-WrittenFor Found words t old new = AppendsReports words t old new
-WrittenFor WriteFault words t old new = AppendsPartOfReports words t old new
+WrittenFor Clean words t old new = AppendsFindings words t old new
+WrittenFor Found words t old new = AppendsFindings words t old new
+WrittenFor WriteFault words t old new = AppendsPartOfFindings words t old new
 WrittenFor _ words t old new = ⊤
 
 -- nothing was written but where the reports were

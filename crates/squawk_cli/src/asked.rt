@@ -1,16 +1,17 @@
-//! What `--generate` changes of a run: which text is linted, and what is written of its reports.
+//! What `--generate` and `--locks` change of a run: which text is linted, and what is written of what is found in it.
 ghost use Rattle.std.specs.Prelude.{◌≡◌, ◌<◌, ◌≤◌, ◌^◌, length, IfOk, IfErr, IfSome, IsSome, OnOk, Err};
 ghost use Rattle.std.specs.Io.KnownBytes.{Appends};
 ghost use Rattle.squawk_stream.specs.Faults.{Rose};
 ghost use Rattle.squawk_stream.specs.Parts.{AppendsPart};
 ghost use Rattle.squawk_print.specs.declared.write.WriteError.TheVariants as WriteError;
 ghost use Rattle.squawk_cli.specs.declared.status.Status.TheVariants as Status;
-ghost use Rattle.squawk_cli.specs.Asked.{text_by, shown_by};
+ghost use Rattle.squawk_cli.specs.Asked.{printed_findings, text_by, shown_by};
 ghost use Rattle.squawk_cli.specs.Outcome.{ReadBy, SourceCause, IsStop};
 
+use crate::findings::Findings;
 use crate::status::Status;
-use lint_base::Violation;
 use squawk_generate::{made_text, write_summary};
+use squawk_locks::write_with_locks;
 use squawk_print::{WriteError, write_violations};
 use squawk_stream::{ReadError, Sink, Source, read_to_end};
 use std::alloc::Global;
@@ -45,20 +46,34 @@ pub(crate) fn text_for<S: Source>(
     }
 }
 
-/// Writes the summary of the reports where made groups were asked for, or else their printed form.
+/// Writes the printed reports, and after them the locks that were asked for.
+fn write_printed<K: Sink>(alloc: Global, out: &mut K, found: &Findings) -> Result<(), WriteError>
+    ensures whole { OnOk result (Appends (K.held out.old) (K.held out.new) (printed_findings found.now.violations found.now.locks)) }
+    ensures part { AppendsPart (K.held out.old) (K.held out.new) (printed_findings found.now.violations found.now.locks) }
+    ensures fault { result ≡ Err WriteError.Fault → Rose (K.faults out.old) (K.faults out.new) }
+    ensures no_memory { result ≡ Err WriteError.NoMemory → out.new ≡ out.old }
+{
+    let reports = found.violations.as_slice();
+    match &found.locks {
+        Some(locks) => write_with_locks(alloc, out, reports, locks.works.as_slice(), locks.plain),
+        None => write_violations(alloc, out, reports),
+    }
+}
+
+/// Writes the summary of the reports where made groups were asked for, or else the printed form of all that was found.
 pub(crate) fn write_found<K: Sink>(
     alloc: Global,
     generate: Option<u32>,
     out: &mut K,
-    reports: &[Violation],
+    found: &Findings,
 ) -> Result<(), WriteError>
-    ensures whole { OnOk result (Appends (K.held out.old) (K.held out.new) (shown_by generate reports.now)) }
-    ensures part { AppendsPart (K.held out.old) (K.held out.new) (shown_by generate reports.now) }
+    ensures whole { OnOk result (Appends (K.held out.old) (K.held out.new) (shown_by generate found.now)) }
+    ensures part { AppendsPart (K.held out.old) (K.held out.new) (shown_by generate found.now) }
     ensures fault { result ≡ Err WriteError.Fault → Rose (K.faults out.old) (K.faults out.new) }
     ensures no_memory { result ≡ Err WriteError.NoMemory → out.new ≡ out.old }
 {
     match generate {
-        Some(_) => write_summary(alloc, out, reports),
-        None => write_violations(alloc, out, reports),
+        Some(_) => write_summary(alloc, out, found.violations.as_slice()),
+        None => write_printed(alloc, out, found),
     }
 }

@@ -8,6 +8,7 @@ ghost use Rattle.squawk_words.specs.Choices.{IsAccepted};
 ghost use Rattle.sql_tree.specs.Statement.{IsValid};
 ghost use Rattle.squawk_cli.specs.StatusLine.{line_of};
 ghost use Rattle.squawk_cli.specs.Asked.{given_text, groups_asked};
+ghost use Rattle.squawk_cli.specs.CleanRun.{CleanFor};
 ghost use Rattle.squawk_cli.specs.Headline.{HeadlineFor};
 ghost use Rattle.squawk_cli.specs.Outcome.{WordsFor, ReadFor, InputFor, WrittenFor, KeptFor, SourceCause, SinkCause, IsDone};
 
@@ -16,6 +17,7 @@ use crate::config::read_words;
 use crate::input::lint_input;
 use crate::status::Status;
 use crate::status_line::say;
+use squawk_linter::clean::clean_answers;
 use squawk_linter::laws::headline;
 use squawk_print::WriteError;
 use squawk_stream::{Sink, Source};
@@ -33,8 +35,8 @@ fn work<S: Source, K: Sink>(alloc: Global, words: &Words, src: &mut S, out: &mut
     ensures source { SourceCause result (S.faults src.old) (S.faults src.new) }
     ensures sink { SinkCause result (K.faults out.old) (K.faults out.new) }
 {
-    let (mut linter, generate) = match read_words(alloc, words) {
-        Ok(Some(config)) => (config.linter, config.generate),
+    let (mut linter, locks, generate) = match read_words(alloc, words) {
+        Ok(Some(config)) => (config.linter, config.locks, config.generate),
         Ok(None) => return Status::BadArguments,
         Err(_) => return Status::NoMemory,
     };
@@ -42,14 +44,13 @@ fn work<S: Source, K: Sink>(alloc: Global, words: &Words, src: &mut S, out: &mut
         Ok(text) => text,
         Err(stopped) => return stopped,
     };
-    let found = match lint_input(alloc, &mut linter, text.as_slice()) {
+    let found = match lint_input(alloc, &mut linter, locks, text.as_slice()) {
         Ok(found) => found,
         Err(refused) => return refused,
     };
-    let reports = found.as_slice();
-    match write_found(alloc, generate, out, reports) {
+    match write_found(alloc, generate, out, &found) {
         Ok(()) => {
-            if reports.is_empty() {
+            if found.is_clean() {
                 Status::Clean
             } else {
                 Status::Found
@@ -63,14 +64,18 @@ fn work<S: Source, K: Sink>(alloc: Global, words: &Words, src: &mut S, out: &mut
 /// Reads the words, then all of the input, lints it as they say, and writes the printed reports to `out`. The line of
 /// the status goes to `err`, and a failure there changes no status.
 ///
+/// Where the words have `--locks`, the work that the text does under locks follows the printed reports, a line for each, and
+/// at last a line that says whether the text is plain.
+///
 /// Where the words have `--generate`, a made text is linted and nothing is read, and in place of the printed reports a
 /// summary of them is written: how many each rule has, and how many there are.
 ///
 /// The clauses say by each status what the words and the text are (`words`, `input`), what was read and written (`read`,
 /// `unread`, `written`, `kept`), which failure a fault stands for (`source`, `sink`), and what the error sink gets
 /// (`line`, `whole_line`). What is reported of index builds and of added constraints, `headline` says by the statements of
-/// the text alone. Where nothing fails, a valid text is linted (`complete`); only running out of memory is free. Of a
-/// made text all of it holds also where a source does not tell its bytes.
+/// the text alone. What it means for the printed work that nothing is reported, `clean` says. Where nothing fails, a valid
+/// text is linted (`complete`); only running out of memory is free. Of a made text all of it holds also where a source does
+/// not tell its bytes.
 pub fn run<S: Source, K: Sink, E: Sink>(
     alloc: Global,
     words: &Words,
@@ -84,6 +89,7 @@ pub fn run<S: Source, K: Sink, E: Sink>(
     ensures input { IfSome (given_text words.now (S.left src.old)) (λ t. InputFor result words.now t) }
     ensures written { IfSome (given_text words.now (S.left src.old)) (λ t. WrittenFor result words.now t (K.held out.old) (K.held out.new)) }
     ensures headline { IfSome (given_text words.now (S.left src.old)) (λ t. HeadlineFor result words.now t (K.held out.old) (K.held out.new)) }
+    ensures clean { IfSome (given_text words.now (S.left src.old)) (λ t. CleanFor result words.now t (K.held out.old) (K.held out.new)) }
     ensures kept { KeptFor result (K.held out.old) (K.held out.new) }
     ensures source { SourceCause result (S.faults src.old) (S.faults src.new) }
     ensures sink { SinkCause result (K.faults out.old) (K.faults out.new) }
@@ -95,6 +101,7 @@ pub fn run<S: Source, K: Sink, E: Sink>(
         → IfSome (given_text words.now (S.left src.old)) (λ t. IsUtf8 t → IsValid t → IsDone result) }
 {
     headline();
+    clean_answers();
     let status = work(alloc, words, src, out);
     say(err, &status);
     status

@@ -13,7 +13,7 @@ use text_pos::NoMemory;
 pub struct Config {
     /// The linter, with its rules and settings.
     pub linter: Linter,
-    /// Whether the locks of the statements are asked for. No word does so yet.
+    /// Whether the work under locks is asked for too.
     pub locks: bool,
     /// How many groups of made statements are to be linted in place of an input, if any are.
     pub generate: Option<u32>,

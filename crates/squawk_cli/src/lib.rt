@@ -5,6 +5,7 @@
 mod asked;
 mod command;
 mod config;
+mod findings;
 mod input;
 mod status;
 mod status_line;

@@ -4,7 +4,7 @@ use Rattle.std.proofs.lemmas.Str.{IsUtf8-string_bytes}
 use Rattle.std.specs.Prelude.{◌↔◌, IfOk, IsUtf8, Result, Ok, Err, String, string_bytes}
 use Rattle.lint_base.specs.declared.edit.Edit.{Edit}
 use Rattle.squawk_fix.specs.Answer.{CanBeMade, IsAnswer, IsTooLong, OkOrNoMemory}
-use Rattle.squawk_fix.specs.Edited.{edited}
+use Rattle.fix_law.specs.Edited.{edited}
 use Rattle.squawk_fix.specs.Faults.{AreGood, AreGoodBelow, IsBadAt, IsGoodAt, IsInText, IsOverlapAt}
 use Rattle.squawk_fix.specs.declared.error.FixError.{FixError}
 use Rattle.squawk_fix.specs.declared.error.FixError.TheVariants.{BadRange, Overlap, TooLong, NoMemory}

@@ -6,7 +6,7 @@ use Rattle.std.proofs.lemmas.Option.{get_or_from_slice_get, slice_get_read, slic
 use Rattle.std.specs.Prelude.{Option, Some, slice_get, slice_range}
 use Rattle.std.specs.Option.{option_map_or}
 use Rattle.lint_base.specs.declared.edit.Edit.{Edit}
-use Rattle.squawk_fix.specs.Edited.{edited_from, put_by}
+use Rattle.fix_law.specs.Edited.{edited_from, put_by}
 use Rattle.squawk_fix.specs.Faults.{AreGood, IsGoodAt, IsInText, end_before}
 
 -- the edit that was read is the one with this number

@@ -1,7 +1,7 @@
 -- When each answer of a fix comes.
 use Rattle.std.specs.Prelude.{◌≡◌, ◌≤◌, ◌<◌, ◌^◌, ℕ, List, length, Result, Ok, Err}
 use Rattle.lint_base.specs.declared.edit.Edit.{Edit}
-use Rattle.squawk_fix.specs.Edited.{edited}
+use Rattle.fix_law.specs.Edited.{edited}
 use Rattle.squawk_fix.specs.Faults.{AreGood, IsBadAt, IsOverlapAt}
 use Rattle.squawk_fix.specs.declared.error.FixError.{FixError}
 use Rattle.squawk_fix.specs.declared.error.FixError.TheVariants.{BadRange, Overlap, TooLong, NoMemory}

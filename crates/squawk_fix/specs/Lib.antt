@@ -1,3 +1,3 @@
 pub mod Answer
-pub mod Edited
 pub mod Faults
+pub mod Mends

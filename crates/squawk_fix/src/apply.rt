@@ -1,8 +1,9 @@
 //! Making a fix.
 ghost use Rattle.std.specs.Prelude.{◌≡◌, ◌<◌, ◌^◌, ◌↔◌, ℕ, length, IfOk, IsUtf8, OnOk, string_bytes};
 ghost use Rattle.squawk_fix.specs.Answer.{CanBeMade, IsAnswer, IsTooLong, OkOrNoMemory};
-ghost use Rattle.squawk_fix.specs.Edited.{edited};
+ghost use Rattle.fix_law.specs.Edited.{edited};
 ghost use Rattle.squawk_fix.specs.Faults.{IsBadAt, IsOverlapAt};
+ghost use Rattle.squawk_fix.specs.Mends.{IsMended};
 
 use crate::build::build;
 use crate::error::FixError;
@@ -32,12 +33,16 @@ fn edited(alloc: Global, text: &str, fix: &Fix) -> Result<String, FixError>
 /// cuts a character, and `Overlap` where it doesn't, but begins before its predecessor ends. Edits
 /// that touch are no overlap. `TooLong` comes where no edit is bad, and the result would have 2^32
 /// bytes or more. `NoMemory` comes because memory ran out; all memory is taken at once.
+///
+/// A fix that adds CONCURRENTLY or sets a timeout makes a text that is read again, and its rule
+/// is silent there (`mended`); other rules may report more.
 pub fn apply_fix(alloc: Global, text: &str, fix: &Fix) -> Result<String, FixError>
     requires text { length text.now < 2 ^ 32 }
     requires edits { length fix.now.edits < 2 ^ 32 }
     ensures ok { IfOk result (λ made. string_bytes made ≡ edited text.now fix.now.edits) }
     ensures good { OnOk result (CanBeMade text.now fix.now.edits) }
     ensures utf8 { IfOk result (λ made. IsUtf8 (string_bytes made)) }
+    ensures mended { IfOk result (λ made. IsMended text.now fix.now (string_bytes made)) }
 
     // Running out of memory is the one answer whose coming is left open.
     ensures valid { CanBeMade text.now fix.now.edits

@@ -2,7 +2,7 @@
 ghost use Rattle.std.specs.Prelude.{◌≡◌, ◌++◌, ◌≤◌, IfErr, IfOk, OnOk, length, slice_range, string_bytes};
 ghost use Rattle.std.specs.Str.{IsCharBoundary};
 ghost use Rattle.squawk_fix.specs.Answer.{CanBeMade, IsCause};
-ghost use Rattle.squawk_fix.specs.Edited.{edited, put_by};
+ghost use Rattle.fix_law.specs.Edited.{edited, put_by};
 
 use crate::error::FixError;
 use crate::measure::put_by;

@@ -1,7 +1,7 @@
 //! Fixes of reports, made in a text.
 //!
-//! `specs/` says what edits make of a text (`Edited`), which of them can't be made (`Faults`), and
-//! when each answer comes (`Answer`).
+//! `specs/` says which edits can't be made (`Faults`), when each answer comes (`Answer`), and what a text is whose fix was made
+//! (`Mends`).
 #![tactic(auto)]
 
 mod apply;

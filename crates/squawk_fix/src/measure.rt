@@ -1,6 +1,6 @@
 //! How long an edited text is.
 ghost use Rattle.std.specs.Prelude.{◌≡◌, ◌+◌, ◌<◌, ◌≤◌, ◌^◌, length, IfNone, IfSome};
-ghost use Rattle.squawk_fix.specs.Edited.{edited, put_by};
+ghost use Rattle.fix_law.specs.Edited.{edited, put_by};
 ghost use Rattle.squawk_fix.specs.Faults.{AreGood};
 
 use lint_base::Edit;

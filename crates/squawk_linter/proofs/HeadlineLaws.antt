@@ -310,7 +310,7 @@ no_comments tree (k ∷ ks) h =
     (λ i. cons_option (All-head (λ tok. ignore_in_token tree.text tok ≡ None) k ks h i) (ignore_comments tree.text ks)) ∙ no_comments tree ks (All-tail (λ tok. ignore_in_token tree.text tok ≡ None) k ks h)
 
 -- without ignore comments the answer is what the passes report, by place
-plain_answer : (tree : Tree) (x : List Violation) (rules : Rules) → HasNoIgnoreComment tree → reports_from tree x rules ≡ by_key start_of (length tree.text + 1) x
+pub plain_answer : (tree : Tree) (x : List Violation) (rules : Rules) → HasNoIgnoreComment tree → reports_from tree x rules ≡ by_key start_of (length tree.text + 1) x
 unfolding reports_from
 plain_answer tree x rules h =
     let none : found_in tree ≡ nothing = ap (λ cs. all_said 0 cs) (no_comments tree tree.toks h) in

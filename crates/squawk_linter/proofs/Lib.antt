@@ -1,5 +1,6 @@
 pub mod ActionNumbers
 pub mod ActionPlaces
+pub mod CleanLaws
 pub mod Gathering
 pub mod HeadlineLaws
 pub mod Ignoring

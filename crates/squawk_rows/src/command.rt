@@ -144,6 +144,31 @@ fn faults(rt: HostRuntime) -> Result<(), Fail> {
     Ok(())
 }
 
+/// Runs over `CLOSE;` with `--locks`: how many bytes the sink holds at most, which writes fail, the status, and what is held.
+const LOCKS_FAULTS: &[(usize, &[u32], Status, &str)] = &[
+    (25, &[], Status::Clean, "violations: 0\nplain: yes\n"),
+    (24, &[], Status::WriteFault, "violations: 0\nplain: yes"),
+    (20, &[], Status::WriteFault, "violations: 0\nplain:"),
+    (14, &[], Status::WriteFault, "violations: 0\n"),
+    (100, &[0], Status::WriteFault, ""),
+    (100, &[1], Status::WriteFault, "violations: 0\n"),
+];
+
+#[test]
+fn faults_with_locks(rt: HostRuntime) -> Result<(), Fail> {
+    let mut words = Words::new(rt.alloc());
+    words.push("--locks")?;
+    for row in LOCKS_FAULTS {
+        let mut src = MemSource::new(rt.alloc(), b"CLOSE;", 100, &[])?;
+        let mut out = MemSink::new(rt.alloc(), row.0, row.1)?;
+        let mut err = MemSink::new(rt.alloc(), 100, &[])?;
+        let status = run(rt.alloc(), &words, &mut src, &mut out, &mut err);
+        assert_eq!(rt; status, row.2);
+        assert_eq!(rt; out.bytes(), row.3.as_bytes());
+    }
+    Ok(())
+}
+
 /// Calls of the source and of the sink that fail, and the status of a run on a query.
 const QUERY_FAULTS: &[(&[u32], &[u32], Status)] = &[
     (&[1], &[], Status::ReadFault),

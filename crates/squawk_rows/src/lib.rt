@@ -5,4 +5,6 @@
 #[cfg(test)]
 mod command;
 #[cfg(test)]
+mod devices;
+#[cfg(test)]
 mod streams;

@@ -265,11 +265,11 @@ refused_words ws tidy faulty = go (settings_of ws) (as_defined table ws tidy)
     go None m = refl
     go (Some said) m = absurd (faulty (fault_is ws ∙ m.0))
 
-same_said : (a b c d e f g v : Option Text) (p : Bool) (h i j k l m n w : Option Text) (q : Bool)
-    → a ≡ h → b ≡ i → c ≡ j → d ≡ k → e ≡ l → f ≡ m → g ≡ n → v ≡ w → p ≡ q
-    → ◌≡◌ {A = Said} (record { only = a; include = b; exclude = c; non_volatile = d; pg_major = e; pg_minor = f; pg_patch = g; generate = v; assume_in_transaction = p })
-    (record { only = h; include = i; exclude = j; non_volatile = k; pg_major = l; pg_minor = m; pg_patch = n; generate = w; assume_in_transaction = q })
-same_said a b c d e f g v p h i j k l m n w q u0 u1 u2 u3 u4 u5 u6 u7 u8 = rw (u0, u1, u2, u3, u4, u5, u6, u7, u8) refl
+same_said : (a b c d e f g v : Option Text) (p x : Bool) (h i j k l m n w : Option Text) (q y : Bool)
+    → a ≡ h → b ≡ i → c ≡ j → d ≡ k → e ≡ l → f ≡ m → g ≡ n → v ≡ w → p ≡ q → x ≡ y
+    → ◌≡◌ {A = Said} (record { only = a; include = b; exclude = c; non_volatile = d; pg_major = e; pg_minor = f; pg_patch = g; generate = v; assume_in_transaction = p; locks = x })
+    (record { only = h; include = i; exclude = j; non_volatile = k; pg_major = l; pg_minor = m; pg_patch = n; generate = w; assume_in_transaction = q; locks = y })
+same_said a b c d e f g v p x h i j k l m n w q y u0 u1 u2 u3 u4 u5 u6 u7 u8 u9 = rw (u0, u1, u2, u3, u4, u5, u6, u7, u8, u9) refl
 
 -- what was found, if clap does not fail, is what is set
 pub taken_words : (ws : List Text) (f : Found) (s : Said) → list_all is_tidy ws ≡ true → fault_of app ws ≡ [] → rows_of f ≡ matches_of app ws
@@ -279,7 +279,7 @@ taken_words ws f s tidy free rows got = go (settings_of ws) (as_defined table ws
     go : (o : Option Settings) → Match table o (fault_from table (walk_from nothing_held) ws) (rows_from table (walk_from nothing_held) ws)
         → IfSaid (FlagsTrue table) o → Some s ≡ option_map said_in o
     go None m t = absurd (m (sym (fault_is ws) ∙ free))
-    go (Some said) m t = ap (λ x. Some x) (same_said _ _ _ _ _ _ _ _ _ _ _ _ _ _ _ _ _ _
+    go (Some said) m t = ap (λ x. Some x) (same_said _ _ _ _ _ _ _ _ _ _ _ _ _ _ _ _ _ _ _ _
         (got.only ∙ text (codes "only") refl)
         (got.include ∙ text (codes "include") refl)
         (got.exclude ∙ text (codes "exclude") refl)
@@ -288,7 +288,8 @@ taken_words ws f s tidy free rows got = go (settings_of ws) (as_defined table ws
         (got.pg_minor ∙ text (codes "pg-minor") refl)
         (got.pg_patch ∙ text (codes "pg-patch") refl)
         (got.generate ∙ text (codes "generate") refl)
-        (flag (codes "assume-in-transaction") refl refl s.assume_in_transaction got.assume_in_transaction))
+        (flag (codes "assume-in-transaction") refl refl s.assume_in_transaction got.assume_in_transaction)
+        (flag (codes "locks") refl refl s.locks got.locks))
       where
         rows_final : rows_of f ≡ final table said
         rows_final = rows ∙ m.1

@@ -1,5 +1,5 @@
 -- What words choose: rules and settings.
-use Rattle.std.specs.Prelude.{ℕ, ℤ, ◌^◌, ◌++◌, ◌&&◌, Bool, false, List, [], ◌∷◌, length, nat_lt, nat_le, Option, Some, None}
+use Rattle.std.specs.Prelude.{ℕ, ℤ, ◌^◌, ◌++◌, ◌&&◌, Bool, true, false, List, [], ◌∷◌, length, nat_lt, nat_le, Option, Some, None}
 use Rattle.std.specs.Prelude.{codes, pos, option_map, option_and_then, if◌then◌else◌, ◌==◌, IsSome}
 use Rattle.std.specs.Char.{is_ascii_digit}
 use Rattle.std.specs.List.{list_all, slice_split}
@@ -65,6 +65,7 @@ pub record Said : Type 0 where
   pub pg_patch : Option Text
   pub generate : Option Text
   pub assume_in_transaction : Bool
+  pub locks : Bool
 
 -- the values of what is set
 abbrev pub said_in : Settings → Said
@@ -78,6 +79,7 @@ said_in settings = record {
   pg_patch = value_of (codes "pg-patch") settings;
   generate = value_of (codes "generate") settings;
   assume_in_transaction = has (codes "assume-in-transaction") settings;
+  locks = has (codes "locks") settings;
 }
 
 -- the values of the words, or nothing where the words are refused
@@ -103,9 +105,11 @@ version_by major minor patch =
     option_and_then (λ a. option_and_then (λ b. option_map (λ c. a ∷ b ∷ c ∷ []) (read_or (pos 0) number patch))
     (read_or (pos 0) number minor)) (read_or (pos 15) number major)
 
--- how many groups of statements are asked for, if any are
-abbrev pub groups_by : Option Text → Option (Option ℕ)
-groups_by text = read_or None (λ t. option_map (λ n. Some n) (groups t)) text
+-- how many groups of statements are asked for, if any are; never beside the locks, which are those of a text that is read
+abbrev pub groups_by : Bool → Option Text → Option (Option ℕ)
+groups_by locks None = Some None
+groups_by true (Some text) = None
+groups_by false (Some text) = option_map (λ n. Some n) (groups text)
 
 -- the choices, or nothing where one of the values cannot be read
 abbrev pub choices_by : Said → Option Choices
@@ -113,9 +117,9 @@ choices_by said =
     option_and_then (λ version. option_and_then (λ generate. option_and_then (λ names. option_map (λ rules. record {
       rules = rules;
       settings = record { pg_version = version; assume_in_transaction = said.assume_in_transaction; non_volatile = names };
-      locks = false;
+      locks = said.locks;
       generate = generate;
-    }) (rules_by said.only said.include said.exclude)) (names_by said.non_volatile)) (groups_by said.generate))
+    }) (rules_by said.only said.include said.exclude)) (names_by said.non_volatile)) (groups_by said.locks said.generate))
     (version_by said.pg_major said.pg_minor said.pg_patch)
 
 -- what words choose, or nothing where they are refused

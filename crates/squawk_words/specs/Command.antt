@@ -46,6 +46,7 @@ said_by given = record {
   pg_patch = option_map (λ s. s.now) given.pg_patch;
   generate = option_map (λ s. s.now) given.generate;
   assume_in_transaction = given.assume_in_transaction;
+  locks = given.locks;
 }
 
 -- a flag tells what was found
@@ -64,3 +65,4 @@ pub record IsGiven (found : Found) (said : Said) : Type 0 where
   pub pg_patch : said.pg_patch ≡ first_value found (codes "pg-patch")
   pub generate : said.generate ≡ first_value found (codes "generate")
   pub assume_in_transaction : IsFlag found (codes "assume-in-transaction") said.assume_in_transaction
+  pub locks : IsFlag found (codes "locks") said.locks

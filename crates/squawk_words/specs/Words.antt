@@ -19,7 +19,7 @@ abbrev pub table : Table
 table =
     (codes "only", true) ∷ (codes "include", true) ∷ (codes "exclude", true) ∷ (codes "non-volatile", true) ∷
     (codes "pg-major", true) ∷ (codes "pg-minor", true) ∷ (codes "pg-patch", true) ∷ (codes "generate", true) ∷
-    (codes "assume-in-transaction", false) ∷ []
+    (codes "assume-in-transaction", false) ∷ (codes "locks", false) ∷ []
 
 -- whether a name takes a value, where it is one of the names
 abbrev pub takes_value : Table → Text → Option Bool

@@ -17,9 +17,10 @@ pub struct Choices {
     pub rules: RuleSet,
     /// The linter's settings.
     pub settings: LinterSettings,
-    /// Whether the locks of the statements are asked for. No word does so yet.
+    /// Whether `--locks` is there: the work that the text does under locks is asked for too.
     pub locks: bool,
-    /// How many groups of made statements `--generate` asks for, 0 to 100000, or `None` without it.
+    /// How many groups of made statements `--generate` asks for, 0 to 100000, or `None` without it. Beside `--locks` there are
+    /// none.
     pub generate: Option<u32>,
 }
 
@@ -34,8 +35,9 @@ pub struct Choices {
 /// - `--assume-in-transaction`: the text is run inside a transaction that was begun before it.
 /// - `--pg-major N`, `--pg-minor N`, `--pg-patch N`: the version of PostgreSQL, 15, 0 and 0 where a
 ///   word is left out. N is from 0 to 2147483647.
-/// - `--generate N`: N groups of made statements are checked in place of a text. N is from 0 to
-///   100000.
+/// - `--locks`: the work that the text does under locks is listed too.
+/// - `--generate N`: N groups of made statements are checked in place of a text; not beside `--locks`.
+///   N is from 0 to 100000.
 ///
 /// A LIST is split at commas, and no piece is empty; N is one to ten digits. The error comes when
 /// memory runs out.
@@ -56,7 +58,7 @@ fn choices_by(alloc: Global, given: Given<'_>) -> Result<Option<Choices>, NoMemo
     let Some(pg_version) = version_by(given.pg_major, given.pg_minor, given.pg_patch) else {
         return Ok(None);
     };
-    let Some(generate) = groups_by(given.generate) else {
+    let Some(generate) = groups_by(given.locks, given.generate) else {
         return Ok(None);
     };
     let Some(non_volatile) = names_by(alloc, given.non_volatile)? else {
@@ -73,7 +75,7 @@ fn choices_by(alloc: Global, given: Given<'_>) -> Result<Option<Choices>, NoMemo
     Ok(Some(Choices {
         rules,
         settings,
-        locks: false,
+        locks: given.locks,
         generate,
     }))
 }

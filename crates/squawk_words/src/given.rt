@@ -22,6 +22,7 @@ pub(crate) struct Given<'w> {
     pub(crate) pg_patch: Option<&'w str>,
     pub(crate) generate: Option<&'w str>,
     pub(crate) assume_in_transaction: bool,
+    pub(crate) locks: bool,
 }
 
 /// The values of the words, or `None` exactly where the words are refused. The error comes when
@@ -80,7 +81,8 @@ fn command<'w>(alloc: Global) -> Result<Command<'w>, AllocError>
     let with_pg_minor = with_option(with_pg_major, alloc, "pg-minor")?;
     let with_pg_patch = with_option(with_pg_minor, alloc, "pg-patch")?;
     let with_generate = with_option(with_pg_patch, alloc, "generate")?;
-    with_flag(with_generate, alloc, "assume-in-transaction")
+    let with_assumed = with_flag(with_generate, alloc, "assume-in-transaction")?;
+    with_flag(with_assumed, alloc, "locks")
 }
 
 // A command and one more name that takes a value.
@@ -119,5 +121,6 @@ fn given_of<'w>(matches: &ArgMatches<'w>) -> Given<'w>
         pg_patch: matches.get_str("pg-patch"),
         generate: matches.get_str("generate"),
         assume_in_transaction: matches.get_flag("assume-in-transaction"),
+        locks: matches.get_flag("locks"),
     }
 }

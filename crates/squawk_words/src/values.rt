@@ -91,12 +91,14 @@ fn number(text: &str) -> Option<i32>
 }
 
 /// How many groups of statements a text asks for, `Some` of none where there is no text; `None`
-/// where the text is not one to ten digits, or the number is above 100000.
-pub(crate) fn groups_by(text: Option<&str>) -> Option<Option<u32>>
-    ensures { result ≡ groups_by (option_map (λ s. s.now) text.entry) }
+/// where the text is not one to ten digits, or the number is above 100000, or locks are asked for
+/// beside it.
+pub(crate) fn groups_by(locks: bool, text: Option<&str>) -> Option<Option<u32>>
+    ensures { result ≡ groups_by locks (option_map (λ s. s.now) text.entry) }
 {
     match text {
         None => Some(None),
+        Some(_) if locks => None,
         Some(text) => Some(Some(groups(text)?)),
     }
 }

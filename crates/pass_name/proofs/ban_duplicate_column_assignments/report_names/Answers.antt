@@ -1,12 +1,14 @@
-use Rattle.std.proofs.Common.{◌∙◌, ap, ◌++◌, arith}
+use Rattle.std.proofs.Common.{◌∙◌, sym, ap, ◌++◌, arith}
 use Rattle.lint_pass.proofs.PartLaws.{part_next}
 use Rattle.pass_name.specs.Duplicates as spec
 use Rattle.pass_name.specs.Entries.{items_of}
-use Rattle.pass_name.proofs.ReportLaws.{few_names, all_groups}
+use Rattle.pass_name.proofs.GatherLaws.{apart_reports}
+use Rattle.pass_name.proofs.ReportLaws.{all_groups}
 use Rattle.pass_name.proofs.ban_duplicate_column_assignments.report_names.Goals as goal
 
-pub returns-then-names-lt2 : goal.returns-then-names-lt2
-returns-then-names-lt2 c = few_names c.args.kind c.args.p.now c.args.names.now c.args.out.now c.if-names-lt2.true
+pub returns-then-are_apart : goal.returns-then-are_apart
+returns-then-are_apart c =
+    apart_reports c.args.kind c.args.p.now c.args.names.now c.args.out.now (sym c.are_apart.ensures ∙ c.if-are_apart.true)
 
 pub loop-group-preserved : goal.loop-group-preserved
 loop-group-preserved c =

@@ -1,4 +1,5 @@
 use Rattle.squawk_cli.specs.Asked.{given_text, groups_asked}
+use Rattle.squawk_cli.proofs.CleanOfRun.{clean_for}
 use Rattle.squawk_cli.proofs.Complete.{is_done}
 use Rattle.squawk_cli.proofs.HeadlineOfRun.{headline_for}
 use Rattle.squawk_cli.proofs.command.run.Goals as goal
@@ -12,3 +13,8 @@ pub returns-clause-headline : goal.returns-clause-headline
 returns-clause-headline g c =
     let e = c.work-status.ensures in
     headline_for c.headline.ensures c.work-status.result c.args.words.now (given_text c.args.words.now (g.S.Source.left c.args.src.now)) (g.K.Sink.held c.args.out.now) (g.K.Sink.held c.work-status.new.out) e.input e.written
+
+pub returns-clause-clean : goal.returns-clause-clean
+returns-clause-clean g c =
+    let e = c.work-status.ensures in
+    clean_for c.clean_answers.ensures c.work-status.result c.args.words.now (given_text c.args.words.now (g.S.Source.left c.args.src.now)) (g.K.Sink.held c.args.out.now) (g.K.Sink.held c.work-status.new.out) e.input e.written

@@ -1,11 +1,9 @@
-use Rattle.std.proofs.Common.{◌≡◌, Some, arith, subst}
-use Rattle.std.specs.Io.KnownBytes.{Appends}
-use Rattle.squawk_stream.specs.Parts.{AppendsPart}
-use Rattle.squawk_cli.specs.Asked.{given_text, groups_asked, shown_by}
+use Rattle.std.proofs.Common.{◌≡◌, Some, arith}
+use Rattle.squawk_cli.specs.Asked.{given_text, groups_asked}
 use Rattle.squawk_cli.specs.Config.{config_of}
 use Rattle.squawk_cli.specs.Outcome.{InputFor, WrittenFor}
 use Rattle.squawk_cli.specs.declared.status.Status.TheVariants.{Clean, Found, WriteFault}
-use Rattle.squawk_cli.proofs.Inputs.{input_refused, no_reports, none_where, of_any, of_text, part_appended, reports_appended, some_reports, some_where, unread_at_first, valid_text, written_refused}
+use Rattle.squawk_cli.proofs.Inputs.{all_appended, input_refused, no_reports, none_where, of_any, of_text, part_appended, some_reports, some_where, unread_at_first, valid_text, written_refused}
 use Rattle.squawk_cli.proofs.command.work.Goals as goal
 
 pub returns-in-Err-clause-read : goal.returns-in-Err-clause-read
@@ -26,53 +24,51 @@ returns-in-Err-lint_input-clause-written g c =
     of_any (given_text c.args.words.now (g.S.Source.left c.args.src.now)) _
     (λ t. written_refused _ c.args.words.now c.as_slice.result.now t _ _ c.in-Err-lint_input.ensures.refusal)
 
-pub returns-then-is_empty-clause-input : goal.returns-then-is_empty-clause-input
-returns-then-is_empty-clause-input g c =
-    let found = c.in-Ok-lint_input.found.items in
+pub returns-then-is_clean-clause-input : goal.returns-then-is_clean-clause-input
+returns-then-is_clean-clause-input g c =
+    let found = c.in-Ok-lint_input.found in
     let field = c.in-Ok-Some.field-0-is in
     let config = c.in-Ok-Some.config-is in
     let value = c.in-Ok-Some.ensures.value in
     let named : Some c.in-Ok-Some.config ≡ config_of c.args.words.now = cc in
     of_text c.args.words.now c.in-Ok-Some.config (g.S.Source.left c.args.src.now) c.in-Ok.text.items c.as_slice.result.now (InputFor Clean c.args.words.now) named c.in-Ok.ensures.text c.as_slice.ensures.value
-    (c.in-Ok-lint_input.ensures.utf8, no_reports c.args.words.now c.in-Ok-Some.config _ found named c.in-Ok-lint_input.ensures.found (none_where c.as_slice-reports.result.now found c.is_empty.result c.as_slice-reports.ensures.value c.is_empty.ensures c.if-is_empty.true))
+    (c.in-Ok-lint_input.ensures.utf8, no_reports c.args.words.now c.in-Ok-Some.config _ found named c.in-Ok-lint_input.ensures.found (none_where found.violations c.is_clean.result c.is_clean.ensures c.if-is_clean.true))
 
-pub returns-then-is_empty-clause-written : goal.returns-then-is_empty-clause-written
-returns-then-is_empty-clause-written g c =
-    let found = c.in-Ok-lint_input.found.items in
+pub returns-then-is_clean-clause-written : goal.returns-then-is_clean-clause-written
+returns-then-is_clean-clause-written g c =
+    let found = c.in-Ok-lint_input.found in
     let field = c.in-Ok-Some.field-0-is in
     let config = c.in-Ok-Some.config-is in
     let value = c.in-Ok-Some.ensures.value in
     let named : Some c.in-Ok-Some.config ≡ config_of c.args.words.now = cc in
     of_text c.args.words.now c.in-Ok-Some.config (g.S.Source.left c.args.src.now) c.in-Ok.text.items c.as_slice.result.now
     (λ t. WrittenFor Clean c.args.words.now t (g.K.Sink.held c.args.out.now) (g.K.Sink.held c.write_found.new.out)) named c.in-Ok.ensures.text c.as_slice.ensures.value
-    (reports_appended c.args.words.now c.in-Ok-Some.config _ found _ _ named c.in-Ok-lint_input.ensures.found
-    (subst (λ v. Appends (g.K.Sink.held c.args.out.now) (g.K.Sink.held c.write_found.new.out) (shown_by c.in-Ok-Some.config.generate v)) c.as_slice-reports.ensures.value c.in-Ok-write_found.ensures.whole))
+    (all_appended c.args.words.now c.in-Ok-Some.config _ found _ _ named c.in-Ok-lint_input.ensures.found c.in-Ok-write_found.ensures.whole)
 
 pub returns-in-Ok-write_found-clause-input : goal.returns-in-Ok-write_found-clause-input
 returns-in-Ok-write_found-clause-input g c =
-    let found = c.in-Ok-lint_input.found.items in
+    let found = c.in-Ok-lint_input.found in
     let field = c.in-Ok-Some.field-0-is in
     let config = c.in-Ok-Some.config-is in
     let value = c.in-Ok-Some.ensures.value in
     let named : Some c.in-Ok-Some.config ≡ config_of c.args.words.now = cc in
     of_text c.args.words.now c.in-Ok-Some.config (g.S.Source.left c.args.src.now) c.in-Ok.text.items c.as_slice.result.now (InputFor Found c.args.words.now) named c.in-Ok.ensures.text c.as_slice.ensures.value
-    (c.in-Ok-lint_input.ensures.utf8, some_reports c.args.words.now c.in-Ok-Some.config _ found named c.in-Ok-lint_input.ensures.found (some_where c.as_slice-reports.result.now found c.is_empty.result c.as_slice-reports.ensures.value c.is_empty.ensures c.if-is_empty.false))
+    (c.in-Ok-lint_input.ensures.utf8, some_reports c.args.words.now c.in-Ok-Some.config _ found named c.in-Ok-lint_input.ensures.found (some_where found.violations c.is_clean.result c.is_clean.ensures c.if-is_clean.false))
 
 pub returns-in-Ok-write_found-clause-written : goal.returns-in-Ok-write_found-clause-written
 returns-in-Ok-write_found-clause-written g c =
-    let found = c.in-Ok-lint_input.found.items in
+    let found = c.in-Ok-lint_input.found in
     let field = c.in-Ok-Some.field-0-is in
     let config = c.in-Ok-Some.config-is in
     let value = c.in-Ok-Some.ensures.value in
     let named : Some c.in-Ok-Some.config ≡ config_of c.args.words.now = cc in
     of_text c.args.words.now c.in-Ok-Some.config (g.S.Source.left c.args.src.now) c.in-Ok.text.items c.as_slice.result.now
     (λ t. WrittenFor Found c.args.words.now t (g.K.Sink.held c.args.out.now) (g.K.Sink.held c.write_found.new.out)) named c.in-Ok.ensures.text c.as_slice.ensures.value
-    (reports_appended c.args.words.now c.in-Ok-Some.config _ found _ _ named c.in-Ok-lint_input.ensures.found
-    (subst (λ v. Appends (g.K.Sink.held c.args.out.now) (g.K.Sink.held c.write_found.new.out) (shown_by c.in-Ok-Some.config.generate v)) c.as_slice-reports.ensures.value c.in-Ok-write_found.ensures.whole))
+    (all_appended c.args.words.now c.in-Ok-Some.config _ found _ _ named c.in-Ok-lint_input.ensures.found c.in-Ok-write_found.ensures.whole)
 
 pub returns-in-Err-Fault-clause-input : goal.returns-in-Err-Fault-clause-input
 returns-in-Err-Fault-clause-input g c =
-    let found = c.in-Ok-lint_input.found.items in
+    let found = c.in-Ok-lint_input.found in
     let field = c.in-Ok-Some.field-0-is in
     let config = c.in-Ok-Some.config-is in
     let value = c.in-Ok-Some.ensures.value in
@@ -82,12 +78,11 @@ returns-in-Err-Fault-clause-input g c =
 
 pub returns-in-Err-Fault-clause-written : goal.returns-in-Err-Fault-clause-written
 returns-in-Err-Fault-clause-written g c =
-    let found = c.in-Ok-lint_input.found.items in
+    let found = c.in-Ok-lint_input.found in
     let field = c.in-Ok-Some.field-0-is in
     let config = c.in-Ok-Some.config-is in
     let value = c.in-Ok-Some.ensures.value in
     let named : Some c.in-Ok-Some.config ≡ config_of c.args.words.now = cc in
     of_text c.args.words.now c.in-Ok-Some.config (g.S.Source.left c.args.src.now) c.in-Ok.text.items c.as_slice.result.now
     (λ t. WrittenFor WriteFault c.args.words.now t (g.K.Sink.held c.args.out.now) (g.K.Sink.held c.write_found.new.out)) named c.in-Ok.ensures.text c.as_slice.ensures.value
-    (part_appended c.args.words.now c.in-Ok-Some.config _ found _ _ named c.in-Ok-lint_input.ensures.found
-    (subst (λ v. AppendsPart (g.K.Sink.held c.args.out.now) (g.K.Sink.held c.write_found.new.out) (shown_by c.in-Ok-Some.config.generate v)) c.as_slice-reports.ensures.value c.in-Err-Fault.ensures.part))
+    (part_appended c.args.words.now c.in-Ok-Some.config _ found _ _ named c.in-Ok-lint_input.ensures.found c.in-Err-Fault.ensures.part)

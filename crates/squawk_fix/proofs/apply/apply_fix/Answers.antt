@@ -1,9 +1,13 @@
 use Rattle.std.specs.Prelude.{string_bytes}
 use Rattle.squawk_fix.proofs.Causes.{bad_range_exactly, made_is_utf8, made_or_no_memory, overlap_exactly, too_long_exactly}
+use Rattle.squawk_fix.proofs.Mending.{made_mends}
 use Rattle.squawk_fix.proofs.apply.apply_fix.Goals as goal
 
 pub returns-clause-utf8 : goal.returns-clause-utf8
 returns-clause-utf8 c = made_is_utf8 c.edited.result
+
+pub returns-clause-mended : goal.returns-clause-mended
+returns-clause-mended c = made_mends string_bytes c.args.text.now c.args.fix.now c.edited.result c.edited.ensures
 
 pub returns-clause-valid : goal.returns-clause-valid
 returns-clause-valid c = made_or_no_memory string_bytes c.args.text.now c.args.fix.now.edits c.edited.result c.edited.ensures

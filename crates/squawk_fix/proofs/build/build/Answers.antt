@@ -1,6 +1,6 @@
 use Rattle.std.proofs.Common.{◌≡◌, ◌∙◌, ◌++◌, ap, refl}
 use Rattle.std.proofs.lemmas.Str.{IsCharBoundary-start}
-use Rattle.squawk_fix.specs.Edited.{edited_from}
+use Rattle.fix_law.specs.Edited.{edited_from}
 use Rattle.squawk_fix.proofs.Steps.{at_edit}
 use Rattle.squawk_fix.proofs.build.build.Goals as goal
 

@@ -1,6 +1,6 @@
 use Rattle.std.proofs.Common.{◌≡◌, ◌++◌, drop, string_bytes}
 use Rattle.std.specs.Str.{IsCharBoundary}
-use Rattle.squawk_fix.specs.Edited.{edited, edited_from}
+use Rattle.fix_law.specs.Edited.{edited, edited_from}
 use Rattle.squawk_fix.specs.Faults.{end_before}
 use Rattle.squawk_fix.proofs.build.build.Given as goal
 

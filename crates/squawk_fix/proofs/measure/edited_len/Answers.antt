@@ -1,5 +1,5 @@
 use Rattle.std.proofs.Common.{◌≡◌, ◌∙◌, ◌≤◌, ◌^◌, ap, length, arith}
-use Rattle.squawk_fix.specs.Edited.{edited}
+use Rattle.fix_law.specs.Edited.{edited}
 use Rattle.squawk_fix.proofs.Steps.{at_edit}
 use Rattle.squawk_fix.proofs.measure.edited_len.Goals as goal
 

@@ -1,5 +1,5 @@
 use Rattle.std.proofs.Common.{◌≡◌, ◌+◌, ◌<◌, ◌≤◌, ◌^◌, drop, length}
-use Rattle.squawk_fix.specs.Edited.{edited, edited_from}
+use Rattle.fix_law.specs.Edited.{edited, edited_from}
 use Rattle.squawk_fix.specs.Faults.{end_before}
 use Rattle.squawk_fix.proofs.measure.edited_len.Given as goal
 

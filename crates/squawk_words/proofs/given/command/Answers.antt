@@ -18,4 +18,5 @@ returns c =
     let is_6 = c.in_ok-with_pg_minor.ensures ∙ ap (λ a. with_name a (codes "pg-minor", true)) is_5 in
     let is_7 = c.in_ok-with_pg_patch.ensures ∙ ap (λ a. with_name a (codes "pg-patch", true)) is_6 in
     let is_8 = c.in_ok-with_generate.ensures ∙ ap (λ a. with_name a (codes "generate", true)) is_7 in
-    IfOk-weaker c.with_flag.result _ _ (λ r h. h ∙ ap (λ a. with_name a (codes "assume-in-transaction", false)) is_8) c.with_flag.ensures
+    let is_9 = c.in_ok-with_assumed.ensures ∙ ap (λ a. with_name a (codes "assume-in-transaction", false)) is_8 in
+    IfOk-weaker c.with_flag-2.result _ _ (λ r h. h ∙ ap (λ a. with_name a (codes "locks", false)) is_9) c.with_flag-2.ensures

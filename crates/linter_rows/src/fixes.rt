@@ -1,0 +1,156 @@
+//! Fixes that are made in a text, those that are not, and what a refusal prints.
+
+ghost use Rattle.std.specs.Prelude.{◌≤◌};
+
+use lint_base::{Edit, Fix, Text};
+use squawk_fix::{FixError, apply_fix};
+use std::alloc::Global;
+use std::process::Abort;
+use std::test::Fail;
+use text_pos::{TextRange, TextSize};
+
+/// An edit: where its range begins and ends, and what it puts there; where it has no text it deletes.
+type Change = (u32, u32, Option<&'static str>);
+
+/// A text, edits, and the edited text.
+const MADE: &[(&str, &[Change], &str)] = &[
+    ("0123456789", &[], "0123456789"),
+    ("", &[(0, 0, Some("a"))], "a"),
+    (
+        "BEGIN;",
+        &[(6, 6, Some("\nCOMMIT;\n"))],
+        "BEGIN;\nCOMMIT;\n",
+    ),
+    (
+        "REINDEX TABLE foo;",
+        &[(13, 13, Some(" concurrently"))],
+        "REINDEX TABLE concurrently foo;",
+    ),
+    (
+        "CLUSTER t USING i;",
+        &[(0, 17, Some("repack (concurrently) t using index i"))],
+        "repack (concurrently) t using index i;",
+    ),
+    (
+        "create table users (id smallint, count int2, version smallserial);",
+        &[
+            (23, 31, Some("bigint")),
+            (39, 43, Some("int8")),
+            (53, 64, Some("bigserial")),
+        ],
+        "create table users (id bigint, count int8, version bigserial);",
+    ),
+    (
+        "CREATE TABLE t (c varchar(100)not null);",
+        &[(18, 30, Some("text"))],
+        "CREATE TABLE t (c textnot null);",
+    ),
+    (
+        "update t set a = 1, b = 2, a = 3;",
+        &[(13, 20, None)],
+        "update t set b = 2, a = 3;",
+    ),
+    (
+        "aéb",
+        &[(0, 1, None), (1, 3, Some("è")), (3, 3, None)],
+        "èb",
+    ),
+];
+
+/// A text, edits, and why they are not made.
+const REFUSED: &[(&str, &[Change], FixError)] = &[
+    (
+        "0123456789",
+        &[(5, 9, None), (7, 8, None)],
+        FixError::Overlap { edit: 1 },
+    ),
+    ("é", &[(1, 2, None)], FixError::BadRange { edit: 0 }),
+    ("é", &[(0, 1, Some("e"))], FixError::BadRange { edit: 0 }),
+    ("abc", &[(2, 4, None)], FixError::BadRange { edit: 0 }),
+    ("abc", &[(4, 4, Some("d"))], FixError::BadRange { edit: 0 }),
+    (
+        "aé",
+        &[(0, 1, None), (2, 2, Some("b"))],
+        FixError::BadRange { edit: 1 },
+    ),
+    (
+        "éa",
+        &[(2, 3, None), (1, 2, None)],
+        FixError::BadRange { edit: 1 },
+    ),
+    (
+        "abcd",
+        &[(1, 3, None), (2, 4, None), (9, 9, None)],
+        FixError::Overlap { edit: 1 },
+    ),
+    (
+        "abcd",
+        &[(0, 1, None), (1, 3, None), (2, 2, Some("x"))],
+        FixError::Overlap { edit: 2 },
+    ),
+];
+
+/// Each refusal, and what it prints.
+const PRINTED: &[(FixError, &str)] = &[
+    (FixError::BadRange { edit: 0 }, "bad range in edit 0"),
+    (
+        FixError::Overlap { edit: 4294967295 },
+        "overlap in edit 4294967295",
+    ),
+    (FixError::TooLong, "text too long"),
+    (FixError::NoMemory, "out of memory"),
+];
+
+fn edit_of(start: u32, end: u32, text: Option<&'static str>) -> Edit
+    requires { start ≤ end }
+{
+    let range = TextRange::new(TextSize::new(start), TextSize::new(end));
+    match text {
+        Some(text) => Edit::replace(range, Text::fixed(text)),
+        None => Edit::delete(range),
+    }
+}
+
+fn fix_of(rt: &impl Abort, alloc: Global, changes: &[Change]) -> Result<Fix, Fail> {
+    let mut edits = Vec::new(alloc);
+    for (start, end, text) in changes {
+        assert!(rt; *start <= *end);
+        edits.push(edit_of(*start, *end, *text))?;
+    }
+    Ok(Fix {
+        title: Text::fixed("t"),
+        edits,
+    })
+}
+
+#[test]
+fn fixes_are_made(rt: HostRuntime) -> Result<(), Fail> {
+    for (text, changes, edited) in MADE {
+        let fix = fix_of(&rt, rt.alloc(), changes)?;
+        assert!(rt; text.len() < 4294967296 && fix.edits.len() < 4294967296);
+        assert_eq!(rt; apply_fix(rt.alloc(), text, &fix)?.as_str(), *edited);
+    }
+    Ok(())
+}
+
+#[test]
+fn fixes_are_refused(rt: HostRuntime) -> Result<(), Fail> {
+    for (text, changes, why) in REFUSED {
+        let fix = fix_of(&rt, rt.alloc(), changes)?;
+        assert!(rt; text.len() < 4294967296 && fix.edits.len() < 4294967296);
+        assert_eq!(rt;
+            apply_fix(rt.alloc(), text, &fix).err(),
+            Some(*why),
+            "at {text:?}"
+        );
+    }
+    Ok(())
+}
+
+#[test]
+fn refusals_are_printed(rt: HostRuntime) -> Result<(), Fail> {
+    for (why, printed) in PRINTED {
+        assert_eq!(rt; format!(in rt.alloc(); "{why}")?.as_str(), *printed);
+    }
+    Ok(())
+}

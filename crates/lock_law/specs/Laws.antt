@@ -1,0 +1,25 @@
+-- What a clean answer means.
+use Rattle.std.specs.Prelude.{◌≡◌, true, All}
+use Rattle.sql_tree.specs.Statement.{Tree, IsTree}
+use Rattle.lint_base.specs.declared.settings.LinterSettings.{LinterSettings}
+use Rattle.lint_base.specs.RuleSets.{Rules, default_rules}
+use Rattle.lock_work.specs.Plain.{plain}
+use Rattle.lock_work.specs.Works.{works}
+use Rattle.lock_law.specs.Clean.{HasDefaults, IsClean, IsYoung}
+use Rattle.lock_law.specs.Validations.{ValidatesApart}
+
+-- The default set has the rules that these laws ask for.
+abbrev pub DefaultRulesSuffice : Type 0
+DefaultRulesSuffice = HasDefaults default_rules
+
+-- All work of a plain text of which nothing is reported is on tables that were created in the same transaction.
+abbrev pub CleanAnswersHaveNoOldWork : Type 0
+CleanAnswersHaveNoOldWork =
+    (tree : Tree) (rules : Rules) (settings : LinterSettings) → IsTree tree → IsClean tree rules settings → plain tree ≡ true
+    → All IsYoung (works tree settings)
+
+-- A text of which nothing is reported validates each constraint in another transaction than the one that added it.
+abbrev pub CleanAnswersValidateApart : Type 0
+CleanAnswersValidateApart =
+    (tree : Tree) (rules : Rules) (settings : LinterSettings) → IsClean tree rules settings
+    → ValidatesApart settings.assume_in_transaction tree

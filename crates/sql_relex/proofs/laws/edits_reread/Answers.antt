@@ -1,0 +1,21 @@
+use Rattle.sql_relex.proofs.Beside.{no_word_after, letter_follows}
+use Rattle.sql_relex.proofs.Edits.{concurrently_rereads, word_rereads, set_rereads, word_ends}
+use Rattle.sql_relex.proofs.laws.edits_reread.Goals as goal
+
+pub returns-clause-concurrently : goal.returns-clause-concurrently
+returns-clause-concurrently c = concurrently_rereads
+
+pub returns-clause-word : goal.returns-clause-word
+returns-clause-word c = word_rereads
+
+pub returns-clause-set : goal.returns-clause-set
+returns-clause-set c = set_rereads
+
+pub returns-clause-word_ends : goal.returns-clause-word_ends
+returns-clause-word_ends c = word_ends
+
+pub returns-clause-no_word : goal.returns-clause-no_word
+returns-clause-no_word c = no_word_after
+
+pub returns-clause-letter : goal.returns-clause-letter
+returns-clause-letter c = letter_follows

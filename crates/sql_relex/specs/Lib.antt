@@ -1,0 +1,4 @@
+pub mod Exchange
+pub mod Edits
+pub mod Beside
+pub mod Terminals

@@ -1,0 +1,35 @@
+-- The law of fixes, for the text that is made.
+use Rattle.std.specs.Prelude.{◌≡◌, ℕ, List, [], ◌∷◌, All, Some}
+use Rattle.sql_tree.specs.Statement.{Tree, IsTree}
+use Rattle.lint_base.specs.declared.settings.LinterSettings.{LinterSettings}
+use Rattle.lint_base.specs.Fixes.{FixValue}
+use Rattle.lint_base.specs.RuleSets.{Rules}
+use Rattle.pass_session.specs.Timeouts.{reports_of_require_timeout_settings}
+use Rattle.fix_law.specs.Edited.{edited}
+use Rattle.fix_law.specs.Mended.{Table, Mended, WithWord, builds, dropped, rebuilt, detached}
+use Rattle.fix_law.specs.Timeouts.{SetMended}
+
+-- The tables of RequireConcurrentIndexCreation, RequireConcurrentIndexDeletion, RequireConcurrentReindex and
+-- RequireConcurrentPartitionDetach.
+abbrev pub word_tables : List Table
+word_tables = builds ∷ dropped ∷ rebuilt ∷ detached ∷ []
+
+-- If the text has a tree, and some report of it has this fix, whichever rules are enabled and whatever the settings are, then the
+-- text `made` is the edited one and has a tree, its terminals are those of the old one but for the word CONCURRENTLY, and the
+-- rule reports nothing where that report began.
+abbrev pub WordMends : List ℕ → FixValue → List ℕ → Table → Type 0
+WordMends text fix made table =
+    (tree : Tree) (rules : Rules) (settings : LinterSettings) → tree.text ≡ text → IsTree tree →
+    All (λ v. v.fix ≡ Some fix → (made ≡ edited tree.text fix.edits) × Mended table tree rules settings v fix.edits (WithWord tree)) (table tree rules settings)
+
+-- The same for the reports of RequireLockTimeout and RequireStatementTimeout: the statements of `made` are a Set and those of the
+-- old text, and the rule reports nothing of it at all.
+abbrev pub SetMends : List ℕ → FixValue → List ℕ → Type 0
+SetMends text fix made =
+    (tree : Tree) (rules : Rules) → tree.text ≡ text → IsTree tree →
+    All (λ v. v.fix ≡ Some fix → (made ≡ edited tree.text fix.edits) × SetMended v.code tree rules fix.edits) (reports_of_require_timeout_settings tree rules)
+
+-- It is mended, whichever of these rules the fix is of.
+pub record IsMended (text : List ℕ) (fix : FixValue) (made : List ℕ) : Type 0 where
+  pub words : All (WordMends text fix made) word_tables
+  pub sets : SetMends text fix made
