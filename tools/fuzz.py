@@ -1,14 +1,14 @@
 #!/usr/bin/env python3
 """A fuzzer: runs the linter on made texts and checks what each run prints.
 
-    tools/fuzz.py PROGRAM [--count N] [--seed S] [--maker NAME] [--words WORDS] [--jobs J]
+    tools/fuzz.py PROGRAM [--count N] [--seed S] [--maker NAME] [--words WORDS] [--jobs J] [--locks-only]
 
 PROGRAM is the built linter. N texts (1000) are made, the text i from the seed S + i, so that `--seed` and `--count 1` make one
 text again. Makers are `grammar` (statements that the linter looks into), `tokens` (tokens at random), `cases` (texts of cases/
 with bytes or tokens dropped, doubled or exchanged) and `bytes` (bytes at random); each text takes one of the four, unless
 `--maker` names it or `locks` (transactions over few tables, with work that takes long locks). WORDS are the words of each run in
 one argument; without `--words` each text takes some at random, with all rules that are off by default. J processes (2) run at
-once. What is checked of each text:
+once. With `--locks-only` the last of these checks alone is made, in two runs of the program for each text. What is checked of each text:
 
 - a run ends within five seconds, with a line on the error stream that fits its status (README.md), and prints on standard output
   only with status 0 and 1; status 3 comes exactly where the text is not UTF-8; a place on the error stream lies in the text;
@@ -705,12 +705,18 @@ def check_text(program, words, text, number, counts):
         check_locks(program, words, text, counts)
 
 
+def check_lock_text(program, words, text, number, counts):
+    """The checks of `--locks` alone, of a text that is read."""
+    check_locks(program, words, text, counts)
+    counts["valid", ""] += 1
+
+
 # The whole.
 
-def failure_of(program, words, text, number, counts):
+def failure_of(check, program, words, text, number, counts):
     """The kind of the failure and what was found, or nothing."""
     try:
-        check_text(program, words, text, number, counts)
+        check(program, words, text, number, counts)
     except Failure as failure:
         return failure.args
     return None
@@ -731,13 +737,13 @@ def shrunk(pieces, fails):
     return pieces
 
 
-def smallest(program, words, text, number, kind):
+def smallest(check, program, words, text, number, kind):
     """A shorter text with a failure of the same kind: first tokens are left out, then characters."""
     left = [TRIES]
 
     def fails(tried):
         left[0] -= 1
-        failure = failure_of(program, words, tried, number, collections.Counter()) if left[0] >= 0 else None
+        failure = failure_of(check, program, words, tried, number, collections.Counter()) if left[0] >= 0 else None
         return failure is not None and failure[0] == kind
 
     for cut in (TOKEN.findall, list):
@@ -749,7 +755,7 @@ def smallest(program, words, text, number, kind):
 SHRUNK = {NO_END}  # the kinds of failure that are not cut down, or were in this process
 
 
-def tried(program, maker, words, seed):
+def tried(check, program, maker, words, seed):
     """One text of a seed: what was counted, and its failure as lines to print."""
     chance = random.Random(seed)
     maker = maker or chance.choice(list(MAKERS))
@@ -757,7 +763,7 @@ def tried(program, maker, words, seed):
     words = shlex.split(words) if words is not None else random_words(chance)
     number = chance.randrange(1 << 20)
     counts = collections.Counter({("texts", maker): 1})
-    failure = failure_of(program, words, text, number, counts)
+    failure = failure_of(check, program, words, text, number, counts)
     if failure is None:
         return counts, []
     kind, found = failure
@@ -765,15 +771,15 @@ def tried(program, maker, words, seed):
     lines = [f"FAILED: {kind}", f"  seed {seed}, words {words}", f"  text {text!r}", f"  {found}"]
     if kind not in SHRUNK:
         SHRUNK.add(kind)
-        lines.append(f"  smaller {smallest(program, words, text, number, kind)!r}")
+        lines.append(f"  smaller {smallest(check, program, words, text, number, kind)!r}")
     return counts, lines
 
 
-def tried_chunk(program, maker, words, seeds):
+def tried_chunk(check, program, maker, words, seeds):
     """The texts of some seeds: what was counted, and the lines to print."""
     counts, lines = collections.Counter(), []
     for seed in seeds:
-        more, failed = tried(program, maker, words, seed)
+        more, failed = tried(check, program, maker, words, seed)
         counts += more
         lines += failed
     return counts, lines
@@ -801,10 +807,12 @@ def main():
     reader.add_argument("--maker", choices=[*MAKERS, "locks"])
     reader.add_argument("--words")
     reader.add_argument("--jobs", type=int, default=2)
+    reader.add_argument("--locks-only", action="store_true")
     given = reader.parse_args()
     ends = given.seed + given.count
     chunks = [range(first, min(first + CHUNK, ends)) for first in range(given.seed, ends, CHUNK)]
-    work = functools.partial(tried_chunk, given.program, given.maker, given.words)
+    check = check_lock_text if given.locks_only else check_text
+    work = functools.partial(tried_chunk, check, given.program, given.maker, given.words)
     counts = collections.Counter()
     with multiprocessing.Pool(given.jobs) as pool:
         for more, lines in pool.imap_unordered(work, chunks):

@@ -54,10 +54,10 @@ starts_ascend t ks x y lexed h g =
 
 -- ---- names
 
-text_front : (t u : Text) (c : ℕ) (k : Tok) → Agree t u c → k.start ≤ k.end → k.end ≤ c → text_of t k ≡ text_of u k
+pub text_front : (t u : Text) (c : ℕ) (k : Tok) → Agree t u c → k.start ≤ k.end → k.end ≤ c → text_of t k ≡ text_of u k
 text_front t u c k a p q = take_same (drop k.start t) (drop k.start u) (c - k.start) (k.end - k.start) (omega arith) (agree_drop t u c k.start (omega arith) a)
 
-text_after : (t u : Text) (b c : ℕ) (k : Tok) → drop b t ≡ drop c u → b ≤ k.start → k.start ≤ k.end → text_of t k ≡ text_of u (tok_moved b c k)
+pub text_after : (t u : Text) (b c : ℕ) (k : Tok) → drop b t ≡ drop c u → b ≤ k.start → k.start ≤ k.end → text_of t k ≡ text_of u (tok_moved b c k)
 text_after t u b c k same p q =
     let place : b + (k.start - b) ≡ k.start = omega arith in
     let size : c + (k.end - b) - (c + (k.start - b)) ≡ k.end - k.start = omega arith in

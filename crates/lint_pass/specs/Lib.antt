@@ -4,6 +4,7 @@ pub mod Blocks
 pub mod BlockPlace
 pub mod BlockWalk
 pub mod Cleared
+pub mod Enabled
 pub mod Fixes
 pub mod FixLaws
 pub mod Laws

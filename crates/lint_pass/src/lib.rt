@@ -21,6 +21,7 @@ mod ruled;
 mod statement_pass;
 mod step;
 mod steps;
+mod where_enabled;
 
 pub use bans::{BanPass, BanRows, Spot};
 pub use block_place::{blocks_ended_before, is_in_block};
@@ -37,3 +38,4 @@ pub use ruled::{RuledRows, report_ruled};
 pub use statement_pass::StatementPass;
 pub use step::StepPass;
 pub use steps::Steps;
+pub use where_enabled::WhereEnabled;

@@ -52,6 +52,12 @@ const WORKS: &[(bool, &str, &str, bool)] = &[
         "1: `share` on 41..42 new\n",
         true,
     ),
+    (
+        true,
+        "CREATE TABLE t (id int); CREATE INDEX ON t (id); -- squawk-disable-assume-in-transaction",
+        "1: `share` on 41..42 old\n",
+        true,
+    ),
 ];
 
 fn settings(alloc: Global, assume: bool) -> Result<LinterSettings, Fail> {

@@ -30,13 +30,15 @@ use Rattle.lint_node.specs.Same.{same_kind, same_piece}
 use Rattle.lint_pass.specs.declared.nodes.Node.{Node}
 use Rattle.lint_pass.specs.declared.nodes.Node.TheVariants as node
 use Rattle.lint_pass.specs.Bans.{BanRow, ban_report, bans_on, by_row, by_rows, fits, on_rows}
+use Rattle.lint_pass.specs.Cleared.{IsCleared}
 use Rattle.lint_pass.specs.NodeWalk.{at_action, at_constraint, at_parts, at_piece}
-use Rattle.lint_transaction.specs.Transaction.{no_stmt, stmt_at}
+use Rattle.lint_transaction.specs.Transaction.{is_new, no_stmt, stmt_at}
 use Rattle.lint_transaction.proofs.EarlierLaws.{and_true}
 use Rattle.lock_work.specs.Laws.{BirthsAreNew}
-use Rattle.lock_work.specs.Machine.{before}
+use Rattle.lock_work.specs.Machine.{before, is_young}
 use Rattle.lock_work.specs.Plain.{adds_array, is_array_default, is_unplain, is_unplain_end, is_unplain_kind, is_valued_reindex, plain, sets_schema, sets_search_path}
-use Rattle.lock_work.specs.Works.{is_old, works, works_at}
+use Rattle.lock_work.specs.Works.{is_assumed, is_old, works, works_at}
+use Rattle.lock_work.proofs.AssumedLaws.{assumed_where_cleared}
 use Rattle.pass_constraint.specs.AddedConstraints as added
 use Rattle.pass_constraint.specs.FieldWithDefault as values
 use Rattle.pass_lock.specs.ConstraintMissingNotValid as constraint
@@ -172,10 +174,16 @@ new_alike settings tree i (body.Alter None actions) = refl
 new_alike settings tree i (body.Alter (Some path) actions) = refl
 new_alike settings tree i _ = refl
 
-old_alike : BirthsAreNew → (tree : Tree) → IsTree tree → (settings : LinterSettings) (i : ℕ) (path : Option Span)
-    → is_old tree (before settings.assume_in_transaction tree i) path ≡ not (constraint.is_new_table settings tree i path)
-old_alike births tree is settings i None = refl
-old_alike births tree is settings i (Some path) = ap not (births settings.assume_in_transaction tree is (path_cuts tree.text tree.toks path) i)
+-- the machine's start is that of the passes
+young_alike : BirthsAreNew → (tree : Tree) → IsTree tree → (settings : LinterSettings) → IsCleared tree settings → (i : ℕ) (path : List (List ℕ))
+    → is_young (before (is_assumed settings tree) tree i) path ≡ is_new settings.assume_in_transaction tree path i
+young_alike births tree is settings cleared i path =
+    births (is_assumed settings tree) tree is path i ∙ ap (λ assumed. is_new assumed tree path i) (assumed_where_cleared tree settings cleared)
+
+old_alike : BirthsAreNew → (tree : Tree) → IsTree tree → (settings : LinterSettings) → IsCleared tree settings → (i : ℕ) (path : Option Span)
+    → is_old tree (before (is_assumed settings tree) tree i) path ≡ not (constraint.is_new_table settings tree i path)
+old_alike births tree is settings cleared i None = refl
+old_alike births tree is settings cleared i (Some path) = ap not (young_alike births tree is settings cleared i (path_cuts tree.text tree.toks path))
 
 -- ---- statements
 
@@ -230,11 +238,11 @@ quiet_here tree settings i silent is_plain l =
 -- ---- texts
 
 pub clean_answers_have_no_old_work : BirthsAreNew → CleanAnswersHaveNoOldWork
-clean_answers_have_no_old_work births tree rules settings is clean is_plain =
+clean_answers_have_no_old_work births tree rules settings is cleared clean is_plain =
     All-from_recursion IsYoung (works tree settings)
     (each-pieces IsYoung (works_at settings tree) (length tree.stmts)
-    (λ i l. statement_young settings tree (before settings.assume_in_transaction tree i) i (stmt_at tree i)
+    (λ i l. statement_young settings tree (before (is_assumed settings tree) tree i) i (stmt_at tree i)
     (constraint.is_new_table settings tree i (path_in (stmt_at tree i).body))
-    (λ path. births settings.assume_in_transaction tree is path i)
-    (old_alike births tree is settings i (path_in (stmt_at tree i).body))
+    (young_alike births tree is settings cleared i)
+    (old_alike births tree is settings cleared i (path_in (stmt_at tree i).body))
     (quiet_here tree settings i (silent_at tree rules settings clean i l) is_plain l)))

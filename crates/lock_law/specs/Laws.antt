@@ -3,6 +3,7 @@ use Rattle.std.specs.Prelude.{◌≡◌, true, All}
 use Rattle.sql_tree.specs.Statement.{Tree, IsTree}
 use Rattle.lint_base.specs.declared.settings.LinterSettings.{LinterSettings}
 use Rattle.lint_base.specs.RuleSets.{Rules, default_rules}
+use Rattle.lint_pass.specs.Cleared.{IsCleared}
 use Rattle.lock_work.specs.Plain.{plain}
 use Rattle.lock_work.specs.Works.{works}
 use Rattle.lock_law.specs.Clean.{HasDefaults, IsClean, IsYoung}
@@ -12,11 +13,12 @@ use Rattle.lock_law.specs.Validations.{ValidatesApart}
 abbrev pub DefaultRulesSuffice : Type 0
 DefaultRulesSuffice = HasDefaults default_rules
 
--- All work of a plain text of which nothing is reported is on tables that were created in the same transaction.
+-- All work of a plain text of which nothing is reported, under cleared settings, is on tables that were created in the same
+-- transaction.
 abbrev pub CleanAnswersHaveNoOldWork : Type 0
 CleanAnswersHaveNoOldWork =
-    (tree : Tree) (rules : Rules) (settings : LinterSettings) → IsTree tree → IsClean tree rules settings → plain tree ≡ true
-    → All IsYoung (works tree settings)
+    (tree : Tree) (rules : Rules) (settings : LinterSettings) → IsTree tree → IsCleared tree settings → IsClean tree rules settings
+    → plain tree ≡ true → All IsYoung (works tree settings)
 
 -- A text of which nothing is reported validates each constraint in another transaction than the one that added it.
 abbrev pub CleanAnswersValidateApart : Type 0

@@ -10,7 +10,8 @@ pub fn default_rules_suffice()
 {}
 
 /// A plain text of which the rules of the default set report nothing does no listed work on an old table: it names the table of
-/// each work, and creates it in the transaction that does the work.
+/// each work, and creates it in the transaction that does the work. Where a comment of the text says that no transaction is to be
+/// assumed, the settings assume none: passes take them as they are.
 pub fn clean_answers_have_no_old_work()
     ensures { CleanAnswersHaveNoOldWork }
 {

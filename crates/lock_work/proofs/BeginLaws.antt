@@ -18,7 +18,7 @@ use Rattle.sql_tree.specs.Statement.{Tree, IsTree, final_kind, body_shape_of, bo
 use Rattle.lint_transaction.specs.Transaction.{is_begin_kind, begins, ends_by, created_by, no_stmt, stmt_at}
 use Rattle.lock_work.specs.Laws.{BeginsAlone}
 
-not_both : {A : Type 0} → true ≡ false → A
+pub not_both : {A : Type 0} → true ≡ false → A
 not_both e = absurd (grind (arith, e))
 
 -- ---- one form

@@ -7,8 +7,9 @@ use Rattle.lint_transaction.specs.Transaction.{begins, ends_by, chains_by, creat
 use Rattle.sql_tree.specs.declared.nodes.Body.{Body}
 use Rattle.sql_tree.specs.declared.nodes.Body.TheVariants as body
 use Rattle.sql_tree.specs.declared.kinds.StmtKind.{StmtKind}
+use Rattle.lint_transaction.proofs.EarlierLaws.{and_true}
 use Rattle.lint_transaction.proofs.TrackingLaws.{is_open-suc, is_new-suc, open_at_start}
-use Rattle.lock_work.proofs.BeginLaws.{begins_alone}
+use Rattle.lock_work.proofs.BeginLaws.{begins_alone, not_both}
 use Rattle.lock_work.specs.Laws.{count_below, BeginsAlone, BirthsAreNew, BlocksAreOpen, NumbersCount}
 use Rattle.lock_work.specs.Machine.{before, birth, is_number, is_young, running}
 use Rattle.lock_work.proofs.MachineLaws.{birth_with}
@@ -55,13 +56,6 @@ at_most-next o n false false false h = at_most-up o n (n + 1) h (omega arith)
 and_false : (a : Bool) → (a && false) ≡ false
 and_false true = refl
 and_false false = refl
-
-and_true : (a : Bool) → (a && true) ≡ a
-and_true true = refl
-and_true false = refl
-
-not_both : {A : Type 0} → true ≡ false → A
-not_both e = absurd (grind (arith, e))
 
 -- whether a path is born under the running number, after a statement that ends, chains, begins or creates the path
 pub young_next : (o : Option ℕ) (n : ℕ) (inside e ch b c w : Bool) → at_most o n → (e ≡ true → c ≡ false) → (b ≡ true → c ≡ false) → is_number (running_of inside n) o ≡ w

@@ -1,5 +1,6 @@
 pub mod ActionLaws
 pub mod ArrayLevels
+pub mod AssumedLaws
 pub mod BeginLaws
 pub mod BirthLaws
 pub mod MachineLaws

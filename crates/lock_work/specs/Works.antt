@@ -26,6 +26,7 @@ use Rattle.sql_tree.specs.Path.{path_cuts}
 use Rattle.sql_tree.specs.Range.{span_range_of}
 use Rattle.sql_tree.specs.Statement.{Tree}
 use Rattle.lint_base.specs.declared.settings.LinterSettings.{LinterSettings}
+use Rattle.lint_ignore.specs.Comment.{has_disable_comment}
 use Rattle.lint_lock.specs.declared.lock.LockKind.{LockKind}
 use Rattle.lint_lock.specs.declared.lock.LockKind.TheVariants.{Share, AccessExclusive}
 use Rattle.lint_lock.specs.Lock.{lock_of_action}
@@ -141,8 +142,13 @@ abbrev pub works_of : LinterSettings → Tree → Machine → ℕ → Stmt → L
 works_of settings tree m i s =
     work_if tree m i (indexed_table s.body) (index_lock s) ++ works_of_actions settings tree m i (altered_path s) (table_actions s)
 
+-- A transaction is open before the first statement: the settings assume one, and no comment of the text says that none is to be
+-- assumed.
+abbrev pub is_assumed : LinterSettings → Tree → Bool
+is_assumed settings tree = settings.assume_in_transaction && not (has_disable_comment tree)
+
 abbrev pub works_at : LinterSettings → Tree → ℕ → List Work
-works_at settings tree i = works_of settings tree (before settings.assume_in_transaction tree i) i (stmt_at tree i)
+works_at settings tree i = works_of settings tree (before (is_assumed settings tree) tree i) i (stmt_at tree i)
 
 -- the work of a text, in order
 abbrev pub works : Tree → LinterSettings → List Work

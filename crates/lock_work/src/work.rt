@@ -6,13 +6,14 @@ ghost use Rattle.lint_transaction.specs.Transaction.{stmt_at};
 ghost use Rattle.lock_work.specs.Machine as state;
 ghost use Rattle.lock_work.specs.Machine.{before};
 ghost use Rattle.lock_work.specs.MachineWalk.{IsMachine};
-ghost use Rattle.lock_work.specs.Works.{range_of, work_if, works, works_at, works_of, works_of_actions};
+ghost use Rattle.lock_work.specs.Works.{is_assumed, range_of, work_if, works, works_at, works_of, works_of_actions};
 ghost use Rattle.std.specs.Option.{option_map};
 
 use crate::action_lock::action_lock;
 use crate::index_lock::{index_lock, indexed_table};
 use crate::machine::Machine;
 use lint_base::LinterSettings;
+use lint_ignore::has_disable_assume_in_transaction;
 use lint_lock::LockKind;
 use lint_node::{altered_path, table_actions};
 use sql_token::Span;
@@ -129,11 +130,18 @@ fn step(
     ensures few { machine.new.number ≤ i + 1 }
     ensures kept { OnOk result ((assumed : Bool) → IsMachine p.now (before assumed p.now i) machine.old
         → IsMachine p.now (before assumed p.now (i + 1)) machine.new) }
-    ensures listed { OnOk result (IsMachine p.now (before set.now.assume_in_transaction p.now i) machine.old
+    ensures listed { OnOk result (IsMachine p.now (before (is_assumed set.now p.now) p.now i) machine.old
         → list.new.items ≡ list.old.items ++ works_at set.now p.now i) }
 {
     push_works(list, p, set, machine, i, s)?;
     machine.update(p, s)
+}
+
+/// Whether a transaction is open before the first statement.
+fn is_assumed(p: &Parse<'_>, set: &LinterSettings) -> bool
+    ensures { result ≡ is_assumed set.now p.now }
+{
+    set.assume_in_transaction && !has_disable_assume_in_transaction(p)
 }
 
 /// The statements of a tree, of which there are fewer than 2^32.
@@ -153,9 +161,9 @@ fn statements<'a>(p: &'a Parse<'_>) -> &'a [Stmt]
 /// - A change of a column's type.
 /// - DETACH PARTITION with neither CONCURRENTLY nor FINALIZE.
 ///
-/// Whether a transaction is open at the start is taken from the settings as they are: where a comment of the text turns that off,
-/// the caller clears it first. A DEFAULT is judged by their version and their functions. Each table is found by a hash of its
-/// names, so a long text takes one walk. The error comes when memory runs out, and no other way.
+/// A transaction is open at the start where the settings assume one, unless a comment of the text says that none is to be assumed.
+/// A DEFAULT is judged by their version and their functions. Each table is found by a hash of its names, so a long text takes one
+/// walk. The error comes when memory runs out, and no other way.
 pub fn lock_work(
     alloc: Global,
     file: &Parse<'_>,
@@ -165,7 +173,8 @@ pub fn lock_work(
 {
     let stmts = statements(file);
     let count = stmts.len() as u32;
-    let mut machine = Machine::new(alloc, set.assume_in_transaction);
+    let assumed = is_assumed(file, set);
+    let mut machine = Machine::new(alloc, assumed);
     let mut list = Vec::new(alloc);
     for i in 0..count {
         step(&mut list, &mut machine, file, set, i, &stmts[i as usize])?;

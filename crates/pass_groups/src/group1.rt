@@ -1,7 +1,7 @@
 //! The passes from the first to the eighth of the linter's order.
 
 use lint_base::{LinterSettings, Reports, RuleSet};
-use lint_pass::{Block, Pair, StepPass};
+use lint_pass::{Block, Pair, StepPass, WhereEnabled};
 use pass_constraint::{
     AddingFieldWithDefault, AddingForeignKeyConstraint, AddingPrimaryKeyConstraint,
     AddingRequiredField,
@@ -14,37 +14,41 @@ use sql_tree::{Parse, Stmt};
 use std::alloc::Global;
 use text_pos::NoMemory;
 
-/// Its members, in order.
-type Members = Pair<
+/// Its members, in order, asked only where some rule of theirs is enabled.
+type Members = WhereEnabled<
     Pair<
-        Pair<AddingFieldWithDefault, AddingForeignKeyConstraint>,
-        Pair<AddingNotNullField, AddingPrimaryKeyConstraint>,
-    >,
-    Pair<
-        Pair<AddingRequiredField, BanDropDatabase>,
-        Pair<BanCharField, BanConcurrentIndexCreationInTransaction>,
+        Pair<
+            Pair<AddingFieldWithDefault, AddingForeignKeyConstraint>,
+            Pair<AddingNotNullField, AddingPrimaryKeyConstraint>,
+        >,
+        Pair<
+            Pair<AddingRequiredField, BanDropDatabase>,
+            Pair<BanCharField, BanConcurrentIndexCreationInTransaction>,
+        >,
     >,
 >;
 
-const MEMBERS: Members = Pair {
-    first: Pair {
+const MEMBERS: Members = WhereEnabled {
+    pass: Pair {
         first: Pair {
-            first: AddingFieldWithDefault,
-            second: AddingForeignKeyConstraint,
+            first: Pair {
+                first: AddingFieldWithDefault,
+                second: AddingForeignKeyConstraint,
+            },
+            second: Pair {
+                first: AddingNotNullField,
+                second: AddingPrimaryKeyConstraint,
+            },
         },
         second: Pair {
-            first: AddingNotNullField,
-            second: AddingPrimaryKeyConstraint,
-        },
-    },
-    second: Pair {
-        first: Pair {
-            first: AddingRequiredField,
-            second: BanDropDatabase,
-        },
-        second: Pair {
-            first: BanCharField,
-            second: BanConcurrentIndexCreationInTransaction,
+            first: Pair {
+                first: AddingRequiredField,
+                second: BanDropDatabase,
+            },
+            second: Pair {
+                first: BanCharField,
+                second: BanConcurrentIndexCreationInTransaction,
+            },
         },
     },
 };

@@ -1,7 +1,7 @@
 //! The passes from the ninth to the 16th of the linter's order.
 
 use lint_base::{LinterSettings, Reports, RuleSet};
-use lint_pass::{Block, Pair, StepPass};
+use lint_pass::{Block, Pair, StepPass, WhereEnabled};
 use pass_constraint::DisallowUniqueConstraint;
 use pass_drop::{BanDropColumn, BanDropNotNull, BanDropTable};
 use pass_lock::ConstraintMissingNotValid;
@@ -43,14 +43,18 @@ pub const AFTER_CONSTRAINTS: AfterConstraints = Pair {
     second: PreferBigintOverSmallint,
 };
 
-/// Its members, in order.
-type Members = Pair<BeforeConstraints, Pair<ConstraintMissingNotValid, AfterConstraints>>;
+/// Its members, in order, asked only where some rule of theirs is enabled.
+type Members = WhereEnabled<
+    Pair<BeforeConstraints, Pair<ConstraintMissingNotValid, AfterConstraints>>,
+>;
 
-const MEMBERS: Members = Pair {
-    first: BEFORE_CONSTRAINTS,
-    second: Pair {
-        first: ConstraintMissingNotValid,
-        second: AFTER_CONSTRAINTS,
+const MEMBERS: Members = WhereEnabled {
+    pass: Pair {
+        first: BEFORE_CONSTRAINTS,
+        second: Pair {
+            first: ConstraintMissingNotValid,
+            second: AFTER_CONSTRAINTS,
+        },
     },
 };
 

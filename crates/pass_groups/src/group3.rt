@@ -1,7 +1,7 @@
 //! The passes from the 17th to the 24th of the linter's order.
 
 use lint_base::{LinterSettings, Reports, RuleSet};
-use lint_pass::{Block, Pair, StepPass};
+use lint_pass::{Block, Pair, StepPass, WhereEnabled};
 use pass_compat::{RenamingColumn, RenamingTable};
 use pass_history::PreferRobustStmts;
 use pass_lock::RequireConcurrentIndexCreation;
@@ -38,12 +38,14 @@ pub const BEFORE_BUILDS: BeforeBuilds = Pair {
     },
 };
 
-/// Its members, in order.
-type Members = Pair<BeforeBuilds, RequireConcurrentIndexCreation>;
+/// Its members, in order, asked only where some rule of theirs is enabled.
+type Members = WhereEnabled<Pair<BeforeBuilds, RequireConcurrentIndexCreation>>;
 
-const MEMBERS: Members = Pair {
-    first: BEFORE_BUILDS,
-    second: RequireConcurrentIndexCreation,
+const MEMBERS: Members = WhereEnabled {
+    pass: Pair {
+        first: BEFORE_BUILDS,
+        second: RequireConcurrentIndexCreation,
+    },
 };
 
 /// The passes from the 17th to the 24th of the linter's order: [`PreferIdentity`], [`PreferRepack`], [`PreferRobustStmts`],

@@ -1,7 +1,7 @@
 //! The passes from the 25th to the 32nd of the linter's order.
 
 use lint_base::{LinterSettings, Reports, RuleSet};
-use lint_pass::{Block, Pair, StepPass};
+use lint_pass::{Block, Pair, StepPass, WhereEnabled};
 use pass_compat::{BanAlterDomainWithAddConstraint, BanCreateDomainWithConstraint};
 use pass_lock::{BanTruncateCascade, RequireConcurrentIndexDeletion};
 use pass_session::{BanUncommittedTransaction, RequireTimeoutSettings, TransactionNesting};
@@ -10,37 +10,41 @@ use sql_tree::{Parse, Stmt};
 use std::alloc::Global;
 use text_pos::NoMemory;
 
-/// Its members, in order.
-type Members = Pair<
+/// Its members, in order, asked only where some rule of theirs is enabled.
+type Members = WhereEnabled<
     Pair<
-        Pair<RequireConcurrentIndexDeletion, BanCreateDomainWithConstraint>,
-        Pair<BanAlterDomainWithAddConstraint, TransactionNesting>,
-    >,
-    Pair<
-        Pair<BanTruncateCascade, RequireTimeoutSettings>,
-        Pair<BanUncommittedTransaction, RequireEnumValueOrdering>,
+        Pair<
+            Pair<RequireConcurrentIndexDeletion, BanCreateDomainWithConstraint>,
+            Pair<BanAlterDomainWithAddConstraint, TransactionNesting>,
+        >,
+        Pair<
+            Pair<BanTruncateCascade, RequireTimeoutSettings>,
+            Pair<BanUncommittedTransaction, RequireEnumValueOrdering>,
+        >,
     >,
 >;
 
-const MEMBERS: Members = Pair {
-    first: Pair {
+const MEMBERS: Members = WhereEnabled {
+    pass: Pair {
         first: Pair {
-            first: RequireConcurrentIndexDeletion,
-            second: BanCreateDomainWithConstraint,
+            first: Pair {
+                first: RequireConcurrentIndexDeletion,
+                second: BanCreateDomainWithConstraint,
+            },
+            second: Pair {
+                first: BanAlterDomainWithAddConstraint,
+                second: TransactionNesting,
+            },
         },
         second: Pair {
-            first: BanAlterDomainWithAddConstraint,
-            second: TransactionNesting,
-        },
-    },
-    second: Pair {
-        first: Pair {
-            first: BanTruncateCascade,
-            second: RequireTimeoutSettings,
-        },
-        second: Pair {
-            first: BanUncommittedTransaction,
-            second: RequireEnumValueOrdering,
+            first: Pair {
+                first: BanTruncateCascade,
+                second: RequireTimeoutSettings,
+            },
+            second: Pair {
+                first: BanUncommittedTransaction,
+                second: RequireEnumValueOrdering,
+            },
         },
     },
 };

@@ -1,7 +1,7 @@
 //! The passes from the 33rd to the 40th of the linter's order.
 
 use lint_base::{LinterSettings, Reports, RuleSet};
-use lint_pass::{Block, Pair, StepPass};
+use lint_pass::{Block, Pair, StepPass, WhereEnabled};
 use pass_compat::RequireTableSchema;
 use pass_drop::{BanDropFunction, BanDropType, BanDropView};
 use pass_lock::{RequireConcurrentPartitionDetach, RequireConcurrentReindex};
@@ -10,34 +10,38 @@ use sql_tree::{Parse, Stmt};
 use std::alloc::Global;
 use text_pos::NoMemory;
 
-/// Its members, in order.
-type Members = Pair<
+/// Its members, in order, asked only where some rule of theirs is enabled.
+type Members = WhereEnabled<
     Pair<
-        Pair<RequireTableSchema, IdentifierTooLong>,
-        Pair<RequireConcurrentPartitionDetach, RequireConcurrentReindex>,
+        Pair<
+            Pair<RequireTableSchema, IdentifierTooLong>,
+            Pair<RequireConcurrentPartitionDetach, RequireConcurrentReindex>,
+        >,
+        Pair<Pair<BanDuplicateColumnAssignments, BanDropView>, Pair<BanDropFunction, BanDropType>>,
     >,
-    Pair<Pair<BanDuplicateColumnAssignments, BanDropView>, Pair<BanDropFunction, BanDropType>>,
 >;
 
-const MEMBERS: Members = Pair {
-    first: Pair {
+const MEMBERS: Members = WhereEnabled {
+    pass: Pair {
         first: Pair {
-            first: RequireTableSchema,
-            second: IdentifierTooLong,
+            first: Pair {
+                first: RequireTableSchema,
+                second: IdentifierTooLong,
+            },
+            second: Pair {
+                first: RequireConcurrentPartitionDetach,
+                second: RequireConcurrentReindex,
+            },
         },
         second: Pair {
-            first: RequireConcurrentPartitionDetach,
-            second: RequireConcurrentReindex,
-        },
-    },
-    second: Pair {
-        first: Pair {
-            first: BanDuplicateColumnAssignments,
-            second: BanDropView,
-        },
-        second: Pair {
-            first: BanDropFunction,
-            second: BanDropType,
+            first: Pair {
+                first: BanDuplicateColumnAssignments,
+                second: BanDropView,
+            },
+            second: Pair {
+                first: BanDropFunction,
+                second: BanDropType,
+            },
         },
     },
 };

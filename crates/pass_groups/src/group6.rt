@@ -1,7 +1,7 @@
 //! The passes from the 41st to the 48th of the linter's order.
 
 use lint_base::{LinterSettings, Reports, RuleSet};
-use lint_pass::{Block, Pair, StepPass};
+use lint_pass::{Block, Pair, StepPass, WhereEnabled};
 use pass_compat::RenamingObject;
 use pass_drop::{
     BanDropConstraint, BanDropDefault, BanDropDomain, BanDropGeneratedExpression, BanDropSchema,
@@ -11,31 +11,38 @@ use sql_tree::{Parse, Stmt};
 use std::alloc::Global;
 use text_pos::NoMemory;
 
-/// Its members, in order.
-type Members = Pair<
-    Pair<Pair<BanDropDefault, BanDropTrigger>, Pair<BanDropSchema, BanDropSequence>>,
-    Pair<Pair<BanDropDomain, BanDropConstraint>, Pair<BanDropGeneratedExpression, RenamingObject>>,
+/// Its members, in order, asked only where some rule of theirs is enabled.
+type Members = WhereEnabled<
+    Pair<
+        Pair<Pair<BanDropDefault, BanDropTrigger>, Pair<BanDropSchema, BanDropSequence>>,
+        Pair<
+            Pair<BanDropDomain, BanDropConstraint>,
+            Pair<BanDropGeneratedExpression, RenamingObject>,
+        >,
+    >,
 >;
 
-const MEMBERS: Members = Pair {
-    first: Pair {
+const MEMBERS: Members = WhereEnabled {
+    pass: Pair {
         first: Pair {
-            first: BanDropDefault,
-            second: BanDropTrigger,
+            first: Pair {
+                first: BanDropDefault,
+                second: BanDropTrigger,
+            },
+            second: Pair {
+                first: BanDropSchema,
+                second: BanDropSequence,
+            },
         },
         second: Pair {
-            first: BanDropSchema,
-            second: BanDropSequence,
-        },
-    },
-    second: Pair {
-        first: Pair {
-            first: BanDropDomain,
-            second: BanDropConstraint,
-        },
-        second: Pair {
-            first: BanDropGeneratedExpression,
-            second: RenamingObject,
+            first: Pair {
+                first: BanDropDomain,
+                second: BanDropConstraint,
+            },
+            second: Pair {
+                first: BanDropGeneratedExpression,
+                second: RenamingObject,
+            },
         },
     },
 };

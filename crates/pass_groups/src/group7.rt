@@ -1,7 +1,7 @@
 //! The passes from the 49th to the 56th of the linter's order.
 
 use lint_base::{LinterSettings, Reports, RuleSet};
-use lint_pass::{Block, Pair, StepPass};
+use lint_pass::{Block, Pair, StepPass, WhereEnabled};
 use pass_compat::{
     BanAlterGeneratedExpression, BanAlterIdentity, BanDisableTrigger, BanDropExtension,
     BanDropIndex, BanReplicaIdentity, BanSetDefault, BanSetSchema,
@@ -10,31 +10,38 @@ use sql_tree::{Parse, Stmt};
 use std::alloc::Global;
 use text_pos::NoMemory;
 
-/// Its members, in order.
-type Members = Pair<
-    Pair<Pair<BanSetSchema, BanAlterIdentity>, Pair<BanDropExtension, BanAlterGeneratedExpression>>,
-    Pair<Pair<BanDropIndex, BanSetDefault>, Pair<BanDisableTrigger, BanReplicaIdentity>>,
+/// Its members, in order, asked only where some rule of theirs is enabled.
+type Members = WhereEnabled<
+    Pair<
+        Pair<
+            Pair<BanSetSchema, BanAlterIdentity>,
+            Pair<BanDropExtension, BanAlterGeneratedExpression>,
+        >,
+        Pair<Pair<BanDropIndex, BanSetDefault>, Pair<BanDisableTrigger, BanReplicaIdentity>>,
+    >,
 >;
 
-const MEMBERS: Members = Pair {
-    first: Pair {
+const MEMBERS: Members = WhereEnabled {
+    pass: Pair {
         first: Pair {
-            first: BanSetSchema,
-            second: BanAlterIdentity,
+            first: Pair {
+                first: BanSetSchema,
+                second: BanAlterIdentity,
+            },
+            second: Pair {
+                first: BanDropExtension,
+                second: BanAlterGeneratedExpression,
+            },
         },
         second: Pair {
-            first: BanDropExtension,
-            second: BanAlterGeneratedExpression,
-        },
-    },
-    second: Pair {
-        first: Pair {
-            first: BanDropIndex,
-            second: BanSetDefault,
-        },
-        second: Pair {
-            first: BanDisableTrigger,
-            second: BanReplicaIdentity,
+            first: Pair {
+                first: BanDropIndex,
+                second: BanSetDefault,
+            },
+            second: Pair {
+                first: BanDisableTrigger,
+                second: BanReplicaIdentity,
+            },
         },
     },
 };

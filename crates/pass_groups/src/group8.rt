@@ -1,31 +1,35 @@
 //! The passes from the 57th to the 61st of the linter's order.
 
 use lint_base::{LinterSettings, Reports, RuleSet};
-use lint_pass::{Block, Pair, StepPass};
+use lint_pass::{Block, Pair, StepPass, WhereEnabled};
 use pass_compat::{BanDropPolicy, BanReplaceViewFunction, BanRevoke, SecurityCompatibility};
 use pass_object::ExistingObjectCompatibility;
 use sql_tree::{Parse, Stmt};
 use std::alloc::Global;
 use text_pos::NoMemory;
 
-/// Its members, in order.
-type Members = Pair<
-    Pair<Pair<BanDropPolicy, BanRevoke>, Pair<BanReplaceViewFunction, SecurityCompatibility>>,
-    ExistingObjectCompatibility,
+/// Its members, in order, asked only where some rule of theirs is enabled.
+type Members = WhereEnabled<
+    Pair<
+        Pair<Pair<BanDropPolicy, BanRevoke>, Pair<BanReplaceViewFunction, SecurityCompatibility>>,
+        ExistingObjectCompatibility,
+    >,
 >;
 
-const MEMBERS: Members = Pair {
-    first: Pair {
+const MEMBERS: Members = WhereEnabled {
+    pass: Pair {
         first: Pair {
-            first: BanDropPolicy,
-            second: BanRevoke,
+            first: Pair {
+                first: BanDropPolicy,
+                second: BanRevoke,
+            },
+            second: Pair {
+                first: BanReplaceViewFunction,
+                second: SecurityCompatibility,
+            },
         },
-        second: Pair {
-            first: BanReplaceViewFunction,
-            second: SecurityCompatibility,
-        },
+        second: ExistingObjectCompatibility,
     },
-    second: ExistingObjectCompatibility,
 };
 
 /// The passes from the 57th to the 61st of the linter's order: [`BanDropPolicy`], [`BanRevoke`], [`BanReplaceViewFunction`],

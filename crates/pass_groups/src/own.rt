@@ -9,36 +9,47 @@ use crate::group6::Group6;
 use crate::group7::Group7;
 use crate::group8::Group8;
 use lint_base::{LinterSettings, Reports, RuleSet};
-use lint_pass::{Block, Pair, StepPass};
+use lint_pass::{Block, Pair, StepPass, WhereEnabled};
 use sql_tree::{Parse, Stmt};
 use std::alloc::Global;
 use text_pos::NoMemory;
 
+/// Two groups, asked only where some rule of theirs is enabled.
+type Two<First, Second> = WhereEnabled<Pair<First, Second>>;
+
 /// The groups, in order.
 type Groups = Pair<
-    Pair<Pair<Group1, Group2>, Pair<Group3, Group4>>,
-    Pair<Pair<Group5, Group6>, Pair<Group7, Group8>>,
+    Pair<Two<Group1, Group2>, Two<Group3, Group4>>,
+    Pair<Two<Group5, Group6>, Two<Group7, Group8>>,
 >;
 
 const GROUPS: Groups = Pair {
     first: Pair {
-        first: Pair {
-            first: Group1,
-            second: Group2,
+        first: WhereEnabled {
+            pass: Pair {
+                first: Group1,
+                second: Group2,
+            },
         },
-        second: Pair {
-            first: Group3,
-            second: Group4,
+        second: WhereEnabled {
+            pass: Pair {
+                first: Group3,
+                second: Group4,
+            },
         },
     },
     second: Pair {
-        first: Pair {
-            first: Group5,
-            second: Group6,
+        first: WhereEnabled {
+            pass: Pair {
+                first: Group5,
+                second: Group6,
+            },
         },
-        second: Pair {
-            first: Group7,
-            second: Group8,
+        second: WhereEnabled {
+            pass: Pair {
+                first: Group7,
+                second: Group8,
+            },
         },
     },
 };

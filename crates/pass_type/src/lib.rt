@@ -18,4 +18,4 @@ pub use prefer_identity::PreferIdentity;
 pub use prefer_text_field::PreferTextField;
 pub use prefer_timestamptz::PreferTimestamptz;
 pub use require_enum_value_ordering::RequireEnumValueOrdering;
-pub use wider_integers::{PreferBigintOverInt, PreferBigintOverSmallint};
+pub use wider_integers::{PreferBigintOverInt, PreferBigintOverSmallint, WideInteger};

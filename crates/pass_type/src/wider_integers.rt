@@ -42,9 +42,10 @@ pub struct PreferBigintOverInt;
 #[derive(Drop)]
 pub struct PreferBigintOverSmallint;
 
-/// A 64-bit integer type, by the name that is to be written.
+/// A 64-bit integer type, by the name that is to be written (PostgreSQL manual, section 8.1). It is public since laws of fixes
+/// speak of it.
 #[derive(Clone, Copy)]
-pub(crate) enum WideInteger {
+pub enum WideInteger {
     Bigint,
     Int8,
     Bigserial,

@@ -1,13 +1,15 @@
 //! The tree of an expression.
 
 ghost use Rattle.std.specs.Prelude.{◌≡◌, IfOk};
+ghost use Rattle.sql_expr.specs.Levels as held;
 ghost use Rattle.sql_tree.specs.Expression as spec;
 
+use crate::level::{Level, all_around};
 use crate::shape::shape_of;
 use sql_mark::{Mark, Parts};
 use sql_token::Terminal;
 use sql_tree::{Expr, Shape};
-use sqlite_items::{Boxed, Items};
+use sqlite_items::Items;
 use std::alloc::Global;
 use text_pos::NoMemory;
 
@@ -21,36 +23,54 @@ pub fn read_expression(alloc: Global, terminals: &[Terminal]) -> Result<Expr, No
 
 /// The expression that these terminals are, where expressions nest less deep in it than `depth`.
 #[cycle(tree)]
-#[tactic(auto, unfolding(sql_tree::specs::Expression::tree))]
 fn tree(alloc: Global, depth: usize, terminals: &[Terminal]) -> Result<Expr, NoMemory>
     ensures { IfOk result (λ e. e ≡ spec.tree depth terminals.now) }
 {
-    if depth == 0 {
-        return Ok(Expr::Other);
+    let mut levels = Items::new(alloc);
+    let inner = innermost(alloc, depth, terminals, &mut levels)?;
+    all_around(alloc, levels, inner)
+}
+
+/// The expression inside all levels that hold one expression. These levels are put after the others.
+#[cycle(tree)]
+#[tactic(auto, using(crate::proofs::Levels::one_more), unfolding(sql_tree::specs::Expression::tree))]
+fn innermost(
+    alloc: Global,
+    depth: usize,
+    terminals: &[Terminal],
+    levels: &mut Items<Level>,
+) -> Result<Expr, NoMemory>
+    ensures { IfOk result (λ e. held.all_around levels.new e ≡ held.all_around levels.old (spec.tree depth terminals.now)) }
+{
+    let mut left = depth;
+    let mut rest = terminals;
+    while left > 0 {
+        left -= 1;
+        match shape_of(rest) {
+            Shape::Literal => return Ok(Expr::Literal),
+            Shape::Array => return Ok(Expr::Array),
+            Shape::Bin => {
+                let parts = parts_of(alloc, left, rest)?;
+                return Ok(Expr::Bin(parts));
+            }
+            Shape::Call { name, no_args } => return Ok(Expr::Call { name, no_args }),
+            Shape::Cast { from, len } => {
+                levels.push(Level::Cast)?;
+                rest = part(from, len, rest);
+            }
+            Shape::Collate(len) => {
+                levels.push(Level::Collate)?;
+                rest = part(0, len, rest);
+            }
+            Shape::Name(path) => return Ok(Expr::Name(path)),
+            Shape::IsNotNull(len) => {
+                levels.push(Level::IsNotNull)?;
+                rest = part(0, len, rest);
+            }
+            Shape::Other => return Ok(Expr::Other),
+        }
     }
-    match shape_of(terminals) {
-        Shape::Literal => Ok(Expr::Literal),
-        Shape::Array => Ok(Expr::Array),
-        Shape::Bin => {
-            let parts = parts_of(alloc, depth - 1, terminals)?;
-            Ok(Expr::Bin(parts))
-        }
-        Shape::Call { name, no_args } => Ok(Expr::Call { name, no_args }),
-        Shape::Cast { from, len } => {
-            let inner = tree(alloc, depth - 1, part(from, len, terminals))?;
-            Ok(Expr::Cast(Boxed::new(alloc, inner)?))
-        }
-        Shape::Collate(len) => {
-            let inner = tree(alloc, depth - 1, part(0, len, terminals))?;
-            Ok(Expr::Collate(Boxed::new(alloc, inner)?))
-        }
-        Shape::Name(path) => Ok(Expr::Name(path)),
-        Shape::IsNotNull(len) => {
-            let inner = tree(alloc, depth - 1, part(0, len, terminals))?;
-            Ok(Expr::IsNotNull(Boxed::new(alloc, inner)?))
-        }
-        Shape::Other => Ok(Expr::Other),
-    }
+    Ok(Expr::Other)
 }
 
 /// The parts between operators.

@@ -3,6 +3,7 @@
 
 mod expression;
 pub mod laws;
+mod level;
 mod shape;
 
 pub use expression::read_expression;

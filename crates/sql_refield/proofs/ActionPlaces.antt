@@ -1,6 +1,7 @@
 -- One action of ALTER TABLE changes, at its place.
-use Rattle.std.proofs.Common.{◌≡◌, ◌≤◌, length-append, ℕ, ◌+◌, Bool, true, false, cond, List, [], ◌∷◌, ◌++◌, length, append_assoc, append-nil, sym, refl, ap, ◌∙◌, arith, Option, Some, None}
+use Rattle.std.proofs.Common.{◌≡◌, ◌≤◌, ◌⊎◌, inl, inr, length-append, ℕ, ◌+◌, Bool, true, false, cond, List, [], ◌∷◌, ◌++◌, length, append_assoc, append-nil, sym, refl, ap, ◌∙◌, arith, Option, Some, None}
 use Rattle.std.proofs.lemmas.Bool.{false≢true}
+use Rattle.std.proofs.lemmas.Bool.Decides.{nat_tests}
 use Rattle.std.specs.Prelude.{◌==◌, ◌&&◌}
 use Rattle.sql_token.specs.declared.token.Span.{Span}
 use Rattle.sql_token.specs.declared.terminal.Symbol.{Symbol}
@@ -15,6 +16,7 @@ use Rattle.sql_tree.specs.Split.{split, split_from, comma, is_comma_symbol, and_
 use Rattle.sql_tree.specs.Statement.{form_of}
 use Rattle.sql_relex.specs.Beside.{is_mark_symbol, begins_mark_or_ends}
 use Rattle.sql_reread.specs.Runs.{is_uncut}
+use Rattle.sql_reread.proofs.Cuts.{opened_if, closed_if}
 use Rattle.sql_reread.proofs.CutLaws.{part_exchanges}
 use Rattle.sql_refield.specs.Shapes.{AlterShape}
 use Rattle.sql_refield.specs.Actions.{ActionChangesAt, ActionShows}
@@ -103,10 +105,82 @@ ends_list e o c (t ∷ ts) xs p h =
         let end = on (parts.first ∷ xs) p (parts.both ∙ (λ i. parts.first ∷ g i)) in
         (t ∷ end.0, ap (λ (x : List Terminal). t ∷ x) end.1)
 
-last_part : (ts : List Terminal) (xs : List (List Terminal)) (p : List Terminal) → split comma ts ≡ xs ++ p ∷ [] → (q : List Terminal) × (ts ≡ q ++ p)
+pub last_part : (ts : List Terminal) (xs : List (List Terminal)) (p : List Terminal) → split comma ts ≡ xs ++ p ∷ [] → (q : List Terminal) × (ts ≡ q ++ p)
 unfolding split
 last_part ts [] p h = ([], ends_list None 0 0 ts [] p h)
 last_part ts (x ∷ xs) p h = ends_list None 0 0 ts (x ∷ xs) p h
+
+-- ---- where a part ends
+
+-- all brackets of the part are closed, where o openers and c closers came before the first one
+abbrev Level : ℕ → ℕ → List (List Terminal) → List Terminal → Type 0
+Level o c [] p = o + opened p ≡ c + closed p
+Level o c (x ∷ xs) p = opened p ≡ closed p
+
+level_zero : (xs : List (List Terminal)) (p : List Terminal) → Level 0 0 xs p → opened p ≡ closed p
+level_zero [] p h = omega (arith, h)
+level_zero (x ∷ xs) p h = h
+
+-- A part of a list that is split at commas has all its brackets closed, or ends the list.
+part_ends : (e : Option Terminal) (o c : ℕ) (ts : List Terminal) (xs : List (List Terminal)) (p : List Terminal) (ys : List (List Terminal)) → split_from comma e o c ts ≡ xs ++ p ∷ ys → Level o c xs p ⊎ AtEnd ts xs p
+unfolding comma
+part_ends e o c [] [] p ys h = inr (heads h)
+part_ends e o c [] (x ∷ xs) p ys h = absurd (no_lists xs p ys (rests h))
+part_ends e o c (t ∷ ts) xs p ys h =
+    by (o == c && is_comma_symbol t.symbol) refl xs h (λ us g. part_ends (Some t) 0 0 ts us p ys g) (λ us v g. part_ends (Some t) (o + one_if (is_opener t)) (c + one_if (is_closer t)) ts us v ys g)
+  where
+    S : List (List Terminal)
+    S = split_from comma (Some t) (o + one_if (is_opener t)) (c + one_if (is_closer t)) ts
+
+    equal : (a b : Bool) → (a && b) ≡ true → a ≡ true
+    equal true b h = refl
+    equal false b h = h
+
+    counts : (o == c && is_comma_symbol t.symbol) ≡ true → o ≡ c
+    counts h = by (equal (o == c) (is_comma_symbol t.symbol) h)
+      where
+        by : (o == c) ≡ true → o ≡ c
+        by h = grind (arith, nat_tests)
+
+    first_level : (v : List Terminal) → t ∷ v ≡ p → Level (o + one_if (is_opener t)) (c + one_if (is_closer t)) [] v → Level o c [] p
+    first_level v same l = let x = opened_if t v in let y = closed_if t v in omega (arith, l, x, y, ap opened same, ap closed same)
+
+    by : (b : Bool) → (o == c && is_comma_symbol t.symbol) ≡ b → (xs : List (List Terminal)) → cond b ([] ∷ split_from comma (Some t) 0 0 ts) (onto t S) ≡ xs ++ p ∷ ys →
+        ((us : List (List Terminal)) → split_from comma (Some t) 0 0 ts ≡ us ++ p ∷ ys → Level 0 0 us p ⊎ AtEnd ts us p) →
+        ((us : List (List Terminal)) (v : List Terminal) → S ≡ us ++ v ∷ ys → Level (o + one_if (is_opener t)) (c + one_if (is_closer t)) us v ⊎ AtEnd ts us v) → Level o c xs p ⊎ AtEnd (t ∷ ts) xs p
+    by true a [] h cut on = let none = heads h in let same = counts a in inl (omega (arith, same, ap opened none, ap closed none))
+    by true a (x ∷ xs) h cut on = elim (cut xs (rests h)) [
+      | inl l ↦ inl (level_zero xs p l)
+      | inr g ↦ inr (end_later t ts xs p g)
+    ]
+    by false a [] h cut on =
+        let parts = split_parts (Some t) (o + one_if (is_opener t)) (c + one_if (is_closer t)) ts in
+        let both = sym (ap (λ (l : List (List Terminal)). onto t l) parts.both) ∙ h in
+        let f = heads both in let g = rests both in
+        elim (on [] parts.first (parts.both ∙ (λ i. parts.first ∷ g i))) [
+          | inl l ↦ inl (first_level parts.first f l)
+          | inr l ↦ inr (ap (λ (x : List Terminal). t ∷ x) l ∙ f)
+        ]
+    by false a (x ∷ xs) h cut on =
+        let parts = split_parts (Some t) (o + one_if (is_opener t)) (c + one_if (is_closer t)) ts in
+        let both = sym (ap (λ (l : List (List Terminal)). onto t l) parts.both) ∙ h in
+        let g = rests both in
+        elim (on (parts.first ∷ xs) p (parts.both ∙ (λ i. parts.first ∷ g i))) [
+          | inl l ↦ inl l
+          | inr l ↦ inr (t ∷ l.0, ap (λ (x : List Terminal). t ∷ x) l.1)
+        ]
+
+pub part_is_level : (ts : List Terminal) (xs : List (List Terminal)) (p : List Terminal) (ys : List (List Terminal)) → split comma ts ≡ xs ++ p ∷ ys →
+    (opened p ≡ closed p) ⊎ ((q : List Terminal) × (ts ≡ q ++ p))
+unfolding split
+part_is_level ts xs p ys h = elim (part_ends None 0 0 ts xs p ys h) [
+  | inl l ↦ inl (level_zero xs p l)
+  | inr e ↦ inr (whole xs e)
+]
+  where
+    whole : (xs : List (List Terminal)) → AtEnd ts xs p → (q : List Terminal) × (ts ≡ q ++ p)
+    whole [] e = ([], e)
+    whole (x ∷ xs) e = e
 
 -- ---- what follows a part
 
@@ -329,8 +403,28 @@ change_at ts path before b after shape piece p r run q h uncut long low =
           (there.cut r run uncut ∙ ap (λ (l : List Terminal). piece.earlier ++ (p ++ l) ∷ piece.later) (ap (λ (l : List Terminal). (r ∷ run) ++ l) none ∙ append-nil (r ∷ run)));
     }
 
+-- An action has all its brackets closed, or ends the statement.
+action_ends : (ts : List Terminal) (path : Option Span) (actions : List Action) (shape : AlterShape ts path actions) (xs : List (List Terminal)) (p : List Terminal) (ys : List (List Terminal)) →
+    split comma shape.tail ≡ xs ++ p ∷ ys → 2 ≤ length p → (opened p ≡ closed p) ⊎ ((front : List Terminal) × (ts ≡ front ++ p))
+action_ends ts path actions shape xs p ys h long = elim (part_is_level shape.tail xs p ys h) [
+  | inl l ↦ inl l
+  | inr e ↦ inr (by e.0 e.1)
+]
+  where
+    by : (q : List Terminal) → shape.tail ≡ q ++ p → (front : List Terminal) × (ts ≡ front ++ p)
+    by q e =
+        let size = ap length e in
+        let w = two shape.tail (omega (arith, size, length-append q p)) in
+        let front = shape.fronts w.t w.u w.rest w.parts in
+        (front.front ++ q, front.parts ∙ ap (λ (x : List Terminal). front.front ++ x) (sym w.parts ∙ e) ∙ sym (append_assoc front.front q p))
+
 pub action_shows : ActionShows
 action_shows ts path before b after e =
     let shape = alter_table_shows ts path (before ++ b ∷ after) e in
     let piece = piece_at (action stmt.AlterTable) (split comma shape.tail) before b after (of_several shape.tail (Some (before ++ b ∷ after)) shape.actions_are) in
-    record { here = piece.here; is = piece.is; changes = λ p r run q h uncut long low. change_at ts path before b after shape piece p r run q h uncut long low }
+    record {
+      here = piece.here;
+      is = piece.is;
+      ends = λ long. action_ends ts path (before ++ b ∷ after) shape piece.earlier piece.here piece.later piece.parts long;
+      changes = λ p r run q h uncut long low. change_at ts path before b after shape piece p r run q h uncut long low;
+    }

@@ -9,7 +9,8 @@ use Rattle.sql_keyword.specs.declared.words.TheConstants.Keyword as keyword
 use Rattle.sql_token.specs.declared.terminal.Symbol.{Symbol}
 use Rattle.sql_token.specs.declared.terminal.Symbol.TheVariants as s
 use Rattle.sql_token.specs.declared.terminal.Terminal.{Terminal}
-use Rattle.sql_token.specs.Terminal.{is_keyword, is_keyword_symbol, is_name, is_semicolon, is_semicolon_symbol}
+use Rattle.sql_token.specs.Terminal.{is_keyword, is_keyword_symbol, is_name, is_opener, is_closer, is_semicolon, is_opener_symbol, is_closer_symbol, is_semicolon_symbol}
+use Rattle.sql_token.specs.Depth.{opened, closed}
 use Rattle.sql_tree.specs.declared.kinds.StmtKind.{StmtKind}
 use Rattle.sql_tree.specs.declared.nodes.Body.{Body}
 use Rattle.sql_tree.specs.declared.nodes.ReindexTarget.{ReindexTarget}
@@ -21,6 +22,7 @@ use Rattle.sql_law.specs.Renumber.{renumber}
 use Rattle.sql_law.proofs.Marks.{closing_renumbers}
 use Rattle.sql_law.proofs.Seen.{numbers, keyword_sees}
 use Rattle.sql_law.proofs.Statements.{statement_renumbers}
+use Rattle.sql_reread.proofs.Nested.{opened_is, closed_is}
 use Rattle.sql_relex.specs.Beside.{is_mark_symbol, begins_mark_or_ends}
 use Rattle.sql_relex.specs.Terminals.{moved_number}
 use Rattle.sql_refield.specs.Marks.{key, body_marked, form_marked}
@@ -46,6 +48,8 @@ pub record Ended (us : List Terminal) : Type 0 where
   pub parts : us ≡ without_semicolon us ++ end
   pub quiet : begins_with keyword.CONCURRENTLY end ≡ false
   pub mark : begins_mark_or_ends end ≡ true
+  pub opens : opened end ≡ 0
+  pub closes : closed end ≡ 0
 
 semicolon_none : (x : Symbol) → is_semicolon_symbol x ≡ true → is_keyword_symbol keyword.CONCURRENTLY x ≡ false
 semicolon_none s.Semicolon h = refl
@@ -55,9 +59,13 @@ semicolon_mark : (x : Symbol) → is_semicolon_symbol x ≡ true → is_mark_sym
 semicolon_mark s.Semicolon h = refl
 semicolon_mark x h = absurd (false≢true h)
 
+semicolon_flat : (x : Symbol) → is_semicolon_symbol x ≡ true → (is_opener_symbol x ≡ false) × (is_closer_symbol x ≡ false)
+semicolon_flat s.Semicolon h = (refl, refl)
+semicolon_flat x h = absurd (false≢true h)
+
 pub ended : (us : List Terminal) → Ended us
-unfolding is_semicolon is_keyword
-ended [] = record { end = []; parts = refl; quiet = refl; mark = refl }
+unfolding is_semicolon is_keyword is_opener is_closer
+ended [] = record { end = []; parts = refl; quiet = refl; mark = refl; opens = refl; closes = refl }
 ended (t ∷ ts) = by (is_semicolon_symbol (lasts t ts).end.symbol) refl
   where
     bare_is : without_semicolon (t ∷ ts) ≡ (lasts t ts).front ++ without_semicolon ((lasts t ts).end ∷ [])
@@ -72,12 +80,16 @@ ended (t ∷ ts) = by (is_semicolon_symbol (lasts t ts).end.symbol) refl
       parts = (let l = lasts t ts in l.parts) ∙ sym (ap (λ (x : List Terminal). x ++ (lasts t ts).end ∷ []) (bare_is ∙ ap (λ (b : Bool). (lasts t ts).front ++ split b) e ∙ append-nil (lasts t ts).front));
       quiet = semicolon_none (lasts t ts).end.symbol e;
       mark = semicolon_mark (lasts t ts).end.symbol e;
+      opens = opened_is (lasts t ts).end [] false (semicolon_flat (lasts t ts).end.symbol e).0;
+      closes = closed_is (lasts t ts).end [] false (semicolon_flat (lasts t ts).end.symbol e).1;
     }
     by false e = record {
       end = [];
       parts = (let l = lasts t ts in l.parts) ∙ sym (append-nil (without_semicolon (t ∷ ts)) ∙ bare_is ∙ ap (λ (b : Bool). (lasts t ts).front ++ split b) e);
       quiet = refl;
       mark = refl;
+      opens = refl;
+      closes = refl;
     }
 
 -- ---- a form that takes the word

@@ -1,5 +1,5 @@
 -- One action of ALTER TABLE changes, at its place.
-use Rattle.std.specs.Prelude.{◌≡◌, ◌≤◌, ℕ, true, List, [], ◌∷◌, ◌++◌, length, Option, Some, None}
+use Rattle.std.specs.Prelude.{◌≡◌, ◌≤◌, ◌⊎◌, ℕ, true, List, [], ◌∷◌, ◌++◌, length, Option, Some, None}
 use Rattle.sql_keyword.specs.declared.words.TheConstants.Keyword as keyword
 use Rattle.sql_token.specs.declared.token.Span.{Span}
 use Rattle.sql_token.specs.declared.terminal.Terminal.{Terminal}
@@ -34,6 +34,8 @@ pub record ActionChangesAt (ts : List Terminal) (path : Option Span) (before aft
 pub record ActionAt (ts : List Terminal) (path : Option Span) (before : List Action) (b : Action) (after : List Action) : Type 0 where
   pub here : List Terminal
   pub is : action stmt.AlterTable here ≡ Some b
+  -- as many openers as closers, or nothing follows it
+  pub ends : 2 ≤ length here → (opened here ≡ closed here) ⊎ ((front : List Terminal) × (ts ≡ front ++ here))
   pub changes : (p : List Terminal) (r : Terminal) (run q : List Terminal) → here ≡ p ++ ((r ∷ run) ++ q) → is_uncut (r ∷ run) ≡ true → 2 ≤ length p → closed p ≤ opened p →
       ActionChangesAt ts path before after p (r ∷ run) q
 

@@ -9,13 +9,14 @@ use Rattle.sql_keyword.specs.Find.{keyword_of}
 use Rattle.sql_token.specs.declared.token.Tok.{Tok}
 use Rattle.sql_token.specs.declared.token.TokKind.{TokKind}
 use Rattle.sql_token.specs.declared.token.TokKind.TheVariants.{Blank, LineComment, BlockComment, Word, Quoted, Number, Op, Punct}
+use Rattle.sql_token.specs.declared.terminal.Symbol.{Symbol}
 use Rattle.sql_token.specs.declared.terminal.Symbol.TheVariants as s
 use Rattle.sql_token.specs.declared.terminal.Terminal.{Terminal}
 use Rattle.sql_token.specs.Comment.{opens}
 use Rattle.sql_token.specs.Quote.{begins_dollar}
-use Rattle.sql_token.specs.Terminal.{symbol_of, word_symbol, is_significant, terminals_from, is_name, is_name_symbol}
+use Rattle.sql_token.specs.Terminal.{symbol_of, word_symbol, is_significant, terminals_from, is_name, is_name_symbol, is_dot, is_dot_symbol}
 use Rattle.sql_token.specs.Token.{Text, At, Leads, text_of, kind_of, is_word, is_blank, is_punct, begins_blank, begins_line, begins_str, begins_unicode, begins_param, begins_number, begins_word, begins_op}
-use Rattle.sql_relex.specs.Beside.{is_mark_symbol, begins_mark_or_ends, NoWordAfter, ends_with_name, IsLetter, LetterFollows}
+use Rattle.sql_relex.specs.Beside.{is_mark_symbol, begins_mark_or_ends, NoWordAfter, ends_with_name, ends_with_name_or_dot, IsLetter, LetterFollows, LetterFollowsDot}
 use Rattle.sql_relex.specs.Exchange.{LastKeeps, keeps_before}
 use Rattle.sql_relex.specs.Terminals.{term_of}
 use Rattle.sql_relex.proofs.Edits.{last_of_list}
@@ -224,22 +225,25 @@ last_tok : (k : Tok) (ks : List Tok) → LastTok (k ∷ ks)
 last_tok k [] = record { before = []; last = k; parts = refl }
 last_tok k (l ∷ ls) = let r = last_tok l ls in record { before = k ∷ r.before; last = r.last; parts = ap (λ (x : List Tok). k ∷ x) r.parts }
 
-ends_is : (xs : List Terminal) (t : Terminal) → ends_with_name (xs ++ t ∷ []) ≡ is_name t
+ends_is : (xs : List Terminal) (t : Terminal) → ends_with_name_or_dot (xs ++ t ∷ []) ≡ (is_name t || is_dot t)
 ends_is [] t = refl
 ends_is (x ∷ []) t = refl
 ends_is (x ∷ y ∷ xs) t = ends_is (y ∷ xs) t
 
-number_no_name : (a : Bool) → is_name_symbol (cond a s.One s.Number) ≡ false
+abbrev is_part_symbol : Symbol → Bool
+is_part_symbol x = is_name_symbol x || is_dot_symbol x
+
+number_no_name : (a : Bool) → is_part_symbol (cond a s.One s.Number) ≡ false
 number_no_name true = refl
 number_no_name false = refl
 
-operator_no_name : (a b c : Bool) → is_name_symbol (cond a (cond b s.Equals s.EqualsOperator) (cond c s.Star s.Operator)) ≡ false
+operator_no_name : (a b c : Bool) → is_part_symbol (cond a (cond b s.Equals s.EqualsOperator) (cond c s.Star s.Operator)) ≡ false
 operator_no_name true true c = refl
 operator_no_name true false c = refl
 operator_no_name false b true = refl
 operator_no_name false b false = refl
 
-keeps : (kind : TokKind) (t : Text) (i j : ℕ) (bs : Text) (b : ℕ) → At t i kind j → (kind ≡ LineComment → ⊥) → (is_significant kind ≡ true → is_name_symbol (symbol_of kind bs) ≡ true) →
+keeps : (kind : TokKind) (t : Text) (i j : ℕ) (bs : Text) (b : ℕ) → At t i kind j → (kind ≡ LineComment → ⊥) → (is_significant kind ≡ true → is_part_symbol (symbol_of kind bs) ≡ true) →
     is_word (get_or t (j - 1) 0) ≡ false → IsLetter b → keeps_before kind b ≡ true
 unfolding symbol_of
 keeps Blank t i j bs b here line name none l = ap not l.blank
@@ -252,10 +256,10 @@ keeps Number t i j bs b here line name none l = absurd (false≢true (sym (numbe
 keeps Op t i j bs b here line name none l = absurd (false≢true (sym (operator_no_name (get_or bs 0 0 == 61) (length bs == 1) (get_or bs 0 0 == 42 && length bs == 1)) ∙ name refl))
 keeps kind t i j bs b here line name none l = absurd (false≢true (name refl))
 
-pub letter_follows : LetterFollows
-unfolding is_name
-letter_follows t [] k after b lexed significant name none l = tt
-letter_follows t (x ∷ front) k after b lexed significant name none l =
+pub letter_follows_dot : LetterFollowsDot
+unfolding is_name is_dot
+letter_follows_dot t [] k after b lexed significant name none l = tt
+letter_follows_dot t (x ∷ front) k after b lexed significant name none l =
     let r = last_tok x front in
     let whole : (x ∷ front) ++ k ∷ after ≡ r.before ++ r.last ∷ k ∷ after = ap (λ (y : List Tok). y ++ k ∷ after) r.parts ∙ append_assoc r.before (r.last ∷ []) (k ∷ after) in
     let lead = leads_split t 0 (length t) r.before r.last (k ∷ after) (subst (λ (y : List Tok). Leads t 0 y (length t)) whole lexed) in
@@ -273,8 +277,16 @@ letter_follows t (x ∷ front) k after b lexed significant name none l =
     subst (λ (y : List Tok). LastKeeps y b) (sym r.parts)
     (last_of_list r.before r.last b
     (keeps r.last.kind t r.last.start r.last.end (text_of t r.last) b (subst (λ (y : ℕ). At t y r.last.kind r.last.end) (sym lead.1.0) here) line
-    (λ h. sym (ends_is (terminals_from t 0 r.before) (term_of t (0 + length r.before) r.last)) ∙ ap ends_with_name (sym (terms_append t 0 r.before (r.last ∷ []) ∙ ap (λ (y : List Terminal). terminals_from t 0 r.before ++ y) (one_term t (0 + length r.before) r.last h)) ∙ ap (λ (y : List Tok). terminals_from t 0 y) (sym r.parts)) ∙ name)
+    (λ h. sym (ends_is (terminals_from t 0 r.before) (term_of t (0 + length r.before) r.last)) ∙ ap ends_with_name_or_dot (sym (terms_append t 0 r.before (r.last ∷ []) ∙ ap (λ (y : List Terminal). terminals_from t 0 r.before ++ y) (one_term t (0 + length r.before) r.last h)) ∙ ap (λ (y : List Tok). terminals_from t 0 y) (sym r.parts)) ∙ name)
     (ap (λ (y : ℕ). is_word (get_or t (y - 1) 0)) (sym start) ∙ none) l))
   where
     at_line : {i j : ℕ} {kind : TokKind} {e : ℕ} → At t i kind j → e ≡ i → kind ≡ LineComment → At t e LineComment j
     at_line {i} {j} {kind} {e} here p q = subst (λ (y : ℕ). At t y LineComment j) (sym p) (subst (λ (y : TokKind). At t i y j) q here)
+
+pub name_or_dot : (ts : List Terminal) → ends_with_name ts ≡ true → ends_with_name_or_dot ts ≡ true
+name_or_dot [] h = refl
+name_or_dot (t ∷ []) h = ap (λ (b : Bool). b || is_dot t) h
+name_or_dot (t ∷ u ∷ ts) h = name_or_dot (u ∷ ts) h
+
+pub letter_follows : LetterFollows
+letter_follows t front k after b lexed significant name none l = letter_follows_dot t front k after b lexed significant (name_or_dot (terminals_from t 0 front) name) none l

@@ -1,11 +1,11 @@
 -- What is beside a token.
-use Rattle.std.specs.Prelude.{◌≡◌, ℕ, ◌+◌, ◌-◌, ◌==◌, Bool, true, false, List, [], ◌∷◌, ◌++◌, drop, length, slice_index}
+use Rattle.std.specs.Prelude.{◌≡◌, ℕ, ◌+◌, ◌-◌, ◌==◌, ◌||◌, Bool, true, false, List, [], ◌∷◌, ◌++◌, drop, length, slice_index}
 use Rattle.sql_token.specs.declared.token.Tok.{Tok}
 use Rattle.sql_token.specs.declared.terminal.Symbol.{Symbol}
 use Rattle.sql_token.specs.declared.terminal.Symbol.TheVariants as s
 use Rattle.sql_token.specs.declared.terminal.Terminal.{Terminal}
 use Rattle.sql_token.specs.Token.{Text, Lexed, is_word, is_blank}
-use Rattle.sql_token.specs.Terminal.{terminals_from, is_significant, is_name}
+use Rattle.sql_token.specs.Terminal.{terminals_from, is_significant, is_name, is_dot}
 use Rattle.std.specs.Char.{is_ascii_digit}
 use Rattle.sql_relex.specs.Exchange.{LastKeeps}
 
@@ -50,3 +50,15 @@ abbrev pub LetterFollows : Type 0
 LetterFollows =
     (t : Text) (front : List Tok) (k : Tok) (after : List Tok) (b : ℕ) → Lexed t (front ++ k ∷ after) → is_significant k.kind ≡ true →
     ends_with_name (terminals_from t 0 front) ≡ true → is_word (slice_index t (k.start - 1)) ≡ false → IsLetter b → LastKeeps front b
+
+-- a name, or a dot, as what comes before each name of a path
+abbrev pub ends_with_name_or_dot : List Terminal → Bool
+ends_with_name_or_dot [] = true
+ends_with_name_or_dot (t ∷ []) = is_name t || is_dot t
+ends_with_name_or_dot (t ∷ u ∷ ts) = ends_with_name_or_dot (u ∷ ts)
+
+-- So it does before one that comes after a name or a dot.
+abbrev pub LetterFollowsDot : Type 0
+LetterFollowsDot =
+    (t : Text) (front : List Tok) (k : Tok) (after : List Tok) (b : ℕ) → Lexed t (front ++ k ∷ after) → is_significant k.kind ≡ true →
+    ends_with_name_or_dot (terminals_from t 0 front) ≡ true → is_word (slice_index t (k.start - 1)) ≡ false → IsLetter b → LastKeeps front b

@@ -2,7 +2,7 @@
 
 ghost use Rattle.sql_relex.specs.Exchange.{Rereads, RereadsAfterOne, FirstIsFree, MadeRereads};
 ghost use Rattle.sql_relex.specs.Edits.{ConcurrentlyRereads, WordRereads, SetRereads, WordEnds};
-ghost use Rattle.sql_relex.specs.Beside.{NoWordAfter, LetterFollows};
+ghost use Rattle.sql_relex.specs.Beside.{NoWordAfter, LetterFollows, LetterFollowsDot};
 ghost use Rattle.sql_relex.specs.Terminals.{TerminalsReread};
 
 /// All tokens are at their places in the new text where the last two before the run, the new ones and the first one after it
@@ -16,8 +16,8 @@ pub fn tokens_stay()
 {}
 
 /// So it is where CONCURRENTLY is put after a token, where one word is in the place of a run of tokens, and where a Set is put
-/// before the first significant token. No word goes on after a word, or where a mark or nothing follows; and after a name,
-/// where no word goes on, a letter may follow.
+/// before the first significant token. No word goes on after a word, or where a mark or nothing follows; and after a name
+/// or a dot, where no word goes on, a letter may follow.
 pub fn edits_reread()
     ensures concurrently { ConcurrentlyRereads }
     ensures word { WordRereads }
@@ -25,6 +25,7 @@ pub fn edits_reread()
     ensures word_ends { WordEnds }
     ensures no_word { NoWordAfter }
     ensures letter { LetterFollows }
+    ensures dot { LetterFollowsDot }
 {}
 
 /// The terminals are the old ones under other numbers, but for the run.

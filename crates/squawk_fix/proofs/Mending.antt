@@ -10,8 +10,13 @@ use Rattle.fix_law.specs.Timeouts.{SetMended}
 use Rattle.fix_law.proofs.Detached.{detached_mend}
 use Rattle.fix_law.proofs.Fixed.{builds_mend, dropped_mend, rebuilt_mend}
 use Rattle.fix_law.proofs.TimeoutFixes.{timeouts_mend}
+use Rattle.type_law.specs.Mended.{AreApart, TypeFixesMend, TypeFixMends, WithRun}
+use Rattle.type_law.specs.Rules.{type_table, ints, smallints, timestamps, varchars}
+use Rattle.type_law.proofs.Fixes.{ints_mend, smallints_mend, timestamps_mend, varchars_mend}
+use Rattle.type_law.proofs.Inners.{inners_become_words}
+use Rattle.type_law.proofs.LastNames.{names_become_words}
 use Rattle.squawk_fix.specs.Answer.{CanBeMade, IsAnswer}
-use Rattle.squawk_fix.specs.Mends.{IsMended, SetMends, WordMends}
+use Rattle.squawk_fix.specs.Mends.{IsMended, SetMends, TypeMends, WordMends}
 use Rattle.squawk_fix.specs.declared.error.FixError.{FixError}
 
 module _ (text : List ℕ) (fix : FixValue) (made : List ℕ) (can : CanBeMade text fix.edits) (is : made ≡ edited text fix.edits) where
@@ -27,6 +32,13 @@ module _ (text : List ℕ) (fix : FixValue) (made : List ℕ) (can : CanBeMade t
       (λ v. v.fix ≡ Some fix → (made ≡ edited tree.text fix.edits) × Mended table tree rules settings v fix.edits (WithWord tree))
       (λ v h e. (made_in tree same, h fix e (short_in tree same))) (table tree rules settings) (law tree rules settings read)
 
+  type_mends : (table : Table) → TypeFixesMend table → TypeMends text fix made table
+  type_mends table law apart tree rules settings same read =
+      All-weaker (TypeFixMends table tree rules settings)
+      (λ v. v.fix ≡ Some fix → (made ≡ edited tree.text fix.edits) × Mended table tree rules settings v fix.edits (WithRun tree))
+      (λ v h e. (made_in tree same, h fix e (subst (λ (t : List ℕ). AreApart t fix.edits) (sym same) apart) (short_in tree same)))
+      (table tree rules settings) (law tree rules settings read)
+
   set_mends : SetMends text fix made
   set_mends tree rules same read =
       All-weaker (λ v. (f : FixValue) → v.fix ≡ Some f → length (edited tree.text f.edits) < 2 ^ 32 → SetMended v.code tree rules f.edits)
@@ -39,6 +51,10 @@ module _ (text : List ℕ) (fix : FixValue) (made : List ℕ) (can : CanBeMade t
         (All-cons (WordMends text fix made) dropped (rebuilt ∷ detached ∷ []) (word_mends dropped dropped_mend)
         (All-cons (WordMends text fix made) rebuilt (detached ∷ []) (word_mends rebuilt rebuilt_mend)
         (All-cons (WordMends text fix made) detached [] (word_mends detached detached_mend) (All-nil (WordMends text fix made)))));
+    types = All-cons (TypeMends text fix made) (type_table varchars) (type_table timestamps ∷ type_table ints ∷ type_table smallints ∷ []) (type_mends (type_table varchars) (varchars_mend inners_become_words))
+        (All-cons (TypeMends text fix made) (type_table timestamps) (type_table ints ∷ type_table smallints ∷ []) (type_mends (type_table timestamps) (timestamps_mend inners_become_words))
+        (All-cons (TypeMends text fix made) (type_table ints) (type_table smallints ∷ []) (type_mends (type_table ints) (ints_mend names_become_words))
+        (All-cons (TypeMends text fix made) (type_table smallints) [] (type_mends (type_table smallints) (smallints_mend names_become_words)) (All-nil (TypeMends text fix made)))));
     sets = set_mends;
   }
 

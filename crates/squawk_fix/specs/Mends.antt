@@ -8,6 +8,8 @@ use Rattle.pass_session.specs.Timeouts.{reports_of_require_timeout_settings}
 use Rattle.fix_law.specs.Edited.{edited}
 use Rattle.fix_law.specs.Mended.{Table, Mended, WithWord, builds, dropped, rebuilt, detached}
 use Rattle.fix_law.specs.Timeouts.{SetMended}
+use Rattle.type_law.specs.Mended.{AreApart, WithRun}
+use Rattle.type_law.specs.Rules.{type_table, ints, smallints, timestamps, varchars}
 
 -- The tables of RequireConcurrentIndexCreation, RequireConcurrentIndexDeletion, RequireConcurrentReindex and
 -- RequireConcurrentPartitionDetach.
@@ -22,6 +24,17 @@ WordMends text fix made table =
     (tree : Tree) (rules : Rules) (settings : LinterSettings) → tree.text ≡ text → IsTree tree →
     All (λ v. v.fix ≡ Some fix → (made ≡ edited tree.text fix.edits) × Mended table tree rules settings v fix.edits (WithWord tree)) (table tree rules settings)
 
+-- The tables of PreferTextField, PreferTimestampTz, PreferBigintOverInt and PreferBigintOverSmallint.
+abbrev pub type_tables : List Table
+type_tables = type_table varchars ∷ type_table timestamps ∷ type_table ints ∷ type_table smallints ∷ []
+
+-- The same for the reports on column types, if no byte of a word is right before or right after what the fix replaces: the
+-- terminals of `made` are those of the old text, but that those of the type, or its last name, are the new word.
+abbrev pub TypeMends : List ℕ → FixValue → List ℕ → Table → Type 0
+TypeMends text fix made table =
+    AreApart text fix.edits → (tree : Tree) (rules : Rules) (settings : LinterSettings) → tree.text ≡ text → IsTree tree →
+    All (λ v. v.fix ≡ Some fix → (made ≡ edited tree.text fix.edits) × Mended table tree rules settings v fix.edits (WithRun tree)) (table tree rules settings)
+
 -- The same for the reports of RequireLockTimeout and RequireStatementTimeout: the statements of `made` are a Set and those of the
 -- old text, and the rule reports nothing of it at all.
 abbrev pub SetMends : List ℕ → FixValue → List ℕ → Type 0
@@ -32,4 +45,5 @@ SetMends text fix made =
 -- It is mended, whichever of these rules the fix is of.
 pub record IsMended (text : List ℕ) (fix : FixValue) (made : List ℕ) : Type 0 where
   pub words : All (WordMends text fix made) word_tables
+  pub types : All (TypeMends text fix made) type_tables
   pub sets : SetMends text fix made

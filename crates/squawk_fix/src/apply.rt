@@ -34,8 +34,10 @@ fn edited(alloc: Global, text: &str, fix: &Fix) -> Result<String, FixError>
 /// that touch are no overlap. `TooLong` comes where no edit is bad, and the result would have 2^32
 /// bytes or more. `NoMemory` comes because memory ran out; all memory is taken at once.
 ///
-/// A fix that adds CONCURRENTLY or sets a timeout makes a text that is read again, and its rule
-/// is silent there (`mended`); other rules may report more.
+/// A fix that adds CONCURRENTLY, sets a timeout or writes another column type makes a text that is
+/// read again, and its rule is silent there (`mended`); other rules may report more. Of a type this
+/// holds if no byte of a word is right before or right after what is replaced: `varchar(10)not null`
+/// would become `textnot null`.
 pub fn apply_fix(alloc: Global, text: &str, fix: &Fix) -> Result<String, FixError>
     requires text { length text.now < 2 ^ 32 }
     requires edits { length fix.now.edits < 2 ^ 32 }

@@ -1,11 +1,14 @@
 -- Without ignore comments nothing is lost between the reports of the passes and the answer.
-use Rattle.std.proofs.Common.{◌≡◌, ◌∙◌, sym, refl, arith, ℕ, ◌+◌, ◌<◌, Bool, true, false, List, [], ◌∷◌, length}
+use Rattle.std.proofs.Common.{◌≡◌, ◌∙◌, sym, ap, refl, arith, ℕ, ◌+◌, ◌<◌, Bool, true, false, ◌&&◌, not, List, [], ◌∷◌, length}
 use Rattle.std.proofs.lemmas.Bool.{eq-eqb}
 use Rattle.std.proofs.lemmas.List.Elements.{All-head}
 use Rattle.std.specs.Prelude.{All, ◌==◌, filter, if◌then◌else◌}
 use Rattle.sql_tree.specs.Statement.{Tree}
 use Rattle.lint_base.specs.declared.violation.Violation.{Violation}
 use Rattle.lint_base.specs.RuleSets.{Rules}
+use Rattle.lint_base.specs.declared.settings.LinterSettings.{LinterSettings}
+use Rattle.lint_ignore.specs.Comment.{has_disable_comment}
+use Rattle.lint_pass.specs.Cleared.{IsCleared}
 use Rattle.lint_pass.specs.Ranges.{AllLieIn}
 use Rattle.lock_law.specs.Clean.{IsClean}
 use Rattle.lock_law.specs.Laws.{CleanAnswersHaveNoOldWork, CleanAnswersValidateApart}
@@ -35,6 +38,13 @@ empty_answer : (tree : Tree) (x : List Violation) (rules : Rules) → HasNoIgnor
 empty_answer tree x rules none lie e =
     nothing_in start_of (length tree.text + 1) x (starts_low tree x lie) (sym (plain_answer tree x rules none) ∙ e)
 
+turned_off : (assume disable : Bool) → disable ≡ true → (assume && not disable) ≡ false
+turned_off true disable e = ap not e
+turned_off false disable e = refl
+
+cleared_settings : (tree : Tree) (settings : LinterSettings) → IsCleared tree (cleared tree settings)
+cleared_settings tree settings = record { cleared = turned_off settings.assume_in_transaction (has_disable_comment tree) }
+
 pub clean_answers_work_alone : CleanAnswersHaveNoOldWork → CleanAnswersValidateApart → ReportsLie own_table → CleanAnswersWorkAlone
 clean_answers_work_alone young apart lie tree rules settings read clean =
     let set = cleared tree settings in
@@ -43,4 +53,4 @@ clean_answers_work_alone young apart lie tree rules settings read clean =
       no_reports = empty_answer tree (own_table tree rules set) rules clean.no_comments (lie tree rules set read) clean.no_reports;
     }
     in
-    record { young = young tree rules set read.read silent clean.plain_text; apart = apart tree rules set silent }
+    record { young = young tree rules set read.read (cleared_settings tree settings) silent clean.plain_text; apart = apart tree rules set silent }

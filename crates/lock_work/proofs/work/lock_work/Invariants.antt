@@ -2,13 +2,13 @@ use Rattle.std.proofs.Common.{◌≡◌, ◌≤◌}
 use Rattle.lint_transaction.specs.Earlier.{pieces_below}
 use Rattle.lock_work.specs.Machine.{before}
 use Rattle.lock_work.specs.MachineWalk.{IsMachine}
-use Rattle.lock_work.specs.Works.{works_at}
+use Rattle.lock_work.specs.Works.{is_assumed, works_at}
 use Rattle.lock_work.proofs.work.lock_work.Given as goal
 
 -- the work of the statements so far was added, and the machine is after them
 abbrev pub invariant-loop-i : goal.invariant-loop-i
 invariant-loop-i l = record {
-  kept : IsMachine l.file (before l.set.assume_in_transaction l.file l.i) l.machine;
+  kept : IsMachine l.file (before (is_assumed l.set l.file) l.file l.i) l.machine;
   few : l.machine.number ≤ l.i;
   listed : l.list.items ≡ pieces_below (works_at l.set l.file) l.i;
 }

@@ -1,4 +1,4 @@
-use Rattle.sql_relex.proofs.Beside.{no_word_after, letter_follows}
+use Rattle.sql_relex.proofs.Beside.{no_word_after, letter_follows, letter_follows_dot}
 use Rattle.sql_relex.proofs.Edits.{concurrently_rereads, word_rereads, set_rereads, word_ends}
 use Rattle.sql_relex.proofs.laws.edits_reread.Goals as goal
 
@@ -19,3 +19,6 @@ returns-clause-no_word c = no_word_after
 
 pub returns-clause-letter : goal.returns-clause-letter
 returns-clause-letter c = letter_follows
+
+pub returns-clause-dot : goal.returns-clause-dot
+returns-clause-dot c = letter_follows_dot

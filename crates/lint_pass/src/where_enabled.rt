@@ -1,0 +1,102 @@
+//! Passes that are asked only where some rule of theirs is enabled.
+
+ghost use Rattle.std.specs.Prelude.{◌≡◌, ◌+◌, ◌<◌, ◌++◌, length, true, OnOk, OnErr, IfOk};
+ghost use Rattle.lint_base.specs.Grown.{GrownBy};
+ghost use Rattle.lint_pass.specs.Enabled.{some_enabled};
+
+use crate::blocks::Block;
+use crate::step::StepPass;
+use lint_base::{LinterSettings, Reports, RuleSet};
+use sql_tree::{Parse, Stmt};
+use std::alloc::Global;
+use text_pos::NoMemory;
+
+/// A pass that is asked only where some rule of its own is enabled. It reports what the pass reports. A linter with few rules so
+/// passes over a whole [`crate::Pair`] of passes by one test.
+#[derive(Drop)]
+pub struct WhereEnabled<P> {
+    pub pass: P,
+}
+
+impl<P: StepPass> WhereEnabled<P> {
+    /// Whether some rule of the pass is enabled.
+    #[inline(always)]
+    fn is_asked(&self, rules: &RuleSet) -> bool
+        ensures { result ≡ some_enabled (P.own self.now.pass) rules.now }
+    {
+        self.pass.rules().intersects(*rules)
+    }
+}
+
+impl<P: StepPass> StepPass for WhereEnabled<P> {
+    ghost use Rattle.std.specs.Prelude.{true};
+    ghost use Rattle.lint_pass.specs.Enabled.{some_enabled};
+
+    type State = P::State;
+
+    ghost own = { λ x. P.own x.pass };
+
+    ghost at = { λ x state tree r s i. some_enabled (P.own x.pass) r ≡ true → P.at x.pass state tree r s i };
+
+    ghost wants = { λ x. P.wants x.pass };
+
+    ghost piece = { λ x. P.piece x.pass };
+
+    ghost tail = { λ x. P.tail x.pass };
+
+    ghost table = { λ x. P.table x.pass };
+
+    ghost whole = { λ x. P.whole x.pass };
+
+    ghost coded = { λ x. P.coded x.pass };
+
+    ghost placed = { λ x. P.placed x.pass };
+
+    ghost apart = { λ x. P.apart x.pass };
+
+    fn rules(&self) -> RuleSet {
+        self.pass.rules()
+    }
+
+    fn wants_blocks(&self, rules: &RuleSet) -> bool {
+        self.pass.wants_blocks(rules)
+    }
+
+    fn start(&self, alloc: Global, set: &LinterSettings) -> Result<P::State, NoMemory> {
+        self.pass.start(alloc, set)
+    }
+
+    #[inline(always)]
+    fn step(
+        &self,
+        state: &mut P::State,
+        p: &Parse<'_>,
+        i: u32,
+        s: &Stmt,
+        blocks: &[Block],
+        rules: &RuleSet,
+        set: &LinterSettings,
+        out: &mut Reports,
+    ) -> Result<(), NoMemory> {
+        if self.is_asked(rules) {
+            self.pass.step(state, p, i, s, blocks, rules, set, out)
+        } else {
+            Ok(())
+        }
+    }
+
+    fn finish(
+        &self,
+        alloc: Global,
+        state: P::State,
+        p: &Parse<'_>,
+        rules: &RuleSet,
+        set: &LinterSettings,
+        out: &mut Reports,
+    ) -> Result<(), NoMemory> {
+        if !self.is_asked(rules) {
+            return Ok(());
+        }
+        self.pass.finish(alloc, state, p, rules, set, out)
+    }
+}

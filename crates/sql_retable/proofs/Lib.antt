@@ -1,0 +1,16 @@
+pub mod BracketLists
+pub mod Actions
+pub mod Rows
+pub mod Phrases
+pub mod Adding
+pub mod Added
+pub mod SetTypes
+pub mod Altering
+pub mod Altered
+pub mod CreateShapes
+pub mod CreateFronts
+pub mod Elements
+pub mod Created
+pub mod WordPlaces
+pub mod NamePlaces
+pub mod Named

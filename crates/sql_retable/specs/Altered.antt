@@ -1,0 +1,64 @@
+-- The type that an ALTER TABLE gives to a column becomes one word: the tree is the old one, that type aside.
+use Rattle.std.specs.Prelude.{◌≡◌, ◌<◌, ℕ, ◌^◌, true, List, ◌∷◌, ◌++◌, map, length, Option, Some, None}
+use Rattle.std.specs.Option.{option_map}
+use Rattle.sql_token.specs.declared.token.Span.{Span}
+use Rattle.sql_token.specs.Token.{Text}
+use Rattle.sql_tree.specs.declared.kinds.ActionKind.TheVariants as a
+use Rattle.sql_tree.specs.declared.kinds.PieceKind.TheVariants as piece
+use Rattle.sql_tree.specs.declared.kinds.StmtKind.TheVariants as stmt
+use Rattle.sql_tree.specs.declared.nodes.Action.{Action}
+use Rattle.sql_tree.specs.declared.nodes.Body.TheVariants as body
+use Rattle.sql_tree.specs.declared.nodes.Column.{Column}
+use Rattle.sql_tree.specs.declared.nodes.ColType.{ColType}
+use Rattle.sql_tree.specs.declared.nodes.Piece.{Piece}
+use Rattle.sql_tree.specs.declared.nodes.Stmt.{Stmt}
+use Rattle.sql_tree.specs.Statement.{Tree, IsTree}
+use Rattle.sql_law.specs.Moved.{span_moved, action_moved, piece_moved, stmt_moved}
+use Rattle.sql_retype.specs.Runs.{fused, worded_text, IsTypeName, IsApart, Worded}
+use Rattle.sql_retype.specs.Types.{is_replaced, retyped_column, retyped_piece}
+
+-- ---- ADD COLUMN
+
+-- the action with that type for its column, and nothing else changed
+abbrev pub retyped_action : ℕ → Action → Action
+retyped_action n b = record b { column = option_map (retyped_column n) b.column }
+
+-- What an action is where its column's type is the word n: the same action with that type. There is one exception. Where the word
+-- COLUMN is not there, a column may be named `constraint` (PostgreSQL reserves that word, the grammar here does not). Then its type
+-- may be the name of a constraint that ADD begins: `ADD constraint varchar(10) CHECK (a > 0)` adds a column, and with `text` in place
+-- of its type it adds a constraint of the table, which has no column, and as few pieces.
+pub data IsRetyped (n : ℕ) (b now : Action) : Type 0 where
+  column : now ≡ retyped_action n b → IsRetyped n b now
+  constraint : b.word ≡ None → now.kind ≡ a.AddConstraint → now.column ≡ None → now.pieces ≡ b.pieces → IsRetyped n b now
+
+-- The statement has an action that is so in place of the old one, and all else is the same under its new numbers.
+pub record ActionNow (f : ℕ → ℕ) (st : Stmt) (path : Option Span) (earlier : List Action) (Is : Action → Type 0) (later : List Action) (now : Stmt) : Type 0 where
+  pub action : Action
+  pub has : Is action
+  pub is : now ≡ record (stmt_moved f st) { body = body.Alter (option_map (span_moved f) path) (map (action_moved f) earlier ++ action ∷ map (action_moved f) later) }
+
+-- The text with the word in place of the inner type of a column that an ALTER TABLE adds has such a tree.
+abbrev pub AddedTypeReads : Type 0
+AddedTypeReads =
+    (tree : Tree) (before : List Stmt) (st : Stmt) (after : List Stmt) (path : Option Span) (earlier : List Action) (b : Action) (later : List Action) (c : Column) (ty : ColType) (w : Text) →
+    IsTree tree → tree.stmts ≡ before ++ st ∷ after → st.kind ≡ stmt.AlterTable → st.body ≡ body.Alter path (earlier ++ b ∷ later) →
+    b.column ≡ Some c → c.ty ≡ Some ty → is_replaced ty ≡ true →
+    IsTypeName w → IsApart tree ty.inner.first ty.inner.last → length (worded_text tree ty.inner.first ty.inner.last w) < 2 ^ 32 →
+    Worded tree ty.inner.first ty.inner.last w before
+    (ActionNow (fused ty.inner.first ty.inner.last) st path earlier (IsRetyped ty.inner.first (action_moved (fused ty.inner.first ty.inner.last) b)) later) after
+
+-- ---- ALTER COLUMN with SET DATA TYPE
+
+-- the action under its new numbers, with that type in the piece p, and nothing else changed
+abbrev pub retyped_in : (ℕ → ℕ) → ℕ → Action → List Piece → Piece → List Piece → Action
+retyped_in f n b first p others = record (action_moved f b) { pieces = map (piece_moved f) first ++ retyped_piece n (piece_moved f p) ∷ map (piece_moved f) others }
+
+-- The text with the word in place of the inner type that an ALTER TABLE sets has such a tree.
+abbrev pub SetTypeReads : Type 0
+SetTypeReads =
+    (tree : Tree) (before : List Stmt) (st : Stmt) (after : List Stmt) (path : Option Span) (earlier : List Action) (b : Action) (later : List Action) (first : List Piece) (p : Piece) (others : List Piece) (ty : ColType) (w : Text) →
+    IsTree tree → tree.stmts ≡ before ++ st ∷ after → st.kind ≡ stmt.AlterTable → st.body ≡ body.Alter path (earlier ++ b ∷ later) →
+    b.pieces ≡ first ++ p ∷ others → p.kind ≡ piece.SetType → p.ty ≡ Some ty → is_replaced ty ≡ true →
+    IsTypeName w → IsApart tree ty.inner.first ty.inner.last → length (worded_text tree ty.inner.first ty.inner.last w) < 2 ^ 32 →
+    Worded tree ty.inner.first ty.inner.last w before
+    (ActionNow (fused ty.inner.first ty.inner.last) st path earlier (λ now. now ≡ retyped_in (fused ty.inner.first ty.inner.last) ty.inner.first b first p others) later) after

@@ -1,0 +1,3 @@
+pub mod Altered
+pub mod Created
+pub mod Named

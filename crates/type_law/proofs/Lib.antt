@@ -1,0 +1,15 @@
+pub mod Walk
+pub mod Bodies
+pub mod Ranged
+pub mod ColumnTypes
+pub mod TypesApart
+pub mod Tokens
+pub mod Reports
+pub mod Tables
+pub mod Edits
+pub mod Words
+pub mod Homes
+pub mod Inners
+pub mod KeyWords
+pub mod LastNames
+pub mod Fixes
