@@ -1,3 +1,4 @@
+#![tactic(auto)]
 //! Cases as plain text: a title, words, a text, and what a program is to answer.
 //!
 //! ```text
@@ -33,7 +34,6 @@
 //! ===
 //! status 0
 //! ```
-#![tactic(auto)]
 
 mod case;
 mod escape;

@@ -7,8 +7,8 @@ mod ignores;
 #[cfg(test)]
 mod locks;
 #[cfg(test)]
+mod reports;
+#[cfg(test)]
 mod rules;
 #[cfg(test)]
 mod tables;
-#[cfg(test)]
-mod texts;

@@ -1,13 +1,8 @@
-//! What is tested of places, rules, sets of rules, edits and reports.
-ghost use Rattle.std.specs.Prelude.{◌≡◌, ◌≤◌};
+//! What is tested of rules and sets of rules.
 
-use lint_base::{
-    Edit, Fix, LinterSettings, Names, Reports, Rule, RuleNameError, RuleSet, Text, UnknownName,
-    Violation,
-};
-use std::hash::{DefaultHasher, Hash, Hasher};
+use lint_base::{Rule, RuleNameError, RuleSet, UnknownName};
+use std::alloc::Global;
 use std::test::Fail;
-use text_pos::{LineEnding, LineIndex, TextRange, TextSize, line_ending};
 
 // Each rule, its printed name, and whether it is opt-in.
 const TABLE: [(Rule, &str, bool); 78] = [
@@ -211,136 +206,111 @@ const TABLE: [(Rule, &str, bool); 78] = [
     (Rule::BanAlterExtension, "ban-alter-extension", true),
 ];
 
-fn range(start: u32, end: u32) -> TextRange
-    requires { start ≤ end }
-    ensures { result ≡ record { start = start; end = end } }
-{
-    TextRange::new(TextSize::new(start), TextSize::new(end))
-}
-
-// Places in "a\nb\n", and the lines that they are in.
-const LINES: [(u32, u32); 4] = [(0, 0), (1, 0), (2, 1), (4, 2)];
-
 #[test]
-fn lines_are_counted(rt: HostRuntime) -> Result<(), Fail> {
-    let index = LineIndex::new(rt.alloc(), "a\nb\n")?;
-    for (place, line) in &LINES {
-        assert!(rt; index.line(TextSize::new(*place)) == *line);
-    }
-    assert!(rt; LineIndex::new(rt.alloc(), "")?.line(TextSize::new(0)) == 0);
-    Ok(())
-}
-
-// Texts, how their lines end, and the bytes of that.
-const ENDINGS: [(&str, LineEnding, &str); 7] = [
-    ("", LineEnding::Lf, "\n"),
-    ("a\rb", LineEnding::Lf, "\n"),
-    ("\n", LineEnding::Lf, "\n"),
-    ("a\r\nb\n", LineEnding::CrLf, "\r\n"),
-    ("a\nb\r\n", LineEnding::Lf, "\n"),
-    ("\r\n", LineEnding::CrLf, "\r\n"),
-    ("\n\r", LineEnding::Lf, "\n"),
-];
-
-#[test]
-fn line_endings_are_found(rt: HostRuntime) -> Result<(), Fail> {
-    for (text, ending, bytes) in &ENDINGS {
-        let found = line_ending(text);
-        assert!(rt; found == *ending && found.as_str() == *bytes);
-    }
-    Ok(())
-}
-
-#[test]
-fn ranges_are_measured(rt: HostRuntime) -> Result<(), Fail> {
-    let outer = range(2, 7);
-    assert!(rt; outer.len() == TextSize::new(5) && !outer.is_empty() && range(3, 3).is_empty());
-    assert!(rt; outer.contains_range(range(2, 7)) && outer.contains_range(range(7, 7)));
-    assert!(rt; !outer.contains_range(range(1, 3)) && !outer.contains_range(range(6, 8)));
-    Ok(())
-}
-
-#[test]
-fn every_rule_has_its_name(rt: HostRuntime) -> Result<(), Fail> {
+fn each_rule(rt: HostRuntime) {
     assert_eq!(rt; TABLE.len(), Rule::ALL.len());
     for ((rule, name, is_opt_in), listed) in TABLE.iter().zip(&Rule::ALL) {
         assert!(rt; rule == listed && rule.name() == *name && rule.is_opt_in() == *is_opt_in);
-        assert!(rt; format!(in rt.alloc(); "{rule}")?.as_str() == *name);
-        let found = Rule::try_from(*name);
-        assert!(rt;
-            found
-                == if *rule == Rule::UnusedIgnore {
-                    Err(UnknownName)
-                } else {
-                    Ok(*rule)
-                }
-        );
     }
-    Ok(())
 }
 
-// Texts, and the rules that they name.
-const NAMED: [(&str, Result<Rule, UnknownName>); 5] = [
-    ("prefer-timestamptz", Ok(Rule::PreferTimestampTz)),
-    ("prefer-timestamp-tz", Ok(Rule::PreferTimestampTz)),
-    ("Ban-drop-table", Err(UnknownName)),
-    ("ban-drop-table ", Err(UnknownName)),
-    ("", Err(UnknownName)),
+#[test]
+fn the_default_set_has_51_rules(rt: HostRuntime) {
+    let set = RuleSet::all_default();
+    for (rule, _, is_opt_in) in &TABLE {
+        assert!(rt; set.contains(*rule) != *is_opt_in);
+    }
+    assert_eq!(rt; TABLE.iter().filter(|row| !row.2).count(), 51);
+}
+
+#[test]
+fn the_alias_expands_to_two(rt: HostRuntime) {
+    for rule in &Rule::ALL {
+        let expansion: &[Rule] = match *rule {
+            Rule::RequireTimeoutSettings => {
+                &[Rule::RequireLockTimeout, Rule::RequireStatementTimeout]
+            }
+            _ => &[],
+        };
+        assert!(rt; rule.expands_to() == expansion);
+    }
+}
+
+/// A text, and the rule that it names, printed, or what is printed of the error.
+const NAMED: [(&str, &str); 6] = [
+    ("prefer-timestamptz", "prefer-timestamp-tz"),
+    ("prefer-timestamp-tz", "prefer-timestamp-tz"),
+    (
+        "Ban-drop-table",
+        "Ban-drop-table: invalid rule name Ban-drop-table",
+    ),
+    (
+        "ban-drop-table ",
+        "ban-drop-table : invalid rule name ban-drop-table ",
+    ),
+    ("", ": invalid rule name "),
+    (
+        "unused-ignore",
+        "unused-ignore: invalid rule name unused-ignore",
+    ),
 ];
 
-#[test]
-fn other_texts_name_no_rule(rt: HostRuntime) -> Result<(), Fail> {
-    for (text, named) in &NAMED {
-        assert!(rt; Rule::try_from(*text) == *named);
-    }
-    Ok(())
-}
-
-#[test]
-fn the_alias_expands_to_two(rt: HostRuntime) -> Result<(), Fail> {
-    for rule in &Rule::ALL {
-        let expansion = rule.expands_to();
-        if *rule == Rule::RequireTimeoutSettings {
-            assert!(rt;
-                expansion == [Rule::RequireLockTimeout, Rule::RequireStatementTimeout].as_slice()
-            );
-        } else {
-            assert!(rt; expansion.is_empty());
-        }
-    }
-    Ok(())
-}
-
-#[test]
-fn a_text_is_kept_with_its_error(rt: HostRuntime) -> Result<(), Fail> {
-    assert_eq!(rt;
-        Rule::from_str(rt.alloc(), "prefer-timestamptz"),
-        Ok(Rule::PreferTimestampTz)
-    );
-    match Rule::from_str(rt.alloc(), "unused-ignore") {
+// The rule of a name, or the name that is kept with the error, and what is printed of it.
+fn named(alloc: Global, name: &str) -> Result<String, Fail> {
+    match Rule::from_str(alloc, name) {
+        Ok(rule) => Ok(format!(in alloc; "{rule}")?),
         Err(RuleNameError::Unknown(unknown)) => {
-            assert!(rt; unknown.as_str() == "unused-ignore");
-            let printed = format!(in rt.alloc(); "{unknown}")?;
-            assert!(rt; printed.as_str() == "invalid rule name unused-ignore");
-            let error = RuleNameError::Unknown(unknown);
-            let printed = format!(in rt.alloc(); "{error}")?;
-            assert!(rt; printed.as_str() == "invalid rule name unused-ignore");
+            Ok(format!(in alloc; "{}: {unknown}", unknown.as_str())?)
         }
-        other => assert!(rt; other.is_ok() && other.is_err()),
+        Err(e) => Ok(format!(in alloc; "{e}")?),
+    }
+}
+
+#[test]
+fn names_of_rules(rt: HostRuntime) -> Result<(), Fail> {
+    for (text, want) in &NAMED {
+        assert_eq!(rt; named(rt.alloc(), text)?.as_str(), *want);
+        let is_named = Rule::try_from(*text) == Ok(Rule::PreferTimestampTz);
+        assert_eq!(rt; is_named, *want == "prefer-timestamp-tz");
     }
     Ok(())
+}
+
+// Each rule but the one of unused names has the name that it is printed as.
+#[test]
+fn names_without_memory(rt: HostRuntime) {
+    for (rule, name, _) in &TABLE {
+        let is_named = Rule::try_from(*name) == Ok(*rule);
+        assert_eq!(rt; is_named, *rule != Rule::UnusedIgnore);
+    }
+}
+
+#[test]
+fn rules_are_printed(rt: HostRuntime) -> Result<(), Fail> {
+    for (rule, name, _) in &TABLE {
+        assert_eq!(rt; format!(in rt.alloc(); "{rule}")?.as_str(), *name);
+    }
+    Ok(())
+}
+
+// What is printed of a name that no rule has.
+fn refused(alloc: Global, name: &str) -> Result<String, Fail> {
+    match Rule::from_str(alloc, name) {
+        Ok(_) => Ok(String::new(alloc)),
+        Err(e) => Ok(format!(in alloc; "{e}")?),
+    }
 }
 
 #[test]
 fn errors_print_their_texts(rt: HostRuntime) -> Result<(), Fail> {
-    let unknown = UnknownName;
-    assert!(rt; format!(in rt.alloc(); "{unknown}")?.as_str() == "unknown rule name");
-    let memory = RuleNameError::NoMemory;
-    assert!(rt; format!(in rt.alloc(); "{memory}")?.as_str() == "out of memory");
+    let printed = format!(in rt.alloc(); "{UnknownName}, {}", RuleNameError::NoMemory)?;
+    assert_eq!(rt; printed.as_str(), "unknown rule name, out of memory");
+    let printed = refused(rt.alloc(), "unused-ignore")?;
+    assert_eq!(rt; printed.as_str(), "invalid rule name unused-ignore");
     Ok(())
 }
 
-// Three rules, in the order in which they are declared.
+/// Three rules, in the order in which they are declared.
 const IN_ORDER: [Rule; 3] = [
     Rule::RequireConcurrentIndexCreation,
     Rule::BanDropTable,
@@ -348,7 +318,7 @@ const IN_ORDER: [Rule; 3] = [
 ];
 
 #[test]
-fn sets_hold_rules_in_order(rt: HostRuntime) -> Result<(), Fail> {
+fn sets_hold_rules_in_order(rt: HostRuntime) {
     let mut set = RuleSet::empty();
     assert!(rt; set.iter().next().is_none());
     set.insert(Rule::BanAlterExtension);
@@ -363,106 +333,4 @@ fn sets_hold_rules_in_order(rt: HostRuntime) -> Result<(), Fail> {
     set.remove(Rule::BanDropTable);
     set.remove(Rule::BanDropColumn);
     assert!(rt; !set.contains(Rule::BanDropTable) && set.contains(Rule::BanAlterExtension));
-    Ok(())
-}
-
-#[test]
-fn the_default_set_has_51_rules(rt: HostRuntime) -> Result<(), Fail> {
-    let set = RuleSet::all_default();
-    let mut count = 0;
-    for (rule, _, is_opt_in) in &TABLE {
-        assert!(rt; set.contains(*rule) != *is_opt_in);
-        if set.contains(*rule) {
-            assert!(rt; count < 78);
-            count += 1;
-        }
-    }
-    assert_eq!(rt; count, 51);
-    Ok(())
-}
-
-fn hash_of(text: &Text) -> u64 {
-    let mut state = DefaultHasher::new();
-    text.hash(&mut state);
-    state.finish()
-}
-
-#[test]
-fn texts_go_by_their_bytes(rt: HostRuntime) -> Result<(), Fail> {
-    let fixed = Text::fixed("abc");
-    let made = Text::made(String::from_str(rt.alloc(), "abc")?);
-    assert!(rt; fixed == made && hash_of(&fixed) == hash_of(&made));
-    assert!(rt; Text::fixed("ab") < made);
-    assert!(rt; Text::made(String::from_str(rt.alloc(), "abd")?) > fixed);
-    Ok(())
-}
-
-#[test]
-fn edits_go_by_start_end_and_text(rt: HostRuntime) -> Result<(), Fail> {
-    let delete = Edit::delete(range(2, 5));
-    assert!(rt; delete < Edit::replace(range(2, 5), Text::fixed("")));
-    assert!(rt; Edit::replace(range(2, 4), Text::fixed("z")) < delete);
-    assert!(rt; Edit::insert(Text::fixed("z"), TextSize::new(2)) < delete);
-    assert!(rt; Edit::delete(range(3, 3)) > delete);
-    assert!(rt;
-        Edit::replace(range(2, 5), Text::fixed("a"))
-            == Edit::replace(range(2, 5), Text::made(String::from_str(rt.alloc(), "a")?))
-    );
-    Ok(())
-}
-
-#[test]
-fn fixes_go_by_title_and_edits(rt: HostRuntime) -> Result<(), Fail> {
-    let mut edits = Vec::new(rt.alloc());
-    edits.push(Edit::delete(range(0, 1)))?;
-    let first = Fix {
-        title: Text::fixed("a"),
-        edits,
-    };
-    let second = Fix {
-        title: Text::fixed("a"),
-        edits: Vec::new(rt.alloc()),
-    };
-    let third = Fix {
-        title: Text::fixed("b"),
-        edits: Vec::new(rt.alloc()),
-    };
-    assert!(rt; second < first && first < third && first != second && first == first);
-    Ok(())
-}
-
-#[test]
-fn names_are_listed(rt: HostRuntime) -> Result<(), Fail> {
-    let mut names = Names::standard(rt.alloc())?;
-    assert!(rt; names.len() == 7 && names.get(6) == "pi");
-    assert!(rt; names.contains("now") && !names.contains("random"));
-    names.push("random")?;
-    assert!(rt; names.contains("random") && names.len() == 8 && names.get(7) == "random");
-    let settings = LinterSettings {
-        pg_version: [15, 0, 0],
-        assume_in_transaction: false,
-        non_volatile: names,
-    };
-    assert!(rt; settings.non_volatile.contains("now"));
-    Ok(())
-}
-
-#[test]
-fn reports_are_listed(rt: HostRuntime) -> Result<(), Fail> {
-    let mut reports = Reports::new(rt.alloc());
-    assert!(rt; reports.items().is_empty());
-    reports.push(Violation::for_range(Rule::BanDropTable, Text::fixed("a"), range(0, 4)))?;
-    let mut more = Reports::new(rt.alloc());
-    more.push(Violation::for_node(
-        Rule::BanDropColumn,
-        Text::fixed("b"),
-        TextSize::new(3),
-        range(1, 4),
-    ))?;
-    reports.append(more)?;
-    assert!(rt; reports.items().len() == 2);
-    let items = reports.into_items();
-    assert!(rt; items.len() == 2 && items[0].code == Rule::BanDropTable);
-    assert!(rt; items[1].text_range == range(3, 4) && items[1].fix.is_none());
-    Ok(())
 }

@@ -12,8 +12,8 @@ use text_pos::{TextRange, TextSize};
 /// An edit: where its range begins and ends, and what it puts there; where it has no text it deletes.
 type Change = (u32, u32, Option<&'static str>);
 
-/// A text, edits, and the edited text.
-const MADE: &[(&str, &[Change], &str)] = &[
+/// A text, edits, and the edited text, or why they are not made.
+const FIXED: &[(&str, &[Change], &str)] = &[
     ("0123456789", &[], "0123456789"),
     ("", &[(0, 0, Some("a"))], "a"),
     (
@@ -55,38 +55,30 @@ const MADE: &[(&str, &[Change], &str)] = &[
         &[(0, 1, None), (1, 3, Some("è")), (3, 3, None)],
         "èb",
     ),
-];
-
-/// A text, edits, and why they are not made.
-const REFUSED: &[(&str, &[Change], FixError)] = &[
     (
         "0123456789",
         &[(5, 9, None), (7, 8, None)],
-        FixError::Overlap { edit: 1 },
+        "overlap in edit 1",
     ),
-    ("é", &[(1, 2, None)], FixError::BadRange { edit: 0 }),
-    ("é", &[(0, 1, Some("e"))], FixError::BadRange { edit: 0 }),
-    ("abc", &[(2, 4, None)], FixError::BadRange { edit: 0 }),
-    ("abc", &[(4, 4, Some("d"))], FixError::BadRange { edit: 0 }),
+    ("é", &[(1, 2, None)], "bad range in edit 0"),
+    ("é", &[(0, 1, Some("e"))], "bad range in edit 0"),
+    ("abc", &[(2, 4, None)], "bad range in edit 0"),
+    ("abc", &[(4, 4, Some("d"))], "bad range in edit 0"),
     (
         "aé",
         &[(0, 1, None), (2, 2, Some("b"))],
-        FixError::BadRange { edit: 1 },
+        "bad range in edit 1",
     ),
-    (
-        "éa",
-        &[(2, 3, None), (1, 2, None)],
-        FixError::BadRange { edit: 1 },
-    ),
+    ("éa", &[(2, 3, None), (1, 2, None)], "bad range in edit 1"),
     (
         "abcd",
         &[(1, 3, None), (2, 4, None), (9, 9, None)],
-        FixError::Overlap { edit: 1 },
+        "overlap in edit 1",
     ),
     (
         "abcd",
         &[(0, 1, None), (1, 3, None), (2, 2, Some("x"))],
-        FixError::Overlap { edit: 2 },
+        "overlap in edit 2",
     ),
 ];
 
@@ -123,24 +115,22 @@ fn fix_of(rt: &impl Abort, alloc: Global, changes: &[Change]) -> Result<Fix, Fai
     })
 }
 
-#[test]
-fn fixes_are_made(rt: HostRuntime) -> Result<(), Fail> {
-    for (text, changes, edited) in MADE {
-        let fix = fix_of(&rt, rt.alloc(), changes)?;
-        assert!(rt; text.len() < 4294967296 && fix.edits.len() < 4294967296);
-        assert_eq!(rt; apply_fix(rt.alloc(), text, &fix)?.as_str(), *edited);
+// The edited text, or why the edits are not made.
+fn fixed(rt: &impl Abort, alloc: Global, text: &str, fix: &Fix) -> Result<String, Fail> {
+    assert!(rt; text.len() < 4294967296 && fix.edits.len() < 4294967296);
+    match apply_fix(alloc, text, fix) {
+        Ok(edited) => Ok(edited),
+        Err(why) => Ok(format!(in alloc; "{why}")?),
     }
-    Ok(())
 }
 
 #[test]
-fn fixes_are_refused(rt: HostRuntime) -> Result<(), Fail> {
-    for (text, changes, why) in REFUSED {
+fn fixes_are_made_or_refused(rt: HostRuntime) -> Result<(), Fail> {
+    for (text, changes, want) in FIXED {
         let fix = fix_of(&rt, rt.alloc(), changes)?;
-        assert!(rt; text.len() < 4294967296 && fix.edits.len() < 4294967296);
         assert_eq!(rt;
-            apply_fix(rt.alloc(), text, &fix).err(),
-            Some(*why),
+            fixed(&rt, rt.alloc(), text, &fix)?.as_str(),
+            *want,
             "at {text:?}"
         );
     }

@@ -6,6 +6,7 @@ use lint_base::{Edit, Fix, Rule, Text, Violation};
 use squawk_print::{WriteError, print_violations, write_violations};
 use squawk_stream::MemSink;
 use std::alloc::Global;
+use std::process::Abort;
 use std::test::Fail;
 use text_pos::{TextRange, TextSize};
 
@@ -52,19 +53,18 @@ fn reports_of(alloc: Global) -> Result<Vec<Violation>, Fail> {
     Ok(reports)
 }
 
-#[test]
-fn reports(rt: HostRuntime) -> Result<(), Fail> {
-    let reports = reports_of(rt.alloc())?;
-    let bytes = print_violations(rt.alloc(), reports.as_slice())?;
-    assert_eq!(rt; bytes.as_slice(), PRINTED.as_bytes());
+// The reports are printed so in memory.
+fn prints(rt: &impl Abort, alloc: Global, reports: &[Violation], want: &str) -> Result<(), Fail> {
+    let bytes = print_violations(alloc, reports)?;
+    assert_eq!(rt; bytes.as_slice(), want.as_bytes());
     Ok(())
 }
 
 #[test]
-fn no_report(rt: HostRuntime) -> Result<(), Fail> {
-    let bytes = print_violations(rt.alloc(), &[])?;
-    assert_eq!(rt; bytes.as_slice(), b"violations: 0\n".as_slice());
-    Ok(())
+fn printed(rt: HostRuntime) -> Result<(), Fail> {
+    let reports = reports_of(rt.alloc())?;
+    prints(&rt, rt.alloc(), reports.as_slice(), PRINTED)?;
+    prints(&rt, rt.alloc(), &[], "violations: 0\n")
 }
 
 /// Writing the reports: how many bytes the sink holds at most, which of its calls fail, and what comes of it.
@@ -76,19 +76,30 @@ const WRITTEN: &[(usize, &[u32], Result<(), WriteError>)] = &[
     (1000, &[0], Err(WriteError::Fault)),
 ];
 
+// Writes reports to a sink that holds so many bytes at most and fails at these of its calls: what comes of it, and what is held.
+fn written(
+    alloc: Global,
+    reports: &[Violation],
+    capacity: usize,
+    fails: &[u32],
+) -> Result<(Result<(), WriteError>, Vec<u8>), Fail> {
+    let mut sink = MemSink::new(alloc, capacity, fails)?;
+    let result = write_violations(alloc, &mut sink, reports);
+    Ok((result, Vec::from_slice(alloc, sink.bytes())?))
+}
+
 #[test]
-fn written(rt: HostRuntime) -> Result<(), Fail> {
+fn reports_are_written(rt: HostRuntime) -> Result<(), Fail> {
     let reports = reports_of(rt.alloc())?;
     for (capacity, fails, expected) in WRITTEN {
-        let mut sink = MemSink::new(rt.alloc(), *capacity, *fails)?;
-        let result = write_violations(rt.alloc(), &mut sink, reports.as_slice());
+        let (result, held) = written(rt.alloc(), reports.as_slice(), *capacity, *fails)?;
         assert_eq!(rt; result, *expected);
-        let held = if fails.is_empty() {
+        let length = if fails.is_empty() {
             PRINTED.len().min(*capacity)
         } else {
             0
         };
-        assert_eq!(rt; sink.bytes(), &PRINTED.as_bytes()[..held]);
+        assert_eq!(rt; held.as_slice(), &PRINTED.as_bytes()[..length]);
     }
     Ok(())
 }
@@ -110,24 +121,16 @@ fn many(alloc: Global) -> Result<(Vec<Violation>, String), Fail> {
     Ok((reports, printed))
 }
 
+// In one go, and stopped between two pieces.
 #[test]
 fn written_in_pieces(rt: HostRuntime) -> Result<(), Fail> {
     let (reports, printed) = many(rt.alloc())?;
-    let mut sink = MemSink::new(rt.alloc(), 200_000, &[])?;
-    let result = write_violations(rt.alloc(), &mut sink, reports.as_slice());
+    let (result, held) = written(rt.alloc(), reports.as_slice(), 200_000, &[])?;
     assert_eq!(rt; result, Ok(()));
-    assert_eq!(rt; sink.bytes(), printed.as_bytes());
-    Ok(())
-}
-
-#[test]
-fn stopped_between_pieces(rt: HostRuntime) -> Result<(), Fail> {
-    let (reports, printed) = many(rt.alloc())?;
-    let mut sink = MemSink::new(rt.alloc(), 200_000, &[1])?;
-    let result = write_violations(rt.alloc(), &mut sink, reports.as_slice());
+    assert_eq!(rt; held.as_slice(), printed.as_bytes());
+    let (result, held) = written(rt.alloc(), reports.as_slice(), 200_000, &[1])?;
     assert_eq!(rt; result, Err(WriteError::Fault));
-    let held = sink.bytes();
     assert!(rt; !held.is_empty() && held.len() < printed.len());
-    assert!(rt; printed.as_bytes().starts_with(held));
+    assert!(rt; printed.as_bytes().starts_with(held.as_slice()));
     Ok(())
 }

@@ -5,25 +5,15 @@ use sql_tree::{Body, Elem, Expr, Stmt};
 use std::alloc::Global;
 use std::test::Fail;
 
-// The front, then a piece so many times with commas between, then the end.
-fn listed(
-    alloc: Global,
-    front: &str,
-    piece: &str,
-    separator: &str,
-    count: usize,
-    end: &str,
-) -> Result<String, Fail> {
-    let mut text = String::new(alloc);
-    text.push_str(front)?;
+// The piece so many times, with this between.
+fn push_list(out: &mut String, piece: &str, between: &str, count: usize) -> Result<(), Fail> {
     for i in 0..count {
         if i > 0 {
-            text.push_str(separator)?;
+            out.push_str(between)?;
         }
-        text.push_str(piece)?;
+        out.push_str(piece)?;
     }
-    text.push_str(end)?;
-    Ok(text)
+    Ok(())
 }
 
 fn operands(elem: &Elem) -> usize {
@@ -62,13 +52,16 @@ fn sizes(alloc: Global, text: &str) -> Result<String, Fail> {
     Ok(out)
 }
 
-/// What comes before a list, one piece of it, what is between, how many pieces, what comes after, and the size.
-const LISTS: &[(&str, &str, &str, usize, &str, &str)] = &[
+/// What comes before a list, one piece of it, what is between two pieces, and how many there are; what comes next, one piece of as
+/// many that come after it, and what comes in the end; and the size.
+const LISTS: &[(&str, &str, &str, usize, &str, &str, &str, &str)] = &[
     (
         "CREATE TABLE t (",
         "a varchar(9) NOT NULL DEFAULT 'x'",
         ", ",
         10000,
+        "",
+        "",
         ");",
         "10000",
     ),
@@ -77,6 +70,8 @@ const LISTS: &[(&str, &str, &str, usize, &str, &str)] = &[
         "ADD COLUMN a int DEFAULT 1",
         ", ",
         10000,
+        "",
+        "",
         ";",
         "10000",
     ),
@@ -85,47 +80,39 @@ const LISTS: &[(&str, &str, &str, usize, &str, &str)] = &[
         "a",
         " + ",
         100000,
+        "",
+        "",
         "));",
         "100000",
     ),
-    ("CREATE TABLE t (CHECK (", "(", "", 126, "1", "syntax at 0"),
+    (
+        "CREATE TABLE t (CHECK (",
+        "(",
+        "",
+        126,
+        "1",
+        "",
+        "",
+        "syntax at 0",
+    ),
+    // The expression of a CHECK is in two more brackets.
+    (CHECK, "(", "", 0, "a", ")", "));", "2"),
+    (CHECK, "(", "", 126, "a", ")", "));", "2"),
+    (CHECK, "(", "", 127, "a", ")", "));", "syntax at 0"),
 ];
+
+const CHECK: &str = "CREATE TABLE t (CHECK (1 + ";
 
 #[test]
 fn lists(rt: HostRuntime) -> Result<(), Fail> {
-    for row in LISTS {
-        let text = listed(rt.alloc(), row.0, row.1, row.2, row.3, row.4)?;
-        assert_eq!(rt;
-            sizes(rt.alloc(), text.as_str())?.as_str(),
-            row.5,
-            "at {:?}",
-            row.0
-        );
-    }
-    Ok(())
-}
-
-/// How many brackets are in the expression of a CHECK constraint, which is in two more, and the size.
-const DEPTHS: &[(usize, &str)] = &[(0, "2"), (126, "2"), (127, "syntax at 0")];
-
-#[test]
-fn depths(rt: HostRuntime) -> Result<(), Fail> {
-    for row in DEPTHS {
-        let opened = listed(
-            rt.alloc(),
-            "CREATE TABLE t (CHECK (1 + ",
-            "(",
-            "",
-            row.0,
-            "a",
-        )?;
-        let text = listed(rt.alloc(), opened.as_str(), ")", "", row.0, "));")?;
-        assert_eq!(rt;
-            sizes(rt.alloc(), text.as_str())?.as_str(),
-            row.1,
-            "at {}",
-            row.0
-        );
+    for (front, piece, between, count, middle, closing, end, want) in LISTS {
+        let mut text = String::from_str(rt.alloc(), front)?;
+        push_list(&mut text, piece, between, *count)?;
+        text.push_str(middle)?;
+        push_list(&mut text, closing, "", *count)?;
+        text.push_str(end)?;
+        let answer = sizes(rt.alloc(), text.as_str())?;
+        assert_eq!(rt; answer.as_str(), *want, "at {count} after {front:?}");
     }
     Ok(())
 }

@@ -18,6 +18,7 @@ const FULL: &[(&str, &str)] = &[
     ("ÀB", "Àb"),
     ("\"ÀB\"", "ÀB"),
     ("\"é\"\"É\"", "é\"É"),
+    (LONG, LONG),
 ];
 
 /// A name, and a text that is not its full text.
@@ -28,47 +29,69 @@ const OTHER: &[(&str, &str)] = &[
     ("user", "users"),
     ("\"a\"\"b\"", "a\"\"b"),
     ("", "a"),
+    (LONG, CUT),
 ];
 
-/// Two names, and whether they are the same.
-const SAME: &[(&str, &str, bool)] = &[
-    ("public", "PUBLIC", true),
-    ("public", "\"public\"", true),
-    ("PUBLIC", "\"public\"", true),
-    ("public", "\"PUBLIC\"", false),
-    ("\"a\"\"b\"", "\"a\"\"b\"", true),
-    ("\"a\"\"b\"", "\"ab\"", false),
-    ("a", "ab", false),
-    ("\"a\"", "ab", false),
-    ("é", "É", false),
-    ("\"é\"", "é", true),
-];
+/// A name of 64 letters, and the 63 of them that are kept.
+const LONG: &str = "aaaaaaaaaaaaaaaaaaaaaaaaaaaaaaaaaaaaaaaaaaaaaaaaaaaaaaaaaaaaaabc";
 
-/// What comes after 62 letters of two names, and whether both are cut to the same text.
-const CUT: &[(&str, &str, bool)] = &[
-    ("b", "b", true),
-    ("b", "c", false),
-    ("b", "bc", true),
-    ("bc", "bd", true),
-    ("bc", "cc", false),
-    ("é", "", true),
-    ("é", "ü", true),
-    ("é", "b", false),
-    ("é", "日本", true),
-    ("bé", "b日", true),
-    ("Bé", "b日", true),
-];
+const CUT: &str = "aaaaaaaaaaaaaaaaaaaaaaaaaaaaaaaaaaaaaaaaaaaaaaaaaaaaaaaaaaaaaab";
+
+const LESS: Ordering = Ordering::Less;
+
+const SAME: Ordering = Ordering::Equal;
+
+const MORE: Ordering = Ordering::Greater;
 
 /// Two names, and how the first one is there to the second one.
 const ORDER: &[(&str, &str, Ordering)] = &[
-    ("a", "b", Ordering::Less),
-    ("B", "a", Ordering::Greater),
-    ("\"B\"", "a", Ordering::Less),
-    ("a", "ab", Ordering::Less),
-    ("\"ab\"", "A", Ordering::Greater),
-    ("z", "é", Ordering::Less),
-    ("_", "a", Ordering::Less),
-    ("Users", "\"users\"", Ordering::Equal),
+    ("public", "PUBLIC", SAME),
+    ("public", "\"public\"", SAME),
+    ("PUBLIC", "\"public\"", SAME),
+    ("public", "\"PUBLIC\"", MORE),
+    ("\"a\"\"b\"", "\"a\"\"b\"", SAME),
+    ("\"a\"\"b\"", "\"ab\"", LESS),
+    ("\"a\"", "ab", LESS),
+    ("é", "É", MORE),
+    ("\"é\"", "é", SAME),
+    ("a", "b", LESS),
+    ("B", "a", MORE),
+    ("\"B\"", "a", LESS),
+    ("a", "ab", LESS),
+    ("\"ab\"", "A", MORE),
+    ("z", "é", LESS),
+    ("_", "a", LESS),
+    ("Users", "\"users\"", SAME),
+    ("\"\"", "", SAME),
+];
+
+/// Two names, each by its quotes and by what comes after 62 letters, and how the first name is there to the second one: by what
+/// is kept of both, and by their full texts.
+const CUTS: &[(&str, &str, &str, &str, Ordering, Ordering)] = &[
+    ("", "b", "", "b", SAME, SAME),
+    ("", "b", "", "c", LESS, LESS),
+    ("", "b", "", "bc", SAME, LESS),
+    ("", "bc", "", "bd", SAME, LESS),
+    ("", "bc", "", "cc", LESS, LESS),
+    ("", "é", "", "", SAME, MORE),
+    ("", "é", "", "ü", SAME, LESS),
+    ("", "é", "", "b", LESS, MORE),
+    ("", "é", "", "日本", SAME, LESS),
+    ("", "bé", "", "b日", SAME, LESS),
+    ("", "Bé", "", "b日", SAME, LESS),
+    ("\"", "b", "", "b", SAME, SAME),
+    ("\"", "b", "", "c", LESS, LESS),
+    ("\"", "b", "", "bc", SAME, LESS),
+    ("\"", "bc", "", "bd", SAME, LESS),
+    ("\"", "bc", "", "cc", LESS, LESS),
+    ("\"", "é", "", "", SAME, MORE),
+    ("\"", "é", "", "ü", SAME, LESS),
+    ("\"", "é", "", "b", LESS, MORE),
+    ("\"", "é", "", "日本", SAME, LESS),
+    ("\"", "bé", "", "b日", SAME, LESS),
+    ("\"", "Bé", "", "b日", LESS, LESS),
+    // Two doubled quotes at the end of what is kept.
+    ("\"", "\"\"x", "\"", "\"\"y", SAME, LESS),
 ];
 
 const LETTERS: &str = "aaaaaaaaaaaaaaaaaaaaaaaaaaaaaaaaaaaaaaaaaaaaaaaaaaaaaaaaaaaaaa";
@@ -81,110 +104,80 @@ fn hash_of<T: Hash>(value: &T) -> u64 {
 
 // A name of 62 letters and this ending, between these quotes.
 fn made(alloc: Global, quote: &str, ending: &str) -> Result<String, Fail> {
-    let mut text = String::new(alloc);
-    text.push_str(quote)?;
-    text.push_str(LETTERS)?;
-    text.push_str(ending)?;
-    text.push_str(quote)?;
-    Ok(text)
+    Ok(format!(in alloc; "{quote}{LETTERS}{ending}{quote}")?)
+}
+
+// Whether both are so to each other by each call that compares.
+fn are<T: Ord + Hash>(left: &T, right: &T, order: Ordering) -> bool {
+    let is_same = order == Ordering::Equal;
+    left.cmp(right) == order
+        && right.cmp(left) == order.reverse()
+        && left.partial_cmp(right) == Some(order)
+        && (left == right) == is_same
+        && (right == left) == is_same
+        && (hash_of(left) == hash_of(right)) == is_same
+}
+
+// Whether two names are so to each other: by what is kept of both, and by their full texts.
+fn names_are(left: &str, right: &str, kept: Ordering, full: Ordering) -> bool {
+    are(&Name::of(left), &Name::of(right), kept)
+        && are(&FullName::of(left), &FullName::of(right), full)
 }
 
 #[test]
 fn full_texts(rt: HostRuntime) -> Result<(), Fail> {
-    for row in FULL {
-        let name = Name::of(row.0);
-        let full = FullName::of(row.0);
-        assert_eq!(rt; name.folded(rt.alloc())?.as_str(), row.1);
-        assert_eq!(rt; full.folded(rt.alloc())?.as_str(), row.1);
-        assert!(rt; name.is(row.1) && full.is(row.1), "at {:?}", row.0);
-        assert_eq!(rt; name.text(), row.0);
-        assert_eq!(rt; full.text(), row.0);
-    }
-    for row in OTHER {
-        assert!(rt; !Name::of(row.0).is(row.1), "at {:?}", row.0);
-        assert!(rt; !FullName::of(row.0).is(row.1), "at {:?}", row.0);
+    for (written, full) in FULL {
+        assert_eq!(rt; Name::of(written).folded(rt.alloc())?.as_str(), *full);
+        assert_eq!(rt; FullName::of(written).folded(rt.alloc())?.as_str(), *full);
     }
     Ok(())
 }
 
+// Whether a name has this full text, by both types of names.
+fn is_full(name: Name<'_>, full: FullName<'_>, text: &str) -> (bool, bool) {
+    (name.is(text), full.is(text))
+}
+
 #[test]
-fn equal_names(rt: HostRuntime) {
-    for row in SAME {
-        let left = Name::of(row.0);
-        let right = Name::of(row.1);
-        assert_eq!(rt; left == right, row.2, "at {:?} and {:?}", row.0, row.1);
-        assert_eq!(rt; right == left, row.2);
-        assert_eq!(rt; left.cmp(&right) == Ordering::Equal, row.2);
-        assert_eq!(rt; hash_of(&left) == hash_of(&right), row.2);
-        let left = FullName::of(row.0);
-        let right = FullName::of(row.1);
-        assert_eq!(rt; left == right, row.2);
-        assert_eq!(rt; hash_of(&left) == hash_of(&right), row.2);
+fn texts_of_names(rt: HostRuntime) {
+    for (written, full) in FULL {
+        let name = Name::of(written);
+        let full_name = FullName::of(written);
+        assert!(rt; name.text() == *written && full_name.text() == *written);
+        assert_eq!(rt;
+            is_full(name, full_name, full),
+            (true, true),
+            "at {written:?}"
+        );
     }
+    for (written, other) in OTHER {
+        let is_so = is_full(Name::of(written), FullName::of(written), other);
+        assert_eq!(rt; is_so, (false, false), "at {written:?}");
+    }
+}
+
+#[test]
+fn order(rt: HostRuntime) -> Result<(), Fail> {
+    for (left, right, order) in ORDER {
+        assert!(rt;
+            names_are(left, right, *order, *order),
+            "at {left:?} and {right:?}"
+        );
+    }
+    Ok(())
 }
 
 #[test]
 fn cut_names(rt: HostRuntime) -> Result<(), Fail> {
-    for row in CUT {
-        let one = made(rt.alloc(), "", row.0)?;
-        let other = made(rt.alloc(), "", row.1)?;
-        let quoted = made(rt.alloc(), "\"", row.0)?;
-        let left = Name::of(one.as_str());
-        let right = Name::of(other.as_str());
-        assert_eq!(rt; left == right, row.2, "at {:?} and {:?}", row.0, row.1);
-        assert_eq!(rt; hash_of(&left) == hash_of(&right), row.2);
-        let same = row.2 && row.0 != "Bé";
-        assert_eq!(rt;
-            Name::of(quoted.as_str()) == right,
-            same,
-            "at {:?} and {:?}",
-            row.0,
-            row.1
-        );
-        assert_eq!(rt;
-            FullName::of(one.as_str()) == FullName::of(other.as_str()),
-            row.0 == row.1
+    for (quote, left, other_quote, right, kept, full) in CUTS {
+        let one = made(rt.alloc(), quote, left)?;
+        let other = made(rt.alloc(), other_quote, right)?;
+        assert!(rt;
+            names_are(one.as_str(), other.as_str(), *kept, *full),
+            "at {quote}{left} and {other_quote}{right}"
         );
     }
-    let long = made(rt.alloc(), "", "bc")?;
-    let short = made(rt.alloc(), "", "b")?;
-    assert!(rt; Name::of(long.as_str()).is(long.as_str()));
-    assert!(rt; !Name::of(long.as_str()).is(short.as_str()));
-    assert_eq!(rt;
-        Name::of(long.as_str()).folded(rt.alloc())?.as_str(),
-        long.as_str()
-    );
     Ok(())
-}
-
-// Two quotes that are doubled at the end of what is kept.
-#[test]
-fn cut_at_a_doubled_quote(rt: HostRuntime) -> Result<(), Fail> {
-    let one = made(rt.alloc(), "\"", "\"\"x")?;
-    let other = made(rt.alloc(), "\"", "\"\"y")?;
-    assert!(rt; Name::of(one.as_str()) == Name::of(other.as_str()));
-    assert!(rt; FullName::of(one.as_str()) != FullName::of(other.as_str()));
-    Ok(())
-}
-
-#[test]
-fn order(rt: HostRuntime) {
-    for row in ORDER {
-        assert_eq!(rt;
-            Name::of(row.0).cmp(&Name::of(row.1)),
-            row.2,
-            "at {:?} and {:?}",
-            row.0,
-            row.1
-        );
-        assert_eq!(rt; Name::of(row.1).cmp(&Name::of(row.0)), row.2.reverse());
-        assert_eq!(rt; Name::of(row.0).partial_cmp(&Name::of(row.1)), Some(row.2));
-        assert_eq!(rt; FullName::of(row.0).cmp(&FullName::of(row.1)), row.2);
-        assert_eq!(rt;
-            FullName::of(row.0).partial_cmp(&FullName::of(row.1)),
-            Some(row.2)
-        );
-    }
 }
 
 #[test]

@@ -2,7 +2,7 @@
 
 use sql_read::parse;
 use sql_token::Span;
-use sql_tree::{Body, NamePath, Stmt};
+use sql_tree::{Body, NamePath, Parse, Stmt};
 use std::alloc::Global;
 use std::cmp::Ordering;
 use std::test::Fail;
@@ -62,25 +62,37 @@ fn path_of(s: &Stmt) -> Option<Span> {
     }
 }
 
+// How two paths are there to each other.
+fn order_of(left: &NamePath<'_>, right: &NamePath<'_>) -> Result<Option<Ordering>, Fail> {
+    let order = left.cmp(right);
+    if (left == right) != (order == Ordering::Equal) {
+        return Err(Fail::from("equality and order differ"));
+    }
+    Ok(Some(order))
+}
+
+// How the paths of two statements are there to each other, where both have one.
+fn order_in(
+    alloc: Global,
+    p: &Parse<'_>,
+    left: &Stmt,
+    right: &Stmt,
+) -> Result<Option<Ordering>, Fail> {
+    match (path_of(left), path_of(right)) {
+        (Some(left), Some(right)) => order_of(
+            &NamePath::of(alloc, p, left)?,
+            &NamePath::of(alloc, p, right)?,
+        ),
+        _ => Ok(None),
+    }
+}
+
 // How the paths of two statements are there to each other, where there are two.
 fn compared(alloc: Global, text: &str) -> Result<Option<Ordering>, Fail> {
-    match parse(alloc, text) {
-        Ok(p) => match p.tree().stmts.as_slice() {
-            [left, right] => match (path_of(left), path_of(right)) {
-                (Some(left), Some(right)) => {
-                    let left = NamePath::of(alloc, &p, left)?;
-                    let right = NamePath::of(alloc, &p, right)?;
-                    let order = left.cmp(&right);
-                    if (left == right) != (order == Ordering::Equal) {
-                        return Err(Fail::from("equality and order differ"));
-                    }
-                    Ok(Some(order))
-                }
-                _ => Ok(None),
-            },
-            _ => Ok(None),
-        },
-        Err(e) => Err(Fail::from(e)),
+    let p = parse(alloc, text)?;
+    match p.tree().stmts.as_slice() {
+        [left, right] => order_in(alloc, &p, left, right),
+        _ => Ok(None),
     }
 }
 

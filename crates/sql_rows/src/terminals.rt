@@ -58,8 +58,8 @@ fn told(alloc: Global, terminal: Terminal) -> Result<String, Fail> {
     Ok(out)
 }
 
-/// The terminals of the first statement of a text. It serves the tests, so no clause tells more.
-pub fn terminals_of(alloc: Global, text: &str) -> Result<Vec<Terminal>, Fail>
+/// The terminals of the first statement of a text.
+pub(crate) fn terminals_of(alloc: Global, text: &str) -> Result<Vec<Terminal>, Fail>
     requires { length text.now < 2 ^ 32 }
 {
     let toks = lex(alloc, text)?;

@@ -1,6 +1,7 @@
 //! Runs in which every call of a device fails in turn, and devices of every size that is too small.
 
-use squawk_cli::{MemSink, MemSource, SliceSource, Status, Words, run};
+use crate::runs::{Devices, SOUND, ran};
+use squawk_cli::Status;
 use std::alloc::Global;
 use std::process::Abort;
 use std::test::Fail;
@@ -22,76 +23,73 @@ violations: 1
 
 const READ_FAILED: &str = "error: read failed\n";
 
-fn words_of(alloc: Global, list: &[&str]) -> Result<Words, Fail> {
-    let mut words = Words::new(alloc);
-    for word in list {
-        words.push(word)?;
-    }
-    Ok(words)
-}
+const WRITE_FAILED: &str = "error: write failed\n";
 
 // Byte by byte there are 66 reads, of which the last one meets the end. The one after them is never made.
 #[test]
 fn no_read_fails(rt: HostRuntime) -> Result<(), Fail> {
-    let words = words_of(rt.alloc(), WORDS)?;
-    let mut src = MemSource::new(rt.alloc(), TEXT, 1, &[66])?;
-    let mut out = MemSink::new(rt.alloc(), PRINTED.len(), &[])?;
-    let mut err = MemSink::new(rt.alloc(), 0, &[])?;
-    let status = run(rt.alloc(), &words, &mut src, &mut out, &mut err);
-    assert_eq!(rt; status, Status::Found);
-    assert_eq!(rt; out.bytes(), PRINTED.as_bytes());
+    let on = Devices {
+        step: 1,
+        read_fails: &[66],
+        room: PRINTED.len(),
+        error_room: 0,
+        ..SOUND
+    };
+    let left = ran(rt.alloc(), WORDS, TEXT, on)?;
+    assert!(rt; left.is(&Status::Found, PRINTED, ""));
+    assert_eq!(rt; left.reads, [None, Some(0)]);
     Ok(())
 }
 
 #[test]
 fn each_read_fails(rt: HostRuntime) -> Result<(), Fail> {
-    let words = words_of(rt.alloc(), WORDS)?;
     for call in 0..66u32 {
-        let mut src = MemSource::new(rt.alloc(), TEXT, 1, &[call])?;
-        let mut out = MemSink::new(rt.alloc(), 1000, &[])?;
-        let mut err = MemSink::new(rt.alloc(), 100, &[])?;
-        let status = run(rt.alloc(), &words, &mut src, &mut out, &mut err);
-        assert_eq!(rt; status, Status::ReadFault, "at {call}");
-        assert_eq!(rt; out.bytes(), "".as_bytes(), "at {call}");
-        assert_eq!(rt; err.bytes(), READ_FAILED.as_bytes(), "at {call}");
+        let on = Devices {
+            step: 1,
+            read_fails: &[call],
+            ..SOUND
+        };
+        let left = ran(rt.alloc(), WORDS, TEXT, on)?;
+        assert!(rt; left.is(&Status::ReadFault, "", READ_FAILED), "at {call}");
     }
     Ok(())
 }
 
 #[test]
 fn each_size_of_the_sink(rt: HostRuntime) -> Result<(), Fail> {
-    let words = words_of(rt.alloc(), WORDS)?;
     for size in 0..PRINTED.len() {
-        let mut src = SliceSource::new(TEXT);
-        let mut out = MemSink::new(rt.alloc(), size, &[])?;
-        let mut err = MemSink::new(rt.alloc(), 100, &[])?;
-        let status = run(rt.alloc(), &words, &mut src, &mut out, &mut err);
-        assert_eq!(rt; status, Status::WriteFault, "at {size}");
-        assert!(rt; out.bytes().len() <= size, "at {size}");
-        assert!(rt; PRINTED.as_bytes().starts_with(out.bytes()), "at {size}");
-        assert_eq!(rt;
-            err.bytes(),
-            "error: write failed\n".as_bytes(),
+        let on = Devices {
+            room: size,
+            ..SOUND
+        };
+        let left = ran(rt.alloc(), WORDS, TEXT, on)?;
+        let held = left.out.as_slice();
+        assert!(rt;
+            held.len() <= size && PRINTED.as_bytes().starts_with(held),
             "at {size}"
         );
+        assert!(rt; left.status == Status::WriteFault, "at {size}");
+        assert!(rt; left.err.as_slice() == WRITE_FAILED.as_bytes(), "at {size}");
     }
     Ok(())
 }
 
 #[test]
 fn each_size_of_the_error_sink(rt: HostRuntime) -> Result<(), Fail> {
-    let words = words_of(rt.alloc(), WORDS)?;
     for size in 0..READ_FAILED.len() {
-        let mut src = MemSource::new(rt.alloc(), TEXT, 1, &[0])?;
-        let mut out = MemSink::new(rt.alloc(), 1000, &[])?;
-        let mut err = MemSink::new(rt.alloc(), size, &[])?;
-        let status = run(rt.alloc(), &words, &mut src, &mut out, &mut err);
-        assert_eq!(rt; status, Status::ReadFault, "at {size}");
-        assert_eq!(rt; out.bytes(), "".as_bytes(), "at {size}");
+        let on = Devices {
+            step: 1,
+            read_fails: &[0],
+            error_room: size,
+            ..SOUND
+        };
+        let left = ran(rt.alloc(), WORDS, TEXT, on)?;
         assert!(rt;
-            READ_FAILED.as_bytes().starts_with(err.bytes()),
+            left.status == Status::ReadFault && left.out.is_empty(),
             "at {size}"
         );
+        let held = left.err.as_slice();
+        assert!(rt; READ_FAILED.as_bytes().starts_with(held), "at {size}");
     }
     Ok(())
 }
@@ -122,13 +120,16 @@ const FAILING: &[(usize, &[u32])] = &[(0, &[]), (8, &[]), (100, &[0]), (100, &[1
 
 // Runs the row once with each error sink that fails.
 fn keeps_its_status(rt: &impl Abort, alloc: Global, row: &Row) -> Result<(), Fail> {
-    let words = words_of(alloc, row.0)?;
     for (size, fails) in FAILING {
-        let mut src = MemSource::new(alloc, row.1, 100, row.2)?;
-        let mut out = MemSink::new(alloc, row.3, &[])?;
-        let mut err = MemSink::new(alloc, *size, fails)?;
-        let status = run(alloc, &words, &mut src, &mut out, &mut err);
-        assert_eq!(rt; status, row.4);
+        let on = Devices {
+            read_fails: row.2,
+            room: row.3,
+            error_room: *size,
+            error_fails: fails,
+            ..SOUND
+        };
+        let left = ran(alloc, row.0, row.1, on)?;
+        assert_eq!(rt; left.status, row.4);
     }
     Ok(())
 }
