@@ -8,7 +8,7 @@ use crate::report::Answer;
 use std::alloc::Global;
 
 /// What the next line of a case is part of.
-#[derive(Clone, Copy, Debug, PartialEq, Eq)]
+#[derive(Clone, Copy, PartialEq, Eq)]
 enum Part {
     Title,
     Words,

@@ -89,7 +89,7 @@ pub trait Subject {
 }
 
 /// How many cases passed and failed.
-#[derive(Clone, Copy, Debug, PartialEq, Eq)]
+#[derive(Clone, Copy)]
 struct Tally {
     passed: u64,
     failed: u64,

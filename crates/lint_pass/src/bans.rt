@@ -17,7 +17,7 @@ use std::alloc::Global;
 use text_pos::{NoMemory, TextRange};
 
 /// What a row reports.
-#[derive(Debug, Clone, Copy, PartialEq, Eq)]
+#[derive(Clone, Copy)]
 pub enum Spot {
     /// Statements of the kind.
     Statement(StmtKind),

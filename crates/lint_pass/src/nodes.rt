@@ -12,7 +12,7 @@ use sql_tree::{Action, ActionKind, ConKind, Constraint, Parse, Piece, PieceKind,
 use text_pos::{NoMemory, TextRange};
 
 /// A node in a statement, with the kind of the statement.
-#[derive(Debug, Clone, Copy, PartialEq, Eq)]
+#[derive(Clone, Copy)]
 pub enum Node {
     /// An action.
     Action(StmtKind, ActionKind),

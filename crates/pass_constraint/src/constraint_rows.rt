@@ -17,7 +17,7 @@ use sql_tree::{Action, ActionKind, Body, ConKind, Constraint, Parse, Stmt, StmtK
 use text_pos::NoMemory;
 
 /// What excuses a constraint that is added to a table.
-#[derive(Debug, Clone, Copy, PartialEq, Eq)]
+#[derive(Clone, Copy)]
 pub(crate) enum Excuse {
     /// NOT VALID.
     NotValid,
@@ -26,7 +26,7 @@ pub(crate) enum Excuse {
 }
 
 /// What a rule reports of the constraints that an ALTER TABLE adds.
-#[derive(Debug, Clone, Copy)]
+#[derive(Clone, Copy)]
 pub(crate) struct ConstraintRow {
     pub code: Rule,
     /// The kind of a constraint that is added to a table.

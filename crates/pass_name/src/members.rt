@@ -1,7 +1,7 @@
 //! Names of lists of columns.
 
 /// What a list of names is.
-#[derive(Clone, Copy, Debug, PartialEq, Eq)]
+#[derive(Clone, Copy)]
 pub(crate) enum ListKind {
     /// The columns of a table, a view or a query.
     Columns,
@@ -10,7 +10,7 @@ pub(crate) enum ListKind {
 }
 
 /// A part of a SET clause that sets one column alone, and the first token of the part after it.
-#[derive(Clone, Copy, Debug, PartialEq, Eq)]
+#[derive(Clone, Copy)]
 pub(crate) struct Removable {
     pub(crate) first: u32,
     pub(crate) last: u32,
@@ -18,7 +18,7 @@ pub(crate) struct Removable {
 }
 
 /// A name in a list of columns: `partial` where only a field or an element of the column is written.
-#[derive(Clone, Copy, Debug, PartialEq, Eq)]
+#[derive(Clone, Copy)]
 pub(crate) struct Member {
     /// The number of the name's token.
     pub(crate) name: u32,

@@ -13,7 +13,7 @@ use sql_tree::{Action, ActionKind, Body, ConKind, Constraint, Parse, Piece, Piec
 use text_pos::{NoMemory, TextRange};
 
 /// What a row reports, in statements of one kind.
-#[derive(Debug, Clone, Copy, PartialEq, Eq)]
+#[derive(Clone, Copy)]
 pub(crate) enum Spot {
     /// A CREATE INDEX with UNIQUE.
     UniqueIndex,
@@ -34,7 +34,7 @@ pub(crate) enum Spot {
 }
 
 /// What spots look at in a node of a statement.
-#[derive(Debug, Clone, Copy, PartialEq, Eq)]
+#[derive(Clone, Copy)]
 pub(crate) enum Node {
     /// A statement, and whether it is a CREATE INDEX with UNIQUE.
     Statement(bool),

@@ -16,7 +16,7 @@ use std::marker::Model;
 use text_pos::NoMemory;
 
 /// The kinds of objects that are known by their paths.
-#[derive(Clone, Copy, Debug, PartialEq, Eq)]
+#[derive(Clone, Copy)]
 enum Object {
     Table,
     Type,
@@ -24,7 +24,7 @@ enum Object {
 }
 
 /// An object by its path.
-#[derive(Clone, Copy, Debug)]
+#[derive(Clone, Copy)]
 struct NamedObject {
     object: Object,
     path: Span,

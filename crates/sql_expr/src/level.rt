@@ -9,7 +9,7 @@ use std::alloc::Global;
 use text_pos::NoMemory;
 
 /// A kind of expression that holds one other expression.
-#[derive(Clone, Copy, Debug, PartialEq, Eq)]
+#[derive(Clone, Copy)]
 pub(crate) enum Level {
     Cast,
     Collate,

@@ -8,7 +8,7 @@ use sql_mark::{Mark, Parts, begins_list, begins_with, closing};
 use sql_token::{Keyword, Symbol, Terminal};
 
 /// What an option is tested for.
-#[derive(Clone, Copy, Debug, PartialEq, Eq)]
+#[derive(Clone, Copy)]
 pub(crate) enum OptionTest {
     /// CONCURRENTLY, whatever its value.
     Concurrent,

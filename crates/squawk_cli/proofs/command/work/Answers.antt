@@ -1,4 +1,4 @@
-use Rattle.std.proofs.Common.{◌≡◌, Some, arith}
+use Rattle.std.proofs.Common.{◌≡◌, Some, arith, rules}
 use Rattle.squawk_cli.specs.Asked.{given_text, groups_asked}
 use Rattle.squawk_cli.specs.Config.{config_of}
 use Rattle.squawk_cli.specs.Outcome.{InputFor, WrittenFor}
@@ -86,3 +86,168 @@ returns-in-Err-Fault-clause-written g c =
     of_text c.args.words.now c.in-Ok-Some.config (g.S.Source.left c.args.src.now) c.in-Ok.text.items c.as_slice.result.now
     (λ t. WrittenFor WriteFault c.args.words.now t (g.K.Sink.held c.args.out.now) (g.K.Sink.held c.write_found.new.out)) named c.in-Ok.ensures.text c.as_slice.ensures.value
     (part_appended c.args.words.now c.in-Ok-Some.config _ found _ _ named c.in-Ok-lint_input.ensures.found c.in-Err-Fault.ensures.part)
+
+pub returns-in-Ok-None-clause-words : goal.returns-in-Ok-None-clause-words
+returns-in-Ok-None-clause-words g c = search rules
+
+pub returns-in-Ok-None-clause-unread : goal.returns-in-Ok-None-clause-unread
+returns-in-Ok-None-clause-unread g c = search rules
+
+pub returns-in-Ok-None-clause-read : goal.returns-in-Ok-None-clause-read
+returns-in-Ok-None-clause-read g c = search rules
+
+pub returns-in-Ok-None-clause-input : goal.returns-in-Ok-None-clause-input
+returns-in-Ok-None-clause-input g c = search rules
+
+pub returns-in-Ok-None-clause-written : goal.returns-in-Ok-None-clause-written
+returns-in-Ok-None-clause-written g c = search rules
+
+pub returns-in-Ok-None-clause-kept : goal.returns-in-Ok-None-clause-kept
+returns-in-Ok-None-clause-kept g c = search rules
+
+pub returns-in-Ok-None-clause-source : goal.returns-in-Ok-None-clause-source
+returns-in-Ok-None-clause-source g c = search rules
+
+pub returns-in-Ok-None-clause-sink : goal.returns-in-Ok-None-clause-sink
+returns-in-Ok-None-clause-sink g c = search rules
+
+pub returns-in-Err-clause-words : goal.returns-in-Err-clause-words
+returns-in-Err-clause-words g c = search rules
+
+pub returns-in-Err-clause-unread : goal.returns-in-Err-clause-unread
+returns-in-Err-clause-unread g c = search rules
+
+pub returns-in-Err-clause-input : goal.returns-in-Err-clause-input
+returns-in-Err-clause-input g c = search rules
+
+pub returns-in-Err-clause-written : goal.returns-in-Err-clause-written
+returns-in-Err-clause-written g c = search rules
+
+pub returns-in-Err-clause-kept : goal.returns-in-Err-clause-kept
+returns-in-Err-clause-kept g c = search rules
+
+pub returns-in-Err-clause-source : goal.returns-in-Err-clause-source
+returns-in-Err-clause-source g c = search rules
+
+pub returns-in-Err-clause-sink : goal.returns-in-Err-clause-sink
+returns-in-Err-clause-sink g c = search rules
+
+pub returns-in-Err-text_for-clause-words : goal.returns-in-Err-text_for-clause-words
+returns-in-Err-text_for-clause-words g c = search rules
+
+pub returns-in-Err-text_for-clause-unread : goal.returns-in-Err-text_for-clause-unread
+returns-in-Err-text_for-clause-unread g c = search rules
+
+pub returns-in-Err-text_for-clause-read : goal.returns-in-Err-text_for-clause-read
+returns-in-Err-text_for-clause-read g c = search rules
+
+pub returns-in-Err-text_for-clause-input : goal.returns-in-Err-text_for-clause-input
+returns-in-Err-text_for-clause-input g c = search rules
+
+pub returns-in-Err-text_for-clause-written : goal.returns-in-Err-text_for-clause-written
+returns-in-Err-text_for-clause-written g c = search rules
+
+pub returns-in-Err-text_for-clause-kept : goal.returns-in-Err-text_for-clause-kept
+returns-in-Err-text_for-clause-kept g c = search rules
+
+pub returns-in-Err-text_for-clause-source : goal.returns-in-Err-text_for-clause-source
+returns-in-Err-text_for-clause-source g c = search rules
+
+pub returns-in-Err-text_for-clause-sink : goal.returns-in-Err-text_for-clause-sink
+returns-in-Err-text_for-clause-sink g c = search rules
+
+pub returns-in-Err-lint_input-clause-words : goal.returns-in-Err-lint_input-clause-words
+returns-in-Err-lint_input-clause-words g c = search rules
+
+pub returns-in-Err-lint_input-clause-unread : goal.returns-in-Err-lint_input-clause-unread
+returns-in-Err-lint_input-clause-unread g c = search rules
+
+pub returns-in-Err-lint_input-clause-read : goal.returns-in-Err-lint_input-clause-read
+returns-in-Err-lint_input-clause-read g c = search rules
+
+pub returns-in-Err-lint_input-clause-kept : goal.returns-in-Err-lint_input-clause-kept
+returns-in-Err-lint_input-clause-kept g c = search rules
+
+pub returns-in-Err-lint_input-clause-source : goal.returns-in-Err-lint_input-clause-source
+returns-in-Err-lint_input-clause-source g c = search rules
+
+pub returns-in-Err-lint_input-clause-sink : goal.returns-in-Err-lint_input-clause-sink
+returns-in-Err-lint_input-clause-sink g c = search rules
+
+pub returns-then-is_clean-clause-words : goal.returns-then-is_clean-clause-words
+returns-then-is_clean-clause-words g c = search rules
+
+pub returns-then-is_clean-clause-unread : goal.returns-then-is_clean-clause-unread
+returns-then-is_clean-clause-unread g c = search rules
+
+pub returns-then-is_clean-clause-read : goal.returns-then-is_clean-clause-read
+returns-then-is_clean-clause-read g c = search rules
+
+pub returns-then-is_clean-clause-kept : goal.returns-then-is_clean-clause-kept
+returns-then-is_clean-clause-kept g c = search rules
+
+pub returns-then-is_clean-clause-source : goal.returns-then-is_clean-clause-source
+returns-then-is_clean-clause-source g c = search rules
+
+pub returns-then-is_clean-clause-sink : goal.returns-then-is_clean-clause-sink
+returns-then-is_clean-clause-sink g c = search rules
+
+pub returns-in-Ok-write_found-clause-words : goal.returns-in-Ok-write_found-clause-words
+returns-in-Ok-write_found-clause-words g c = search rules
+
+pub returns-in-Ok-write_found-clause-unread : goal.returns-in-Ok-write_found-clause-unread
+returns-in-Ok-write_found-clause-unread g c = search rules
+
+pub returns-in-Ok-write_found-clause-read : goal.returns-in-Ok-write_found-clause-read
+returns-in-Ok-write_found-clause-read g c = search rules
+
+pub returns-in-Ok-write_found-clause-kept : goal.returns-in-Ok-write_found-clause-kept
+returns-in-Ok-write_found-clause-kept g c = search rules
+
+pub returns-in-Ok-write_found-clause-source : goal.returns-in-Ok-write_found-clause-source
+returns-in-Ok-write_found-clause-source g c = search rules
+
+pub returns-in-Ok-write_found-clause-sink : goal.returns-in-Ok-write_found-clause-sink
+returns-in-Ok-write_found-clause-sink g c = search rules
+
+pub returns-in-Err-Fault-clause-words : goal.returns-in-Err-Fault-clause-words
+returns-in-Err-Fault-clause-words g c = search rules
+
+pub returns-in-Err-Fault-clause-unread : goal.returns-in-Err-Fault-clause-unread
+returns-in-Err-Fault-clause-unread g c = search rules
+
+pub returns-in-Err-Fault-clause-read : goal.returns-in-Err-Fault-clause-read
+returns-in-Err-Fault-clause-read g c = search rules
+
+pub returns-in-Err-Fault-clause-kept : goal.returns-in-Err-Fault-clause-kept
+returns-in-Err-Fault-clause-kept g c = search rules
+
+pub returns-in-Err-Fault-clause-source : goal.returns-in-Err-Fault-clause-source
+returns-in-Err-Fault-clause-source g c = search rules
+
+pub returns-in-Err-Fault-clause-sink : goal.returns-in-Err-Fault-clause-sink
+returns-in-Err-Fault-clause-sink g c = search rules
+
+pub returns-clause-words : goal.returns-clause-words
+returns-clause-words g c = search rules
+
+pub returns-clause-unread : goal.returns-clause-unread
+returns-clause-unread g c = search rules
+
+pub returns-clause-read : goal.returns-clause-read
+returns-clause-read g c = search rules
+
+pub returns-clause-input : goal.returns-clause-input
+returns-clause-input g c = search rules
+
+pub returns-clause-written : goal.returns-clause-written
+returns-clause-written g c = search rules
+
+pub returns-clause-kept : goal.returns-clause-kept
+returns-clause-kept g c = search rules
+
+pub returns-clause-source : goal.returns-clause-source
+returns-clause-source g c = search rules
+
+pub returns-clause-sink : goal.returns-clause-sink
+returns-clause-sink g c = search rules

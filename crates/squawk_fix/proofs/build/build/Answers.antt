@@ -1,4 +1,5 @@
-use Rattle.std.proofs.Common.{◌≡◌, ◌∙◌, ◌++◌, ap, refl}
+use Rattle.std.proofs.lemmas.Grind.{common_steps}
+use Rattle.std.proofs.Common.{◌≡◌, ◌∙◌, ◌++◌, ap, refl, arith, rules}
 use Rattle.std.proofs.lemmas.Str.{IsCharBoundary-start}
 use Rattle.fix_law.specs.Edited.{edited_from}
 use Rattle.squawk_fix.proofs.Steps.{at_edit}
@@ -33,3 +34,30 @@ loop-edit-preserved c =
       place = at.next;
       cut = at.in_text.1;
     })
+
+pub returns-in_err-made-clause-ok : goal.returns-in_err-made-clause-ok
+returns-in_err-made-clause-ok c = search rules
+
+pub returns-in_err-made-clause-err : goal.returns-in_err-made-clause-err
+returns-in_err-made-clause-err c = search rules
+
+pub push_edit-requires-clause-from : goal.push_edit-requires-clause-from
+push_edit-requires-clause-from c = search rules
+
+pub returns-in_err-push_edit-clause-ok : goal.returns-in_err-push_edit-clause-ok
+returns-in_err-push_edit-clause-ok c = search rules
+
+pub returns-in_err-push_edit-clause-err : goal.returns-in_err-push_edit-clause-err
+returns-in_err-push_edit-clause-err c = search rules
+
+pub returns-in_err-push_str-clause-ok : goal.returns-in_err-push_str-clause-ok
+returns-in_err-push_str-clause-ok c = search rules
+
+pub returns-in_err-push_str-clause-err : goal.returns-in_err-push_str-clause-err
+returns-in_err-push_str-clause-err c = search rules
+
+pub returns-clause-ok : goal.returns-clause-ok
+returns-clause-ok c = grind (arith, common_steps)
+
+pub returns-clause-err : goal.returns-clause-err
+returns-clause-err c = search rules

@@ -12,3 +12,6 @@ returns c = λ n all.
     (c.in_ok-sort_by_key.ensures.sorted start_of (answers_always _ _ _ (λ f a r g h. search rules)))
     (c.in_ok-sort_by_key.ensures.stable start_of (answers_always _ _ _ (λ f a r g h. search rules)))
     (All-permutation (λ v. start_of v < n) c.args.reports.items c.sort_by_key.new.self.items c.sort_by_key.ensures.permutation all)
+
+pub returns-in_err-sort_by_key : goal.returns-in_err-sort_by_key
+returns-in_err-sort_by_key c = search rules

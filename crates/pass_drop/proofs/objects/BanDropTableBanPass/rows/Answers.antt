@@ -1,0 +1,5 @@
+use Rattle.std.proofs.Common.{arith}
+use Rattle.pass_drop.proofs.objects.BanDropTableBanPass.rows.Goals as goal
+
+pub returns : goal.returns
+returns c = grind arith
