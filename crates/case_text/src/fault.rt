@@ -3,27 +3,34 @@
 use std::alloc::{AllocError, AllocFailed};
 use std::io;
 use text_pos::NoMemory;
-use thiserror::Error;
 
 /// Why a table of cases is not run to its end.
-#[derive(Debug, Drop, Error)]
+#[derive(Drop)]
 pub enum Fault {
-    #[error("out of memory")]
     NoMemory,
-    #[error("the output could not be written")]
     Print,
-    #[error("a case begins with a line `# TITLE`")]
     NoTitle,
-    #[error("a text ends with a line `---` or `===`")]
     NoDashes,
-    #[error("an output ends with a line `status N`")]
     NoStatus,
-    #[error("a backslash is followed by r, n, t, a backslash, or x and two digits")]
     Escape,
-    #[error("a status is `status N` or `status N LINE`")]
     Status,
-    #[error("the last case has no line `status N`")]
     Unended,
+}
+
+impl Fault {
+    /// What is printed of it.
+    pub fn as_str(&self) -> &'static str {
+        match self {
+            Fault::NoMemory => "out of memory",
+            Fault::Print => "the output could not be written",
+            Fault::NoTitle => "a case begins with a line `# TITLE`",
+            Fault::NoDashes => "a text ends with a line `---` or `===`",
+            Fault::NoStatus => "an output ends with a line `status N`",
+            Fault::Escape => "a backslash is followed by r, n, t, a backslash, or x and two digits",
+            Fault::Status => "a status is `status N` or `status N LINE`",
+            Fault::Unended => "the last case has no line `status N`",
+        }
+    }
 }
 
 impl From<AllocError> for Fault {

@@ -95,33 +95,33 @@ struct Tally {
     failed: u64,
 }
 
-fn print_from<R: Print>(rt: &R, text: &str, from: usize) -> Result<(), Fault> {
-    let mut at = 0usize;
-    for line in text.lines() {
-        if at >= from {
-            println!(rt; "+{line}")?;
-        }
-        at = at.saturating_add(1);
+/// Prints a wanted line and the one at its place where they differ.
+fn print_line<R: Print>(rt: &R, wanted: &str, other: Option<&str>) -> Result<(), Fault> {
+    if other == Some(wanted) {
+        return Ok(());
     }
+    println!(rt; "-{wanted}")?;
+    match other {
+        Some(other) => print_more(rt, other),
+        None => Ok(()),
+    }
+}
+
+fn print_more<R: Print>(rt: &R, line: &str) -> Result<(), Fault> {
+    println!(rt; "+{line}")?;
     Ok(())
 }
 
 /// Prints the lines that differ, place by place.
-fn print_lines<R: Print>(rt: &R, alloc: Global, wanted: &str, got: &str) -> Result<(), Fault> {
-    let others: Vec<&str> = got.lines().collect(alloc)?;
-    let mut at = 0usize;
+fn print_lines<R: Print>(rt: &R, wanted: &str, got: &str) -> Result<(), Fault> {
+    let mut others = got.lines();
     for line in wanted.lines() {
-        match others.get(at) {
-            Some(other) => {
-                if line != *other {
-                    println!(rt; "-{line}\n+{other}")?;
-                }
-            }
-            None => println!(rt; "-{line}")?,
-        }
-        at = at.saturating_add(1);
+        print_line(rt, line, others.next())?;
     }
-    print_from(rt, got, at)
+    for line in others {
+        print_more(rt, line)?;
+    }
+    Ok(())
 }
 
 fn print_differing<R: Print + Eprint>(
@@ -136,7 +136,7 @@ fn print_differing<R: Print + Eprint>(
     let title = case.title.as_str();
     println!(rt; "failed, line {number}: {title}")?;
     eprintln!(rt; "failed, line {number}: {title}")?;
-    print_lines(rt, alloc, wanted.as_str(), other.as_str())
+    print_lines(rt, wanted.as_str(), other.as_str())
 }
 
 /// The count with one more case.
@@ -232,6 +232,7 @@ pub fn run_table<R: Print + Eprint + Input + AllocGlobal, S: Subject>(
             Ok(ExitCode::from(exit_status(tally)))
         }
         Err((line, fault)) => {
+            let fault = fault.as_str();
             println!(rt; "line {line}: {fault}")?;
             eprintln!(rt; "line {line}: {fault}")?;
             Ok(ExitCode::from(2))
