@@ -44,4 +44,3 @@ mod rows;
 pub use case::Case;
 pub use fault::Fault;
 pub use report::{Answer, Subject, run_table, shown};
-pub use rows::push_word;

@@ -1,22 +1,8 @@
 //! Rows: one case a line.
 
-ghost use Rattle.std.specs.Prelude.{◌≡◌, ◌++◌, ◌<◌, [], codes, length, string_bytes, OnOk};
-
 use crate::fault::Fault;
 use crate::report::{Answer, Subject, shown};
 use std::alloc::Global;
-
-/// Adds a word to a row, after a space where it is not the first one.
-pub fn push_word(row: &mut String, word: &str) -> Result<(), Fault>
-    ensures first { OnOk result (string_bytes row.old ≡ [] → string_bytes row.new ≡ word.now) }
-    ensures further { OnOk result (0 < length (string_bytes row.old) → string_bytes row.new ≡ string_bytes row.old ++ (codes " " ++ word.now)) }
-{
-    if !row.is_empty() {
-        row.push_str(" ")?;
-    }
-    row.push_str(word)?;
-    Ok(())
-}
 
 /// The words without a last one that is a frame, and what the frame has before and after `{}`.
 fn split_frame(words: &[String]) -> (&[String], &str, &str) {

@@ -4,6 +4,7 @@ use lint_base::Rule;
 use lint_ignore::{Found, IGNORE_FILE_TEXT, IGNORE_LINE_TEXT, IgnoreIndex, find_ignores};
 use sql_read::parse;
 use std::alloc::Global;
+use std::process::Abort;
 use std::test::Fail;
 use text_pos::{TextRange, TextSize};
 
@@ -72,16 +73,16 @@ fn index_of(alloc: Global, text: &str) -> Result<IgnoreIndex, Fail> {
     Ok(IgnoreIndex::new(alloc, p.text(), &found.ignores)?)
 }
 
+fn is_text(rt: &impl Abort, of: &str, text: &str, want: &str) {
+    assert_eq!(rt; text, want, "at {of:?}");
+}
+
 #[test]
 fn debug_texts(rt: HostRuntime) -> Result<(), Fail> {
     for row in TEXTS {
         let index = index_of(rt.alloc(), row.0)?;
-        assert_eq!(rt;
-            format!(in rt.alloc(); "{index:?}")?.as_str(),
-            row.1,
-            "at {:?}",
-            row.0
-        );
+        let shown = format!(in rt.alloc(); "{index:?}")?;
+        is_text(&rt, row.0, shown.as_str(), row.1);
     }
     Ok(())
 }

@@ -71,13 +71,18 @@ fn ranges_are_measured(rt: HostRuntime) {
     }
 }
 
+// An item at this place is greater than those of the places before, equal to itself alone, and less than the others.
+fn is_at<T: Ord>(rt: &impl Abort, items: &[T], item: &T, at: usize) {
+    for (other_at, other) in items.iter().enumerate() {
+        assert_eq!(rt; item.cmp(other), at.cmp(&other_at));
+        assert_eq!(rt; item == other, at == other_at);
+    }
+}
+
 // Each is less than the next one, and equal to itself alone.
 fn ascend<T: Ord>(rt: &impl Abort, items: &[T]) {
     for (at, item) in items.iter().enumerate() {
-        for (other_at, other) in items.iter().enumerate() {
-            assert_eq!(rt; item.cmp(other), at.cmp(&other_at));
-            assert_eq!(rt; item == other, at == other_at);
-        }
+        is_at(rt, items, item, at);
     }
 }
 
@@ -95,14 +100,22 @@ const TEXTS: [&str; 4] = [
 ];
 
 // However a text was made.
+fn is_text_of(rt: &impl Abort, text: &str, made: &Text, fixed: &Text) {
+    assert!(rt; fixed.as_str() == text && made.as_str() == text);
+    assert!(rt; *fixed == *made && hash_of(fixed) == hash_of(made));
+}
+
 #[test]
 fn texts_go_by_their_bytes(rt: HostRuntime) -> Result<(), Fail> {
     for text in &TEXTS {
-        let fixed = Text::fixed(*text);
         let made = Text::made(String::from_str(rt.alloc(), *text)?);
-        assert!(rt; fixed.as_str() == *text && made.as_str() == *text);
-        assert!(rt; fixed == made && hash_of(&fixed) == hash_of(&made));
+        is_text_of(&rt, text, &made, &Text::fixed(*text));
     }
+    Ok(())
+}
+
+#[test]
+fn texts_are_in_order(rt: HostRuntime) -> Result<(), Fail> {
     let made = Text::made(String::from_str(rt.alloc(), "abc")?);
     ascend(&rt, &[Text::fixed("ab"), made, Text::fixed("abd")]);
     Ok(())
@@ -110,7 +123,7 @@ fn texts_go_by_their_bytes(rt: HostRuntime) -> Result<(), Fail> {
 
 // By their starts, then by their ends, then by their texts, where no text comes first.
 #[test]
-fn edits_go_by_start_end_and_text(rt: HostRuntime) -> Result<(), Fail> {
+fn edits_go_by_start_end_and_text(rt: HostRuntime) {
     ascend(
         &rt,
         &[
@@ -121,6 +134,10 @@ fn edits_go_by_start_end_and_text(rt: HostRuntime) -> Result<(), Fail> {
             Edit::delete(range(3, 3)),
         ],
     );
+}
+
+#[test]
+fn edits_are_equal_by_their_texts(rt: HostRuntime) -> Result<(), Fail> {
     let made = Text::made(String::from_str(rt.alloc(), "a")?);
     assert!(rt; Edit::replace(range(2, 5), Text::fixed("a")) == Edit::replace(range(2, 5), made));
     Ok(())

@@ -1,7 +1,8 @@
 //! What is tested of rules and sets of rules.
 
 use lint_base::{Rule, RuleNameError, RuleSet, UnknownName};
-use std::alloc::Global;
+use std::alloc::{AllocError, Global};
+use std::process::Abort;
 use std::test::Fail;
 
 // Each rule, its printed name, and whether it is opt-in.
@@ -206,21 +207,44 @@ const TABLE: [(Rule, &str, bool); 78] = [
     (Rule::BanAlterExtension, "ban-alter-extension", true),
 ];
 
+// A rule is as its row says. Each but the one of unused names has the name that it is printed as.
+fn is_as_listed(
+    rt: &impl Abort,
+    alloc: Global,
+    rule: Rule,
+    name: &str,
+    is_opt_in: bool,
+) -> Result<(), Fail> {
+    let is_named = rule != Rule::UnusedIgnore;
+    assert_eq!(rt; format!(in alloc; "{rule}")?.as_str(), name);
+    assert_eq!(rt; rule.name(), name);
+    assert!(rt; rule.is_opt_in() == is_opt_in, "at {name}");
+    assert!(rt;
+        RuleSet::all_default().contains(rule) != is_opt_in,
+        "at {name}"
+    );
+    assert!(rt; is_found(name, is_named.then_some(rule)), "at {name}");
+    Ok(())
+}
+
 #[test]
-fn each_rule(rt: HostRuntime) {
+fn each_rule(rt: HostRuntime) -> Result<(), Fail> {
     assert_eq!(rt; TABLE.len(), Rule::ALL.len());
-    for ((rule, name, is_opt_in), listed) in TABLE.iter().zip(&Rule::ALL) {
-        assert!(rt; rule == listed && rule.name() == *name && rule.is_opt_in() == *is_opt_in);
+    let mut listed = Rule::ALL.iter();
+    for row in &TABLE {
+        assert_eq!(rt; listed.next(), Some(&row.0));
+        is_as_listed(&rt, rt.alloc(), row.0, row.1, row.2)?;
     }
+    Ok(())
 }
 
 #[test]
 fn the_default_set_has_51_rules(rt: HostRuntime) {
     let set = RuleSet::all_default();
-    for (rule, _, is_opt_in) in &TABLE {
-        assert!(rt; set.contains(*rule) != *is_opt_in);
-    }
-    assert_eq!(rt; TABLE.iter().filter(|row| !row.2).count(), 51);
+    assert_eq!(rt;
+        Rule::ALL.iter().filter(|rule| set.contains(**rule)).count(),
+        51
+    );
 }
 
 #[test]
@@ -256,13 +280,22 @@ const NAMED: [(&str, &str); 6] = [
 ];
 
 // The rule of a name, or the name that is kept with the error, and what is printed of it.
-fn named(alloc: Global, name: &str) -> Result<String, Fail> {
+fn named(alloc: Global, name: &str) -> Result<String, AllocError> {
     match Rule::from_str(alloc, name) {
-        Ok(rule) => Ok(format!(in alloc; "{rule}")?),
+        Ok(rule) => format!(in alloc; "{rule}"),
         Err(RuleNameError::Unknown(unknown)) => {
-            Ok(format!(in alloc; "{}: {unknown}", unknown.as_str())?)
+            format!(in alloc; "{}: {unknown}", unknown.as_str())
         }
-        Err(e) => Ok(format!(in alloc; "{e}")?),
+        Err(RuleNameError::NoMemory) => Err(AllocError),
+    }
+}
+
+// Whether a text names this rule, or none, by the call that takes no memory.
+fn is_found(text: &str, rule: Option<Rule>) -> bool {
+    match (Rule::try_from(text), rule) {
+        (Ok(found), Some(rule)) => found == rule,
+        (Err(UnknownName), None) => true,
+        _ => false,
     }
 }
 
@@ -270,48 +303,17 @@ fn named(alloc: Global, name: &str) -> Result<String, Fail> {
 fn names_of_rules(rt: HostRuntime) -> Result<(), Fail> {
     for (text, want) in &NAMED {
         assert_eq!(rt; named(rt.alloc(), text)?.as_str(), *want);
-        let found = Rule::try_from(*text);
         let is_named = *want == "prefer-timestamp-tz";
-        assert!(rt;
-            if is_named {
-                found == Ok(Rule::PreferTimestampTz)
-            } else {
-                found == Err(UnknownName)
-            }
-        );
-    }
-    Ok(())
-}
-
-// Each rule but the one of unused names has the name that it is printed as.
-#[test]
-fn names_without_memory(rt: HostRuntime) {
-    for (rule, name, _) in &TABLE {
-        let found = Rule::try_from(*name);
-        let is_named = *rule != Rule::UnusedIgnore;
-        assert!(rt;
-            if is_named {
-                found == Ok(*rule)
-            } else {
-                found == Err(UnknownName)
-            }
-        );
-    }
-}
-
-#[test]
-fn rules_are_printed(rt: HostRuntime) -> Result<(), Fail> {
-    for (rule, name, _) in &TABLE {
-        assert_eq!(rt; format!(in rt.alloc(); "{rule}")?.as_str(), *name);
+        assert!(rt; is_found(text, is_named.then_some(Rule::PreferTimestampTz)));
     }
     Ok(())
 }
 
 // What is printed of a name that no rule has.
-fn refused(alloc: Global, name: &str) -> Result<String, Fail> {
+fn refused(alloc: Global, name: &str) -> Result<String, AllocError> {
     match Rule::from_str(alloc, name) {
         Ok(_) => Ok(String::new(alloc)),
-        Err(e) => Ok(format!(in alloc; "{e}")?),
+        Err(e) => format!(in alloc; "{e}"),
     }
 }
 

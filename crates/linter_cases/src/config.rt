@@ -4,6 +4,7 @@ use case_text::Fault;
 use lint_base::{Rule, RuleSet};
 use squawk_cli::{Config, Words, read_words};
 use std::alloc::Global;
+use tree_cases::Row;
 
 fn count(rules: &RuleSet) -> usize {
     Rule::ALL
@@ -15,20 +16,19 @@ fn count(rules: &RuleSet) -> usize {
 /// How many rules and names there are and the version, then what else is asked for.
 fn summary(alloc: Global, config: &Config) -> Result<String, Fault> {
     let settings = &config.linter.settings;
-    let rules = count(&config.linter.rules);
-    let names = settings.non_volatile.len();
     let [major, minor, patch] = settings.pg_version;
-    let mut out = format!(in alloc; "{rules} rules, {names} names, {major}.{minor}.{patch}")?;
-    if settings.assume_in_transaction {
-        out.push_str(", assumed")?;
-    }
-    if config.locks {
-        out.push_str(", locks")?;
-    }
+    let mut row = Row::new(alloc);
+    row.debug("", &count(&config.linter.rules));
+    row.debug(" rules, ", &settings.non_volatile.len());
+    row.debug(" names, ", &major);
+    row.debug(".", &minor);
+    row.debug(".", &patch);
+    row.mark(settings.assume_in_transaction, ", assumed");
+    row.mark(config.locks, ", locks");
     if let Some(seed) = config.generate {
-        out.push_str(format!(in alloc; ", generate {seed}")?.as_str())?;
+        row.debug(", generate ", &seed);
     }
-    Ok(out)
+    row.finish()
 }
 
 /// The configuration that words with `|` between them name, or `refused`. It serves the tests, so no clause is owed.

@@ -4,13 +4,11 @@
 #![tactic(auto)]
 
 mod config;
-mod locks;
-mod rows;
+mod runs;
 
 use case_text::{Answer, Fault, Subject};
 use config::configured;
-use locks::{plainness, worked};
-use rows::reported;
+use runs::{Kept, row_of};
 use squawk_cli::{MemSink, SliceSource, Words, run};
 use std::alloc::Global;
 use tree_cases::Trees;
@@ -29,6 +27,22 @@ fn words_of(alloc: Global, given: &[String]) -> Result<Words, Fault> {
     Ok(words)
 }
 
+/// The first word, and the other words.
+fn split_first(words: &[String]) -> (&str, &[String]) {
+    match words.split_first() {
+        Some((first, rest)) => (first.as_str(), rest),
+        None => ("", words),
+    }
+}
+
+fn answer_of(alloc: Global, status: u8, out: &[u8], err: &[u8]) -> Result<Answer, Fault> {
+    Ok(Answer {
+        status,
+        out: Vec::from_slice(alloc, out)?,
+        err: Vec::from_slice(alloc, err)?,
+    })
+}
+
 /// A run of the command.
 fn ran(alloc: Global, words: &Words, text: &[u8]) -> Result<Answer, Fault> {
     let mut out = MemSink::new(alloc, ROOM, &[])?;
@@ -40,41 +54,38 @@ fn ran(alloc: Global, words: &Words, text: &[u8]) -> Result<Answer, Fault> {
         &mut out,
         &mut err,
     );
-    Ok(Answer {
-        status: status.code(),
-        out: Vec::from_slice(alloc, out.bytes())?,
-        err: Vec::from_slice(alloc, err.bytes())?,
-    })
+    answer_of(alloc, status.code(), out.bytes(), err.bytes())
+}
+
+/// A run of the command, on one line.
+fn row_of_run(alloc: Global, words: &[String], text: &str) -> Result<String, Fault> {
+    let words = words_of(alloc, words)?;
+    row_of(alloc, Kept::Reports, &ran(alloc, &words, text.as_bytes())?)
 }
 
 /// A run of the command with `--locks` beside other words.
-fn ran_with_locks(alloc: Global, words: &[String], text: &str) -> Result<Answer, Fault> {
+fn row_of_locks(alloc: Global, kept: Kept, words: &[String], text: &str) -> Result<String, Fault> {
     let mut words = words_of(alloc, words)?;
     words.push("--locks")?;
-    ran(alloc, &words, text.as_bytes())
+    row_of(alloc, kept, &ran(alloc, &words, text.as_bytes())?)
 }
 
 impl Subject for Programs {
     fn answer(&self, alloc: Global, words: &[String], text: &[u8]) -> Result<Answer, Fault> {
-        if let Some((first, rest)) = words.split_first() {
-            if first.as_str() == "tree" {
-                return Trees.answer(alloc, rest, text);
-            }
+        match split_first(words) {
+            ("tree", rest) => Trees.answer(alloc, rest, text),
+            _ => ran(alloc, &words_of(alloc, words)?, text),
         }
-        ran(alloc, &words_of(alloc, words)?, text)
     }
 
     fn row(&self, alloc: Global, words: &[String], text: &str) -> Result<String, Fault> {
-        if let Some((first, rest)) = words.split_first() {
-            match first.as_str() {
-                "tree" => return Trees.row(alloc, rest, text),
-                "words" => return configured(alloc, text),
-                "works" => return worked(alloc, &ran_with_locks(alloc, rest, text)?),
-                "plain" => return plainness(alloc, &ran_with_locks(alloc, rest, text)?),
-                _ => (),
-            }
+        let (first, rest) = split_first(words);
+        match first {
+            "tree" => Trees.row(alloc, rest, text),
+            "words" => configured(alloc, text),
+            "works" => row_of_locks(alloc, Kept::Works, rest, text),
+            "plain" => row_of_locks(alloc, Kept::Plainness, rest, text),
+            _ => row_of_run(alloc, words, text),
         }
-        let words = words_of(alloc, words)?;
-        reported(alloc, &ran(alloc, &words, text.as_bytes())?)
     }
 }

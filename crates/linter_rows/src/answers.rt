@@ -3,6 +3,7 @@
 ghost use Rattle.std.specs.Prelude.{◌≡◌, ◌<◌};
 
 use crate::mark::Mark;
+use crate::shown::Shown;
 use lint_base::{LinterSettings, Names, Rule, Violation};
 use lint_pass::{NoPass, Pair, StepPass, Steps};
 use pass_drop::BanDropDatabase;
@@ -12,12 +13,16 @@ use squawk_linter::laws::placed;
 use squawk_linter::{Linter, lint_text};
 use std::alloc::Global;
 use std::marker::Brand;
+use std::process::Abort;
 use std::sync::ledger::{Blank, Ledger};
 use std::test::Fail;
+use text_pos::NoMemory;
 
 /// Whether a transaction is assumed, a text, its reports, and whether a transaction is assumed afterwards. Of a report it is
 /// where it begins and ends, and its rule.
-const ANSWERS: &[(bool, &str, &str, bool)] = &[
+type Row = (bool, &'static str, &'static str, bool);
+
+const ANSWERS: &[Row] = &[
     (
         false,
         "CREATE INDEX ON t (a); ALTER TABLE t ADD UNIQUE (a);",
@@ -56,37 +61,49 @@ fn linter_of(alloc: Global, assume: bool) -> Result<Linter, Fail> {
 }
 
 // Reports in the form of the rows.
-fn shown(alloc: Global, reports: &[Violation]) -> Result<String, Fail> {
-    let mut out = String::new(alloc);
+fn reports_shown(alloc: Global, reports: &[Violation]) -> Shown {
+    let mut out = Shown::new(alloc);
     for report in reports {
-        let start = report.text_range.start().raw();
-        let end = report.text_range.end().raw();
-        let line = format!(in alloc; "{start}..{end} {} ", report.code)?;
-        out.push_str(line.as_str())?;
+        out.add_range(report.text_range);
+        out.add(" ");
+        out.add_value(&report.code);
+        out.add(" ");
     }
-    Ok(out)
+    out
 }
 
-// The reports of a text, by the call for texts, and whether a transaction is assumed afterwards.
-fn of_text(alloc: Global, assume: bool, text: &str) -> Result<(String, bool), Fail> {
-    let mut linter = linter_of(alloc, assume)?;
-    let reports = lint_text(&mut linter, alloc, text)?;
-    let shown = shown(alloc, reports.as_slice())?;
-    Ok((shown, linter.settings.assume_in_transaction))
+// A linter has answered as the row says.
+fn has_answered(rt: &impl Abort, row: &Row, answer: &Shown, after: &Linter) {
+    answer.is(rt, row.1, row.2);
+    assert!(rt;
+        after.settings.assume_in_transaction == row.3,
+        "at {:?}",
+        row.1
+    );
 }
 
-fn of_tree(alloc: Global, linter: &mut Linter, p: &Parse<'_>) -> Result<String, Fail> {
+// The call for texts answers so.
+fn by_text(rt: &impl Abort, alloc: Global, row: &Row) -> Result<(), Fail> {
+    let mut linter = linter_of(alloc, row.0)?;
+    let reports = lint_text(&mut linter, alloc, row.1)?;
+    has_answered(rt, row, &reports_shown(alloc, reports.as_slice()), &linter);
+    Ok(())
+}
+
+// What the second of two calls for a tree answers.
+fn of_tree_again(alloc: Global, linter: &mut Linter, p: &Parse<'_>) -> Result<Shown, NoMemory> {
+    linter.lint(alloc, p)?;
     let reports = linter.lint(alloc, p)?;
-    shown(alloc, reports.as_slice())
+    Ok(reports_shown(alloc, reports.as_slice()))
 }
 
-// The same, by the second of two calls for its tree.
-fn of_tree_again(alloc: Global, assume: bool, text: &str) -> Result<(String, bool), Fail> {
-    let mut linter = linter_of(alloc, assume)?;
-    let p = parse(alloc, text)?;
-    of_tree(alloc, &mut linter, &p)?;
-    let shown = of_tree(alloc, &mut linter, &p)?;
-    Ok((shown, linter.settings.assume_in_transaction))
+// So does that call for its tree.
+fn by_tree_again(rt: &impl Abort, alloc: Global, row: &Row) -> Result<(), Fail> {
+    let mut linter = linter_of(alloc, row.0)?;
+    let p = parse(alloc, row.1)?;
+    let answer = of_tree_again(alloc, &mut linter, &p)?;
+    has_answered(rt, row, &answer, &linter);
+    Ok(())
 }
 
 // The reports of a tree by a pass in place of the linter's own ones.
@@ -95,16 +112,24 @@ fn of_pass<P: StepPass>(
     linter: &mut Linter,
     p: &Parse<'_>,
     pass: &P,
-) -> Result<String, Fail> {
+) -> Result<Shown, NoMemory> {
     placed(p, pass);
     let reports = linter.lint_with(alloc, p, pass)?;
-    shown(alloc, reports.as_slice())
+    Ok(reports_shown(alloc, reports.as_slice()))
 }
 
-fn by_pass<P: StepPass>(alloc: Global, text: &str, pass: &P) -> Result<String, Fail> {
+// The reports of a text by a pass are these.
+fn by_pass<P: StepPass>(
+    rt: &impl Abort,
+    alloc: Global,
+    text: &str,
+    pass: &P,
+    want: &str,
+) -> Result<(), Fail> {
     let mut linter = linter_of(alloc, false)?;
     let p = parse(alloc, text)?;
-    of_pass(alloc, &mut linter, &p, pass)
+    of_pass(alloc, &mut linter, &p, pass)?.is(rt, text, want);
+    Ok(())
 }
 
 // The reports of a tree by the call that counts the steps of the walk, over a new ledger.
@@ -113,17 +138,17 @@ fn counted_by<L: Ledger>(
     alloc: Global,
     linter: &mut Linter,
     p: &Parse<'_>,
-) -> Result<String, Fail>
+) -> Result<Shown, Fail>
     requires name { blank.name ≡ L.name }
     requires parts { blank.parts ≡ L.parts }
     requires some { 0 < blank.parts }
 {
     let mut steps = Steps::<L>::new(blank);
     let reports = linter.lint_counted(alloc, p, &mut steps)?;
-    shown(alloc, reports.as_slice())
+    Ok(reports_shown(alloc, reports.as_slice()))
 }
 
-fn counted(alloc: Global, text: &str) -> Result<String, Fail> {
+fn counted(alloc: Global, text: &str) -> Result<Shown, Fail> {
     let mut linter = linter_of(alloc, false)?;
     let p = parse(alloc, text)?;
     counted_by::<Brand>(Blank::new(1), alloc, &mut linter, &p)
@@ -131,24 +156,16 @@ fn counted(alloc: Global, text: &str) -> Result<String, Fail> {
 
 #[test]
 fn answers(rt: HostRuntime) -> Result<(), Fail> {
-    for (assume, text, want, assumed) in ANSWERS {
-        let (answer, is_assumed) = of_text(rt.alloc(), *assume, text)?;
-        assert!(rt;
-            answer.as_str() == *want && is_assumed == *assumed,
-            "at {text:?}"
-        );
+    for row in ANSWERS {
+        by_text(&rt, rt.alloc(), row)?;
     }
     Ok(())
 }
 
 #[test]
 fn answers_for_trees(rt: HostRuntime) -> Result<(), Fail> {
-    for (assume, text, want, assumed) in ANSWERS {
-        let (answer, is_assumed) = of_tree_again(rt.alloc(), *assume, text)?;
-        assert!(rt;
-            answer.as_str() == *want && is_assumed == *assumed,
-            "at {text:?}"
-        );
+    for row in ANSWERS {
+        by_tree_again(&rt, rt.alloc(), row)?;
     }
     Ok(())
 }
@@ -156,17 +173,13 @@ fn answers_for_trees(rt: HostRuntime) -> Result<(), Fail> {
 #[test]
 fn no_pass(rt: HostRuntime) -> Result<(), Fail> {
     let text = "-- squawk-ignore foo\nCREATE INDEX ON t (a);";
-    let answer = by_pass(rt.alloc(), text, &NoPass)?;
-    assert_eq!(rt; answer.as_str(), "17..20 unused-ignore ");
-    Ok(())
+    by_pass(&rt, rt.alloc(), text, &NoPass, "17..20 unused-ignore ")
 }
 
 #[test]
 fn marks(rt: HostRuntime) -> Result<(), Fail> {
     let text = "-- squawk-ignore ban-drop-table\nSELECT 1;\nSELECT 2;";
-    let answer = by_pass(rt.alloc(), text, &Mark)?;
-    assert_eq!(rt; answer.as_str(), "42..51 ban-drop-table ");
-    Ok(())
+    by_pass(&rt, rt.alloc(), text, &Mark, "42..51 ban-drop-table ")
 }
 
 /// A text in which two passes report at one place.
@@ -179,12 +192,9 @@ fn bans_before_marks(rt: HostRuntime) -> Result<(), Fail> {
         first: BanDropDatabase,
         second: Mark,
     };
-    let answer = by_pass(rt.alloc(), DROPS, &both)?;
-    assert_eq!(rt;
-        answer.as_str(),
-        "0..16 ban-drop-database 0..16 ban-drop-table 17..26 ban-drop-table 27..43 ban-drop-database 27..43 ban-drop-table "
-    );
-    Ok(())
+    let want =
+        "0..16 ban-drop-database 0..16 ban-drop-table 17..26 ban-drop-table 27..43 ban-drop-database 27..43 ban-drop-table ";
+    by_pass(&rt, rt.alloc(), DROPS, &both, want)
 }
 
 #[test]
@@ -193,12 +203,9 @@ fn marks_before_bans(rt: HostRuntime) -> Result<(), Fail> {
         first: Mark,
         second: BanDropDatabase,
     };
-    let answer = by_pass(rt.alloc(), DROPS, &both)?;
-    assert_eq!(rt;
-        answer.as_str(),
-        "0..16 ban-drop-table 0..16 ban-drop-database 17..26 ban-drop-table 27..43 ban-drop-table 27..43 ban-drop-database "
-    );
-    Ok(())
+    let want =
+        "0..16 ban-drop-table 0..16 ban-drop-database 17..26 ban-drop-table 27..43 ban-drop-table 27..43 ban-drop-database ";
+    by_pass(&rt, rt.alloc(), DROPS, &both, want)
 }
 
 /// Texts, and their reports by the call that counts.
@@ -216,8 +223,7 @@ const COUNTED: &[(&str, &str)] = &[
 #[test]
 fn counts(rt: HostRuntime) -> Result<(), Fail> {
     for (text, want) in COUNTED {
-        let answer = counted(rt.alloc(), text)?;
-        assert_eq!(rt; answer.as_str(), *want);
+        counted(rt.alloc(), text)?.is(&rt, text, want);
     }
     Ok(())
 }

@@ -1,6 +1,6 @@
 //! Runs over sources and sinks that fail, and the line on the error sink.
 
-use crate::runs::{Devices, SOUND, ran};
+use crate::runs::{Devices, SOUND, Wanted, ran};
 use squawk_cli::{MemSink, Status, say};
 use std::test::Fail;
 
@@ -158,8 +158,12 @@ fn faults(rt: HostRuntime) -> Result<(), Fail> {
             error_room: row.4,
             error_fails: &[],
         };
-        let left = ran(rt.alloc(), &[], b"CLOSE;", on)?;
-        assert!(rt; left.is(&row.5, row.6, row.7));
+        let want = Wanted {
+            out: row.6,
+            err: row.7,
+        };
+        let left = ran(rt.alloc(), &[], b"CLOSE;", on, want)?;
+        assert!(rt; left.is(row.5));
     }
     Ok(())
 }
@@ -173,8 +177,12 @@ fn more_faults(rt: HostRuntime) -> Result<(), Fail> {
             write_fails: row.4,
             ..SOUND
         };
-        let left = ran(rt.alloc(), row.0, row.1, on)?;
-        assert!(rt; left.status == row.5 && left.out.as_slice() == row.6.as_bytes());
+        let want = Wanted {
+            out: row.6,
+            err: "",
+        };
+        let left = ran(rt.alloc(), row.0, row.1, on, want)?;
+        assert!(rt; left.status == row.5 && left.out.is_whole);
     }
     Ok(())
 }
@@ -187,8 +195,14 @@ fn nothing_is_read(rt: HostRuntime) -> Result<(), Fail> {
             read_fails: &[0],
             ..SOUND
         };
-        let left = ran(rt.alloc(), row.0, b"BEGIN;", on)?;
-        assert!(rt; left.status == row.1 && left.err.len() == row.2);
+        let left = ran(
+            rt.alloc(),
+            row.0,
+            b"BEGIN;",
+            on,
+            Wanted { out: "", err: "" },
+        )?;
+        assert!(rt; left.status == row.1 && left.err.length == row.2);
         assert_eq!(rt; left.reads, [None, Some(6)]);
     }
     Ok(())

@@ -1,6 +1,6 @@
 //! Runs in which every call of a device fails in turn, and devices of every size that is too small.
 
-use crate::runs::{Devices, SOUND, ran};
+use crate::runs::{Devices, SOUND, Wanted, ran};
 use squawk_cli::Status;
 use std::alloc::Global;
 use std::process::Abort;
@@ -25,6 +25,18 @@ const READ_FAILED: &str = "error: read failed\n";
 
 const WRITE_FAILED: &str = "error: write failed\n";
 
+/// What the sinks hold where a read fails.
+const UNREAD: Wanted<'static> = Wanted {
+    out: "",
+    err: READ_FAILED,
+};
+
+/// What they hold, the sink at most, where a write fails.
+const UNWRITTEN: Wanted<'static> = Wanted {
+    out: PRINTED,
+    err: WRITE_FAILED,
+};
+
 // Byte by byte there are 66 reads, of which the last one meets the end. The one after them is never made.
 #[test]
 fn no_read_fails(rt: HostRuntime) -> Result<(), Fail> {
@@ -35,8 +47,12 @@ fn no_read_fails(rt: HostRuntime) -> Result<(), Fail> {
         error_room: 0,
         ..SOUND
     };
-    let left = ran(rt.alloc(), WORDS, TEXT, on)?;
-    assert!(rt; left.is(&Status::Found, PRINTED, ""));
+    let want = Wanted {
+        out: PRINTED,
+        err: "",
+    };
+    let left = ran(rt.alloc(), WORDS, TEXT, on, want)?;
+    assert!(rt; left.is(Status::Found));
     assert_eq!(rt; left.reads, [None, Some(0)]);
     Ok(())
 }
@@ -49,8 +65,8 @@ fn each_read_fails(rt: HostRuntime) -> Result<(), Fail> {
             read_fails: &[call],
             ..SOUND
         };
-        let left = ran(rt.alloc(), WORDS, TEXT, on)?;
-        assert!(rt; left.is(&Status::ReadFault, "", READ_FAILED), "at {call}");
+        let left = ran(rt.alloc(), WORDS, TEXT, on, UNREAD)?;
+        assert!(rt; left.is(Status::ReadFault), "at {call}");
     }
     Ok(())
 }
@@ -62,14 +78,12 @@ fn each_size_of_the_sink(rt: HostRuntime) -> Result<(), Fail> {
             room: size,
             ..SOUND
         };
-        let left = ran(rt.alloc(), WORDS, TEXT, on)?;
-        let held = left.out.as_slice();
+        let left = ran(rt.alloc(), WORDS, TEXT, on, UNWRITTEN)?;
+        let is_part = left.out.length <= size && left.out.is_part;
         assert!(rt;
-            held.len() <= size && PRINTED.as_bytes().starts_with(held),
+            is_part && left.status == Status::WriteFault && left.err.is_whole,
             "at {size}"
         );
-        assert!(rt; left.status == Status::WriteFault, "at {size}");
-        assert!(rt; left.err.as_slice() == WRITE_FAILED.as_bytes(), "at {size}");
     }
     Ok(())
 }
@@ -83,13 +97,11 @@ fn each_size_of_the_error_sink(rt: HostRuntime) -> Result<(), Fail> {
             error_room: size,
             ..SOUND
         };
-        let left = ran(rt.alloc(), WORDS, TEXT, on)?;
+        let left = ran(rt.alloc(), WORDS, TEXT, on, UNREAD)?;
         assert!(rt;
-            left.status == Status::ReadFault && left.out.is_empty(),
+            left.status == Status::ReadFault && left.out.is_whole && left.err.is_part,
             "at {size}"
         );
-        let held = left.err.as_slice();
-        assert!(rt; READ_FAILED.as_bytes().starts_with(held), "at {size}");
     }
     Ok(())
 }
@@ -128,7 +140,7 @@ fn keeps_its_status(rt: &impl Abort, alloc: Global, row: &Row) -> Result<(), Fai
             error_fails: fails,
             ..SOUND
         };
-        let left = ran(alloc, row.0, row.1, on)?;
+        let left = ran(alloc, row.0, row.1, on, UNREAD)?;
         assert_eq!(rt; left.status, row.4);
     }
     Ok(())

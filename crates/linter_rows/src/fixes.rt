@@ -2,6 +2,7 @@
 
 ghost use Rattle.std.specs.Prelude.{◌≤◌};
 
+use crate::shown::Shown;
 use lint_base::{Edit, Fix, Text};
 use squawk_fix::{FixError, apply_fix};
 use std::alloc::Global;
@@ -13,7 +14,9 @@ use text_pos::{TextRange, TextSize};
 type Change = (u32, u32, Option<&'static str>);
 
 /// A text, edits, and the edited text, or why they are not made.
-const FIXED: &[(&str, &[Change], &str)] = &[
+type Row = (&'static str, &'static [Change], &'static str);
+
+const FIXED: &[Row] = &[
     ("0123456789", &[], "0123456789"),
     ("", &[(0, 0, Some("a"))], "a"),
     (
@@ -116,23 +119,26 @@ fn fix_of(rt: &impl Abort, alloc: Global, changes: &[Change]) -> Result<Fix, Fai
 }
 
 // The edited text, or why the edits are not made.
-fn fixed(rt: &impl Abort, alloc: Global, text: &str, fix: &Fix) -> Result<String, Fail> {
+fn fixed(rt: &impl Abort, alloc: Global, text: &str, fix: &Fix) -> Shown {
+    let mut out = Shown::new(alloc);
     assert!(rt; text.len() < 4294967296 && fix.edits.len() < 4294967296);
     match apply_fix(alloc, text, fix) {
-        Ok(edited) => Ok(edited),
-        Err(why) => Ok(format!(in alloc; "{why}")?),
+        Ok(edited) => out.add(edited.as_str()),
+        Err(why) => out.add_value(&why),
     }
+    out
+}
+
+fn is_fixed(rt: &impl Abort, alloc: Global, row: &Row) -> Result<(), Fail> {
+    let fix = fix_of(rt, alloc, row.1)?;
+    fixed(rt, alloc, row.0, &fix).is(rt, row.0, row.2);
+    Ok(())
 }
 
 #[test]
 fn fixes_are_made_or_refused(rt: HostRuntime) -> Result<(), Fail> {
-    for (text, changes, want) in FIXED {
-        let fix = fix_of(&rt, rt.alloc(), changes)?;
-        assert_eq!(rt;
-            fixed(&rt, rt.alloc(), text, &fix)?.as_str(),
-            *want,
-            "at {text:?}"
-        );
+    for row in FIXED {
+        is_fixed(&rt, rt.alloc(), row)?;
     }
     Ok(())
 }

@@ -14,6 +14,8 @@ mod devices;
 #[cfg(test)]
 mod fixes;
 #[cfg(test)]
+mod held;
+#[cfg(test)]
 mod mark;
 #[cfg(test)]
 mod printed;
@@ -21,5 +23,7 @@ mod printed;
 mod runs;
 #[cfg(test)]
 mod sets;
+#[cfg(test)]
+mod shown;
 #[cfg(test)]
 mod streams;

@@ -2,6 +2,7 @@
 
 ghost use Rattle.std.specs.Prelude.{◌≤◌};
 
+use crate::held::Held;
 use lint_base::{Edit, Fix, Rule, Text, Violation};
 use squawk_print::{WriteError, print_violations, write_violations};
 use squawk_stream::MemSink;
@@ -28,29 +29,28 @@ fn range(start: u32, end: u32) -> TextRange
 }
 
 fn fix_of(alloc: Global) -> Result<Fix, Fail> {
-    let mut edits = Vec::new(alloc);
-    edits.push(Edit::insert(Text::fixed("x\""), TextSize::new(3)))?;
-    edits.push(Edit::replace(range(4, 5), Text::fixed("y")))?;
-    edits.push(Edit::delete(range(6, 7)))?;
     Ok(Fix {
         title: Text::fixed("t"),
-        edits,
+        edits: vec![in alloc;
+            Edit::insert(Text::fixed("x\""), TextSize::new(3)),
+            Edit::replace(range(4, 5), Text::fixed("y")),
+            Edit::delete(range(6, 7)),
+        ]?,
     })
 }
 
 fn reports_of(alloc: Global) -> Result<Vec<Violation>, Fail> {
-    let mut reports = Vec::new(alloc);
-    reports.push(Violation {
+    let fix = fix_of(alloc)?;
+    let first = Violation {
         code: Rule::BanDropTable,
         message: Text::fixed("a\"b\\c\nd\re"),
         text_range: range(1, 2),
         note: Some(Text::fixed("n")),
         help: Some(Text::fixed("h")),
-        fix: Some(fix_of(alloc)?),
-    })?;
-    let message = Text::fixed("m");
-    reports.push(Violation::for_range(Rule::RenamingTable, message, range(9, 9)))?;
-    Ok(reports)
+        fix: Some(fix),
+    };
+    let second = Violation::for_range(Rule::RenamingTable, Text::fixed("m"), range(9, 9));
+    Ok(vec![in alloc; first, second]?)
 }
 
 // The reports are printed so in memory.
@@ -68,7 +68,9 @@ fn printed(rt: HostRuntime) -> Result<(), Fail> {
 }
 
 /// Writing the reports: how many bytes the sink holds at most, which of its calls fail, and what comes of it.
-const WRITTEN: &[(usize, &[u32], Result<(), WriteError>)] = &[
+type Row = (usize, &'static [u32], Result<(), WriteError>);
+
+const WRITTEN: &[Row] = &[
     (1000, &[], Ok(())),
     (PRINTED.len(), &[], Ok(())),
     (100, &[], Err(WriteError::Fault)),
@@ -76,30 +78,53 @@ const WRITTEN: &[(usize, &[u32], Result<(), WriteError>)] = &[
     (1000, &[0], Err(WriteError::Fault)),
 ];
 
-// Writes reports to a sink that holds so many bytes at most and fails at these of its calls: what comes of it, and what is held.
+/// What comes of writing, and what the sink holds then.
+#[derive(Clone, Copy)]
+struct Writing {
+    result: Result<(), WriteError>,
+    held: Held,
+}
+
+// Writes reports to a sink that holds so many bytes at most and fails at these of its calls.
 fn written(
     alloc: Global,
     reports: &[Violation],
     capacity: usize,
     fails: &[u32],
-) -> Result<(Result<(), WriteError>, Vec<u8>), Fail> {
+    want: &str,
+) -> Result<Writing, Fail> {
     let mut sink = MemSink::new(alloc, capacity, fails)?;
     let result = write_violations(alloc, &mut sink, reports);
-    Ok((result, Vec::from_slice(alloc, sink.bytes())?))
+    Ok(Writing {
+        result,
+        held: Held::by(&sink, want),
+    })
+}
+
+// Writing goes as the row says, and the sink then holds as much as it can.
+fn is_written(
+    rt: &impl Abort,
+    alloc: Global,
+    reports: &[Violation],
+    row: &Row,
+) -> Result<(), Fail> {
+    let left = written(alloc, reports, row.0, row.1, PRINTED)?;
+    let length = if row.1.is_empty() {
+        PRINTED.len().min(row.0)
+    } else {
+        0
+    };
+    assert_eq!(rt; left.result, row.2);
+    let is_held = left.held.is_part && left.held.length == length;
+    assert!(rt; is_held, "at {} and {:?}", row.0, row.2);
+    Ok(())
 }
 
 #[test]
 fn reports_are_written(rt: HostRuntime) -> Result<(), Fail> {
     let reports = reports_of(rt.alloc())?;
-    for (capacity, fails, expected) in WRITTEN {
-        let (result, held) = written(rt.alloc(), reports.as_slice(), *capacity, *fails)?;
-        assert_eq!(rt; result, *expected);
-        let length = if fails.is_empty() {
-            PRINTED.len().min(*capacity)
-        } else {
-            0
-        };
-        assert_eq!(rt; held.as_slice(), &PRINTED.as_bytes()[..length]);
+    for row in WRITTEN {
+        is_written(&rt, rt.alloc(), reports.as_slice(), row)?;
     }
     Ok(())
 }
@@ -122,15 +147,18 @@ fn many(alloc: Global) -> Result<(Vec<Violation>, String), Fail> {
 }
 
 // In one go, and stopped between two pieces.
+fn pieces(rt: &impl Abort, alloc: Global, reports: &[Violation], want: &str) -> Result<(), Fail> {
+    let all = written(alloc, reports, 200_000, &[], want)?;
+    assert!(rt; all.result == Ok(()) && all.held.is_whole);
+    let part = written(alloc, reports, 200_000, &[1], want)?;
+    assert_eq!(rt; part.result, Err(WriteError::Fault));
+    let length = part.held.length;
+    assert!(rt; part.held.is_part && 0 < length && length < want.len());
+    Ok(())
+}
+
 #[test]
 fn written_in_pieces(rt: HostRuntime) -> Result<(), Fail> {
     let (reports, printed) = many(rt.alloc())?;
-    let (result, held) = written(rt.alloc(), reports.as_slice(), 200_000, &[])?;
-    assert_eq!(rt; result, Ok(()));
-    assert_eq!(rt; held.as_slice(), printed.as_bytes());
-    let (result, held) = written(rt.alloc(), reports.as_slice(), 200_000, &[1])?;
-    assert_eq!(rt; result, Err(WriteError::Fault));
-    assert!(rt; !held.is_empty() && held.len() < printed.len());
-    assert!(rt; printed.as_bytes().starts_with(held.as_slice()));
-    Ok(())
+    pieces(&rt, rt.alloc(), reports.as_slice(), printed.as_str())
 }

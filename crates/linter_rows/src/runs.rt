@@ -1,5 +1,6 @@
 //! Runs of the command over sources and sinks that fail.
 
+use crate::held::Held;
 use squawk_cli::{MemSink, MemSource, Source, Status, Words, run};
 use std::alloc::Global;
 use std::test::Fail;
@@ -26,21 +27,26 @@ pub(crate) const SOUND: Devices<'static> = Devices {
     error_fails: &[],
 };
 
+/// The texts that are wanted of both sinks.
+#[derive(Clone, Copy)]
+pub(crate) struct Wanted<'a> {
+    pub(crate) out: &'a str,
+    pub(crate) err: &'a str,
+}
+
 /// What is left of a run: its status, what both sinks hold, and what two more reads give.
-#[derive(Drop)]
+#[derive(Clone, Copy)]
 pub(crate) struct Outcome {
     pub(crate) status: Status,
-    pub(crate) out: Vec<u8>,
-    pub(crate) err: Vec<u8>,
+    pub(crate) out: Held,
+    pub(crate) err: Held,
     pub(crate) reads: [Option<usize>; 2],
 }
 
 impl Outcome {
-    /// Whether the status is this one, and the sinks hold these bytes.
-    pub(crate) fn is(&self, status: &Status, out: &str, err: &str) -> bool {
-        self.status == *status
-            && self.out.as_slice() == out.as_bytes()
-            && self.err.as_slice() == err.as_bytes()
+    /// Whether the status is this one, and both sinks hold what is wanted.
+    pub(crate) fn is(&self, status: Status) -> bool {
+        self.status == status && self.out.is_whole && self.err.is_whole
     }
 }
 
@@ -58,6 +64,7 @@ pub(crate) fn ran(
     words: &[&str],
     text: &[u8],
     on: Devices<'_>,
+    want: Wanted<'_>,
 ) -> Result<Outcome, Fail> {
     if on.step == 0 {
         return Err(Fail::from("a source without a step"));
@@ -70,8 +77,8 @@ pub(crate) fn ran(
     let mut buf = [0u8; 10];
     Ok(Outcome {
         status,
-        out: Vec::from_slice(alloc, out.bytes())?,
-        err: Vec::from_slice(alloc, err.bytes())?,
+        out: Held::by(&out, want.out),
+        err: Held::by(&err, want.err),
         reads: [src.read(&mut buf).ok(), src.read(&mut buf).ok()],
     })
 }

@@ -2,6 +2,7 @@
 
 ghost use Rattle.std.specs.Prelude.{◌≤◌};
 
+use crate::shown::{Shown, is_text};
 use squawk_stream::{
     MemSink, MemSource, Sink, SliceSource, Source, StdSink, StdSource, read_to_end, write_all,
 };
@@ -52,29 +53,30 @@ const WHOLE: &[(usize, &[u32], bool, &str)] = &[
 const TEXT: &[u8] = b"abcdef";
 
 // What so many reads give, in the form of the rows.
-fn given<S: Source>(alloc: Global, source: &mut S, calls: usize) -> Result<String, Fail> {
-    let mut out = String::new(alloc);
+fn given<S: Source>(alloc: Global, source: &mut S, calls: usize) -> Shown {
+    let mut out = Shown::new(alloc);
     for _ in 0..calls {
         let mut buf = [0u8; 5];
         match source.read(&mut buf) {
-            Ok(count) => out.push_str(str::from_utf8(&buf[..count])?)?,
-            Err(_) => out.push_str("!")?,
+            Ok(count) => out.add(str::from_utf8(&buf[..count]).unwrap_or("?")),
+            Err(_) => out.add("!"),
         }
-        out.push_str(",")?;
+        out.add(",");
     }
-    Ok(out)
+    out
 }
 
 // How many bytes of each piece are taken, in the form of the rows.
-fn taken<K: Sink>(alloc: Global, sink: &mut K, pieces: &[&str]) -> Result<String, Fail> {
-    let mut out = String::new(alloc);
+fn taken<K: Sink>(alloc: Global, sink: &mut K, pieces: &[&str]) -> Shown {
+    let mut out = Shown::new(alloc);
     for piece in pieces {
         match sink.write(piece.as_bytes()) {
-            Ok(count) => out.push_str(format!(in alloc; "{count},")?.as_str())?,
-            Err(_) => out.push_str("!,")?,
+            Ok(count) => out.add_value(&count),
+            Err(_) => out.add("!"),
         }
+        out.add(",");
     }
-    Ok(out)
+    out
 }
 
 // What comes of reading to the end.
@@ -93,18 +95,22 @@ fn reads(rt: HostRuntime) -> Result<(), Fail> {
     for row in READS {
         assert!(rt; row.0 >= 1);
         let mut source = MemSource::new(rt.alloc(), TEXT, row.0, row.1)?;
-        assert_eq!(rt; given(rt.alloc(), &mut source, row.2)?.as_str(), row.3);
+        given(rt.alloc(), &mut source, row.2).is(&rt, "reads", row.3);
     }
-    let mut slice = SliceSource::new(TEXT);
-    assert_eq!(rt; given(rt.alloc(), &mut slice, 4)?.as_str(), "abcde,f,,,");
     Ok(())
+}
+
+#[test]
+fn reads_of_a_slice(rt: HostRuntime) {
+    let mut slice = SliceSource::new(TEXT);
+    given(rt.alloc(), &mut slice, 4).is(&rt, "a slice", "abcde,f,,,");
 }
 
 #[test]
 fn writes(rt: HostRuntime) -> Result<(), Fail> {
     for row in WRITES {
         let mut sink = MemSink::new(rt.alloc(), row.0, row.1)?;
-        assert_eq!(rt; taken(rt.alloc(), &mut sink, row.2)?.as_str(), row.3);
+        taken(rt.alloc(), &mut sink, row.2).is(&rt, row.4, row.3);
         assert_eq!(rt; sink.bytes(), row.4.as_bytes());
     }
     Ok(())
@@ -114,8 +120,14 @@ fn writes(rt: HostRuntime) -> Result<(), Fail> {
 fn to_the_end(rt: HostRuntime) -> Result<(), Fail> {
     for row in ENDS {
         assert!(rt; row.0 >= 1);
-        assert_eq!(rt; end_of(rt.alloc(), row.0, row.1)?.as_str(), row.2);
+        let end = end_of(rt.alloc(), row.0, row.1)?;
+        is_text(&rt, "the end", end.as_str(), row.2);
     }
+    Ok(())
+}
+
+#[test]
+fn all_is_written(rt: HostRuntime) -> Result<(), Fail> {
     for row in WHOLE {
         let mut sink = MemSink::new(rt.alloc(), row.0, row.1)?;
         assert_eq!(rt; write_all(&mut sink, TEXT).is_ok(), row.2);
@@ -126,11 +138,10 @@ fn to_the_end(rt: HostRuntime) -> Result<(), Fail> {
 
 // A queue of std, written as a sink and read as a source.
 #[test]
-fn readers_and_writers_of_std(rt: HostRuntime) -> Result<(), Fail> {
+fn readers_and_writers_of_std(rt: HostRuntime) {
     let mut queue: VecDeque<u8> = VecDeque::new(rt.alloc());
     let mut sink = StdSink::new(&mut queue);
     assert!(rt; write_all(&mut sink, TEXT).is_ok());
     let mut source = StdSource::new(&mut queue);
-    assert_eq!(rt; given(rt.alloc(), &mut source, 3)?.as_str(), "abcde,f,,");
-    Ok(())
+    given(rt.alloc(), &mut source, 3).is(&rt, "a queue", "abcde,f,,");
 }

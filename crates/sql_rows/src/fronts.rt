@@ -1,15 +1,12 @@
 //! The fronts of statements, as their forms read them (PostgreSQL manual, part VI, SQL Commands), and words outside
 //! brackets.
 
-ghost use Rattle.std.specs.Prelude.{◌<◌, ◌^◌, length};
-
+use crate::rows::{Answer, Reading, compare, compare_each};
 use crate::terminals::terminals_of;
 use sql_form::{nothing_kept, read_front};
 use sql_mark::has_keyword;
 use sql_token::{Keyword as K, Span};
 use sql_tree::forms::Captures;
-use std::alloc::Global;
-use std::test::Fail;
 
 /// A first word, what comes after it, and the form that reads it: the kind, how many tokens the form leaves open, and
 /// what it keeps, by token numbers. What comes after the word begins with a blank, so that no number is 0.
@@ -167,104 +164,80 @@ const FRONTS: &[(K, &str, &str)] = &[
 ];
 
 /// A text, and whether the word AS is in it outside all brackets.
-const AS_OUTSIDE: &[(&str, bool)] = &[
-    ("a as b", true),
-    ("AS", true),
-    ("(a) As", true),
-    ("a [b] as", true),
-    ("a (as) b", false),
-    ("a [as] b", false),
-    ("(a as", false),
-    ("a) as", false),
-    ("\"as\"", false),
-    ("'as'", false),
-    ("a", false),
-    ("", false),
+const AS_OUTSIDE: &[(&str, &str)] = &[
+    ("a as b", "true"),
+    ("AS", "true"),
+    ("(a) As", "true"),
+    ("a [b] as", "true"),
+    ("a (as) b", "false"),
+    ("a [as] b", "false"),
+    ("(a as", "false"),
+    ("a) as", "false"),
+    ("\"as\"", "false"),
+    ("'as'", "false"),
+    ("a", "false"),
+    ("", "false"),
 ];
 
-fn push_numbers(alloc: Global, out: &mut String, kept: Captures) -> Result<(), Fail> {
-    for (number, word) in [
-        (kept.word, "word"),
-        (kept.name, "name"),
-        (kept.concurrently, "concurrently"),
-    ] {
-        if let Some(number) = number {
-            out.push_str(format!(in alloc; " {word} {number}")?.as_str())?;
-        }
+fn show_number(word: &str, number: Option<u32>, out: &mut Answer) {
+    if let Some(number) = number {
+        out.add(word);
+        out.show(number);
     }
-    Ok(())
 }
 
-fn push_marks(out: &mut String, kept: Captures) -> Result<(), Fail> {
-    for (is_so, word) in [
-        (kept.unique, " unique"),
-        (kept.temp, " temp"),
-        (kept.guarded, " guarded"),
-        (kept.chain, " chain"),
-    ] {
-        if is_so {
-            out.push_str(word)?;
-        }
-    }
-    Ok(())
-}
-
-fn push_path(alloc: Global, out: &mut String, path: Option<Span>) -> Result<(), Fail> {
+fn show_path(path: Option<Span>, out: &mut Answer) {
     if let Some(path) = path {
-        let numbers = format!(in alloc; " path {}-{}", path.first, path.last)?;
-        out.push_str(numbers.as_str())?;
+        out.add(" path ");
+        out.show_span(path);
     }
-    Ok(())
 }
 
-// How many terminals are left and what was kept, in the form of the rows.
-fn shown(alloc: Global, left: usize, kept: Captures) -> Result<String, Fail> {
-    let mut out = format!(in alloc; "left {left}")?;
-    push_numbers(alloc, &mut out, kept)?;
-    push_marks(&mut out, kept)?;
-    push_path(alloc, &mut out, kept.path)?;
-    if kept.open_ended {
-        out.push_str(" open")?;
-    }
-    Ok(out)
+fn show_kept(kept: &Captures, out: &mut Answer) {
+    show_number(" word ", kept.word, out);
+    show_number(" name ", kept.name, out);
+    show_number(" concurrently ", kept.concurrently, out);
+    out.mark(kept.unique, " unique");
+    out.mark(kept.temp, " temp");
+    out.mark(kept.guarded, " guarded");
+    out.mark(kept.chain, " chain");
+    show_path(kept.path, out);
+    out.mark(kept.open_ended, " open");
 }
 
-// The form that reads what comes after a word, in the form of the rows.
-fn front_of(alloc: Global, first: K, text: &str) -> Result<String, Fail>
-    requires { length text.now < 2 ^ 32 }
-{
-    let terminals = terminals_of(alloc, text)?;
-    let mut kept = nothing_kept();
-    match read_front(first, &mut kept, terminals.as_slice()) {
-        Some((kind, left)) => {
-            let shown = shown(alloc, left.len(), kept)?;
-            Ok(format!(in alloc; "{kind:?} {}", shown.as_str())?)
+/// The form that reads what comes after the word, in the form of the rows.
+impl Reading for K {
+    fn read(&self, text: &str, out: &mut Answer) {
+        let terminals = terminals_of(text, out);
+        let mut kept = nothing_kept();
+        match read_front(*self, &mut kept, &terminals) {
+            Some((kind, left)) => {
+                out.show(kind);
+                out.add(" left ");
+                out.show(left.len());
+                show_kept(&kept, out);
+            }
+            None => out.add("none"),
         }
-        None => Ok(String::from_str(alloc, "none")?),
     }
 }
 
 #[test]
-fn fronts(rt: HostRuntime) -> Result<(), Fail> {
-    for row in FRONTS {
-        assert!(rt; row.1.len() < 1000);
-        let answer = front_of(rt.alloc(), row.0, row.1)?;
-        assert_eq!(rt; answer.as_str(), row.2, "at {:?}", row.1);
+fn fronts(rt: HostRuntime) {
+    compare_each(&rt, rt.alloc(), FRONTS);
+}
+
+/// Whether the word AS is in a text outside all brackets.
+struct Outside;
+
+impl Reading for Outside {
+    fn read(&self, text: &str, out: &mut Answer) {
+        let terminals = terminals_of(text, out);
+        out.show(has_keyword(K::AS, &terminals));
     }
-    Ok(())
 }
 
 #[test]
-fn words_outside_brackets(rt: HostRuntime) -> Result<(), Fail> {
-    for row in AS_OUTSIDE {
-        assert!(rt; row.0.len() < 1000);
-        let terminals = terminals_of(rt.alloc(), row.0)?;
-        assert_eq!(rt;
-            has_keyword(K::AS, terminals.as_slice()),
-            row.1,
-            "at {:?}",
-            row.0
-        );
-    }
-    Ok(())
+fn words_outside_brackets(rt: HostRuntime) {
+    compare(&rt, rt.alloc(), &Outside, AS_OUTSIDE);
 }

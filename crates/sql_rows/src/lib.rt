@@ -15,6 +15,8 @@ mod parts;
 #[cfg(test)]
 mod paths;
 #[cfg(test)]
+mod rows;
+#[cfg(test)]
 mod statements;
 #[cfg(test)]
 mod terminals;

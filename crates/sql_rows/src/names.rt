@@ -1,11 +1,11 @@
 //! Names: full texts, equality, order and hashes (PostgreSQL manual, section 4.1.1).
 
+use crate::rows::{Answer, Reading, compare, compare_each};
 use sql_name::{FullName, Name};
 use std::alloc::Global;
 use std::cmp::Ordering;
 use std::collections::HashSet;
 use std::hash::{DefaultHasher, Hash, Hasher};
-use std::test::Fail;
 
 /// A name as it is written, and its full text.
 const FULL: &[(&str, &str)] = &[
@@ -21,78 +21,10 @@ const FULL: &[(&str, &str)] = &[
     (LONG, LONG),
 ];
 
-/// A name, and a text that is not its full text.
-const OTHER: &[(&str, &str)] = &[
-    ("Users", "Users"),
-    ("\"Users\"", "users"),
-    ("users", "user"),
-    ("user", "users"),
-    ("\"a\"\"b\"", "a\"\"b"),
-    ("", "a"),
-    (LONG, CUT),
-];
-
 /// A name of 64 letters, and the 63 of them that are kept.
 const LONG: &str = "aaaaaaaaaaaaaaaaaaaaaaaaaaaaaaaaaaaaaaaaaaaaaaaaaaaaaaaaaaaaaabc";
 
 const CUT: &str = "aaaaaaaaaaaaaaaaaaaaaaaaaaaaaaaaaaaaaaaaaaaaaaaaaaaaaaaaaaaaaab";
-
-const LESS: Ordering = Ordering::Less;
-
-const SAME: Ordering = Ordering::Equal;
-
-const MORE: Ordering = Ordering::Greater;
-
-/// Two names, and how the first one is there to the second one.
-const ORDER: &[(&str, &str, Ordering)] = &[
-    ("public", "PUBLIC", SAME),
-    ("public", "\"public\"", SAME),
-    ("PUBLIC", "\"public\"", SAME),
-    ("public", "\"PUBLIC\"", MORE),
-    ("\"a\"\"b\"", "\"a\"\"b\"", SAME),
-    ("\"a\"\"b\"", "\"ab\"", LESS),
-    ("\"a\"", "ab", LESS),
-    ("é", "É", MORE),
-    ("\"é\"", "é", SAME),
-    ("a", "b", LESS),
-    ("B", "a", MORE),
-    ("\"B\"", "a", LESS),
-    ("a", "ab", LESS),
-    ("\"ab\"", "A", MORE),
-    ("z", "é", LESS),
-    ("_", "a", LESS),
-    ("Users", "\"users\"", SAME),
-    ("\"\"", "", SAME),
-];
-
-/// Two names, each by its quotes and by what comes after 62 letters, and how the first name is there to the second one: by what
-/// is kept of both, and by their full texts.
-const CUTS: &[(&str, &str, &str, &str, Ordering, Ordering)] = &[
-    ("", "b", "", "b", SAME, SAME),
-    ("", "b", "", "c", LESS, LESS),
-    ("", "b", "", "bc", SAME, LESS),
-    ("", "bc", "", "bd", SAME, LESS),
-    ("", "bc", "", "cc", LESS, LESS),
-    ("", "é", "", "", SAME, MORE),
-    ("", "é", "", "ü", SAME, LESS),
-    ("", "é", "", "b", LESS, MORE),
-    ("", "é", "", "日本", SAME, LESS),
-    ("", "bé", "", "b日", SAME, LESS),
-    ("", "Bé", "", "b日", SAME, LESS),
-    ("\"", "b", "", "b", SAME, SAME),
-    ("\"", "b", "", "c", LESS, LESS),
-    ("\"", "b", "", "bc", SAME, LESS),
-    ("\"", "bc", "", "bd", SAME, LESS),
-    ("\"", "bc", "", "cc", LESS, LESS),
-    ("\"", "é", "", "", SAME, MORE),
-    ("\"", "é", "", "ü", SAME, LESS),
-    ("\"", "é", "", "b", LESS, MORE),
-    ("\"", "é", "", "日本", SAME, LESS),
-    ("\"", "bé", "", "b日", SAME, LESS),
-    ("\"", "Bé", "", "b日", LESS, LESS),
-    // Two doubled quotes at the end of what is kept.
-    ("\"", "\"\"x", "\"", "\"\"y", SAME, LESS),
-];
 
 const LETTERS: &str = "aaaaaaaaaaaaaaaaaaaaaaaaaaaaaaaaaaaaaaaaaaaaaaaaaaaaaaaaaaaaaa";
 
@@ -102,93 +34,414 @@ fn hash_of<T: Hash>(value: &T) -> u64 {
     state.finish()
 }
 
-// A name of 62 letters and this ending, between these quotes.
-fn made(alloc: Global, quote: &str, ending: &str) -> Result<String, Fail> {
-    Ok(format!(in alloc; "{quote}{LETTERS}{ending}{quote}")?)
-}
-
-// Whether both are so to each other by each call that compares.
-fn are<T: Ord + Hash>(left: &T, right: &T, order: Ordering) -> bool {
+// How both are there to each other, by each call that compares.
+fn show_order<T: Ord + Hash>(left: &T, right: &T, out: &mut Answer) {
+    let order = left.cmp(right);
     let is_same = order == Ordering::Equal;
-    left.cmp(right) == order
-        && right.cmp(left) == order.reverse()
-        && left.partial_cmp(right) == Some(order)
-        && (left == right) == is_same
-        && (right == left) == is_same
-        && (hash_of(left) == hash_of(right)) == is_same
+    out.show(order);
+    out.mark(
+        right.cmp(left) != order.reverse(),
+        " but not the other way round",
+    );
+    out.mark(left.partial_cmp(right) != Some(order), " but not partly");
+    out.mark((left == right) != is_same, " but not by equality");
+    out.mark(
+        (right == left) != is_same,
+        " but not by equality the other way round",
+    );
+    out.mark(
+        (hash_of(left) == hash_of(right)) != is_same,
+        " but not by hash",
+    );
 }
 
-// Whether two names are so to each other: by what is kept of both, and by their full texts.
-fn names_are(left: &str, right: &str, kept: Ordering, full: Ordering) -> bool {
-    are(&Name::of(left), &Name::of(right), kept)
-        && are(&FullName::of(left), &FullName::of(right), full)
+// How two names are there to each other: by what is kept of both, and by their full texts.
+fn show_orders(left: &str, right: &str, out: &mut Answer) {
+    show_order(&Name::of(left), &Name::of(right), out);
+    out.add(" ");
+    show_order(&FullName::of(left), &FullName::of(right), out);
 }
 
-#[test]
-fn full_texts(rt: HostRuntime) -> Result<(), Fail> {
-    for (written, full) in FULL {
-        assert_eq!(rt; Name::of(written).folded(rt.alloc())?.as_str(), *full);
-        assert_eq!(rt; FullName::of(written).folded(rt.alloc())?.as_str(), *full);
-    }
-    Ok(())
-}
+/// The full text of a name, which the name itself says it is.
+struct Names;
 
-// Whether a name has this full text, by both types of names.
-fn is_full(name: Name<'_>, full: FullName<'_>, text: &str) -> (bool, bool) {
-    (name.is(text), full.is(text))
-}
-
-#[test]
-fn texts_of_names(rt: HostRuntime) {
-    for (written, full) in FULL {
-        let name = Name::of(written);
-        let full_name = FullName::of(written);
-        assert!(rt; name.text() == *written && full_name.text() == *written);
-        assert_eq!(rt;
-            is_full(name, full_name, full),
-            (true, true),
-            "at {written:?}"
-        );
-    }
-    for (written, other) in OTHER {
-        let is_so = is_full(Name::of(written), FullName::of(written), other);
-        assert_eq!(rt; is_so, (false, false), "at {written:?}");
+impl Reading for Names {
+    fn read(&self, text: &str, out: &mut Answer) {
+        let name = Name::of(text);
+        match name.folded(out.alloc()) {
+            Ok(full) => {
+                out.add(full.as_str());
+                out.mark(!name.is(full.as_str()), " which it is not");
+                out.mark(name.text() != text, " of another name");
+            }
+            Err(_) => out.fail(),
+        }
     }
 }
 
-#[test]
-fn order(rt: HostRuntime) -> Result<(), Fail> {
-    for (left, right, order) in ORDER {
-        assert!(rt;
-            names_are(left, right, *order, *order),
-            "at {left:?} and {right:?}"
-        );
+/// The same by the other type of names.
+struct FullNames;
+
+impl Reading for FullNames {
+    fn read(&self, text: &str, out: &mut Answer) {
+        let name = FullName::of(text);
+        match name.folded(out.alloc()) {
+            Ok(full) => {
+                out.add(full.as_str());
+                out.mark(!name.is(full.as_str()), " which it is not");
+                out.mark(name.text() != text, " of another name");
+            }
+            Err(_) => out.fail(),
+        }
     }
-    Ok(())
 }
 
 #[test]
-fn cut_names(rt: HostRuntime) -> Result<(), Fail> {
-    for (quote, left, other_quote, right, kept, full) in CUTS {
-        let one = made(rt.alloc(), quote, left)?;
-        let other = made(rt.alloc(), other_quote, right)?;
-        assert!(rt;
-            names_are(one.as_str(), other.as_str(), *kept, *full),
-            "at {quote}{left} and {other_quote}{right}"
-        );
-    }
-    Ok(())
+fn full_texts(rt: HostRuntime) {
+    compare(&rt, rt.alloc(), &Names, FULL);
+    compare(&rt, rt.alloc(), &FullNames, FULL);
 }
 
+/// A name, and whether a text is its full text by each type of names.
+struct Written(&'static str);
+
+impl Reading for Written {
+    fn read(&self, text: &str, out: &mut Answer) {
+        out.mark(Name::of(self.0).is(text), "full text");
+        out.mark(FullName::of(self.0).is(text), "full text of a full name");
+    }
+}
+
+/// A name, and a text that is not its full text, of which nothing is said.
+const OTHER: &[(Written, &str, &str)] = &[
+    (Written("Users"), "Users", ""),
+    (Written("\"Users\""), "users", ""),
+    (Written("users"), "user", ""),
+    (Written("user"), "users", ""),
+    (Written("\"a\"\"b\""), "a\"\"b", ""),
+    (Written(""), "a", ""),
+    (Written(LONG), CUT, ""),
+];
+
 #[test]
-fn sets(rt: HostRuntime) -> Result<(), Fail> {
-    let mut set = HashSet::new(rt.alloc());
-    assert!(rt; set.insert(Name::of("Users"))?);
-    assert!(rt; !set.insert(Name::of("\"users\""))?);
-    assert!(rt; set.insert(Name::of("\"Users\""))?);
-    assert!(rt; set.contains(&Name::of("USERS")));
-    assert!(rt; !set.contains(&Name::of("user")));
-    assert_eq!(rt; set.len(), 2);
+fn other_texts(rt: HostRuntime) {
+    compare_each(&rt, rt.alloc(), OTHER);
+}
+
+/// The first one of two names.
+struct Left(&'static str);
+
+impl Reading for Left {
+    fn read(&self, text: &str, out: &mut Answer) {
+        show_orders(self.0, text, out);
+    }
+}
+
+const LESS: &str = "Less Less";
+
+const SAME: &str = "Equal Equal";
+
+const MORE: &str = "Greater Greater";
+
+/// Two names, and how the first one is there to the second one: by what is kept of both, and by their full texts.
+const ORDER: &[(Left, &str, &str)] = &[
+    (Left("public"), "PUBLIC", SAME),
+    (Left("public"), "\"public\"", SAME),
+    (Left("PUBLIC"), "\"public\"", SAME),
+    (Left("public"), "\"PUBLIC\"", MORE),
+    (Left("\"a\"\"b\""), "\"a\"\"b\"", SAME),
+    (Left("\"a\"\"b\""), "\"ab\"", LESS),
+    (Left("\"a\""), "ab", LESS),
+    (Left("é"), "É", MORE),
+    (Left("\"é\""), "é", SAME),
+    (Left("a"), "b", LESS),
+    (Left("B"), "a", MORE),
+    (Left("\"B\""), "a", LESS),
+    (Left("a"), "ab", LESS),
+    (Left("\"ab\""), "A", MORE),
+    (Left("z"), "é", LESS),
+    (Left("_"), "a", LESS),
+    (Left("Users"), "\"users\"", SAME),
+    (Left("\"\""), "", SAME),
+];
+
+#[test]
+fn order(rt: HostRuntime) {
+    compare_each(&rt, rt.alloc(), ORDER);
+}
+
+/// The first one of two long names, by its quotes and by its ending, and the quotes of the other one.
+struct Long {
+    quote: &'static str,
+    ending: &'static str,
+    other_quote: &'static str,
+}
+
+// A name of 62 letters and this ending, between these quotes.
+fn made(alloc: Global, quote: &str, ending: &str) -> Answer {
+    let mut name = Answer::new(alloc);
+    name.add(quote);
+    name.add(LETTERS);
+    name.add(ending);
+    name.add(quote);
+    name
+}
+
+impl Reading for Long {
+    fn read(&self, text: &str, out: &mut Answer) {
+        let left = made(out.alloc(), self.quote, self.ending);
+        let right = made(out.alloc(), self.other_quote, text);
+        show_orders(left.text(), right.text(), out);
+    }
+}
+
+/// Two names, each by its quotes and by what comes after 62 letters, and how the first name is there to the second one.
+const CUTS: &[(Long, &str, &str)] = &[
+    (
+        Long {
+            quote: "",
+            ending: "b",
+            other_quote: "",
+        },
+        "b",
+        "Equal Equal",
+    ),
+    (
+        Long {
+            quote: "",
+            ending: "b",
+            other_quote: "",
+        },
+        "c",
+        "Less Less",
+    ),
+    (
+        Long {
+            quote: "",
+            ending: "b",
+            other_quote: "",
+        },
+        "bc",
+        "Equal Less",
+    ),
+    (
+        Long {
+            quote: "",
+            ending: "bc",
+            other_quote: "",
+        },
+        "bd",
+        "Equal Less",
+    ),
+    (
+        Long {
+            quote: "",
+            ending: "bc",
+            other_quote: "",
+        },
+        "cc",
+        "Less Less",
+    ),
+    (
+        Long {
+            quote: "",
+            ending: "é",
+            other_quote: "",
+        },
+        "",
+        "Equal Greater",
+    ),
+    (
+        Long {
+            quote: "",
+            ending: "é",
+            other_quote: "",
+        },
+        "ü",
+        "Equal Less",
+    ),
+    (
+        Long {
+            quote: "",
+            ending: "é",
+            other_quote: "",
+        },
+        "b",
+        "Less Greater",
+    ),
+    (
+        Long {
+            quote: "",
+            ending: "é",
+            other_quote: "",
+        },
+        "日本",
+        "Equal Less",
+    ),
+    (
+        Long {
+            quote: "",
+            ending: "bé",
+            other_quote: "",
+        },
+        "b日",
+        "Equal Less",
+    ),
+    (
+        Long {
+            quote: "",
+            ending: "Bé",
+            other_quote: "",
+        },
+        "b日",
+        "Equal Less",
+    ),
+    (
+        Long {
+            quote: "\"",
+            ending: "b",
+            other_quote: "",
+        },
+        "b",
+        "Equal Equal",
+    ),
+    (
+        Long {
+            quote: "\"",
+            ending: "b",
+            other_quote: "",
+        },
+        "c",
+        "Less Less",
+    ),
+    (
+        Long {
+            quote: "\"",
+            ending: "b",
+            other_quote: "",
+        },
+        "bc",
+        "Equal Less",
+    ),
+    (
+        Long {
+            quote: "\"",
+            ending: "bc",
+            other_quote: "",
+        },
+        "bd",
+        "Equal Less",
+    ),
+    (
+        Long {
+            quote: "\"",
+            ending: "bc",
+            other_quote: "",
+        },
+        "cc",
+        "Less Less",
+    ),
+    (
+        Long {
+            quote: "\"",
+            ending: "é",
+            other_quote: "",
+        },
+        "",
+        "Equal Greater",
+    ),
+    (
+        Long {
+            quote: "\"",
+            ending: "é",
+            other_quote: "",
+        },
+        "ü",
+        "Equal Less",
+    ),
+    (
+        Long {
+            quote: "\"",
+            ending: "é",
+            other_quote: "",
+        },
+        "b",
+        "Less Greater",
+    ),
+    (
+        Long {
+            quote: "\"",
+            ending: "é",
+            other_quote: "",
+        },
+        "日本",
+        "Equal Less",
+    ),
+    (
+        Long {
+            quote: "\"",
+            ending: "bé",
+            other_quote: "",
+        },
+        "b日",
+        "Equal Less",
+    ),
+    (
+        Long {
+            quote: "\"",
+            ending: "Bé",
+            other_quote: "",
+        },
+        "b日",
+        "Less Less",
+    ),
+    // Two doubled quotes at the end of what is kept.
+    (
+        Long {
+            quote: "\"",
+            ending: "\"\"x",
+            other_quote: "\"",
+        },
+        "\"\"y",
+        "Equal Less",
+    ),
+];
+
+#[test]
+fn cut_names(rt: HostRuntime) {
+    compare_each(&rt, rt.alloc(), CUTS);
+}
+
+fn show_insert<'a>(set: &mut HashSet<Name<'a>>, name: &'a str, out: &mut Answer) {
+    out.add(match set.insert(Name::of(name)) {
+        Ok(true) => "new ",
+        Ok(false) => "there ",
+        Err(_) => "no memory ",
+    });
+}
+
+/// A set to which three names are added, and whether it has a name in the end.
+struct Adding;
+
+impl Reading for Adding {
+    fn read(&self, text: &str, out: &mut Answer) {
+        let mut set = HashSet::new(out.alloc());
+        show_insert(&mut set, "Users", out);
+        show_insert(&mut set, "\"users\"", out);
+        show_insert(&mut set, "\"Users\"", out);
+        out.show(set.len());
+        out.mark(set.contains(&Name::of(text)), " with it");
+    }
+}
+
+/// A name, and of each name that is added whether it is new, then how many there are, and whether the first one is one of them.
+const SETS: &[(&str, &str)] = &[
+    ("USERS", "new there new 2 with it"),
+    ("user", "new there new 2"),
+];
+
+#[test]
+fn sets(rt: HostRuntime) {
+    compare(&rt, rt.alloc(), &Adding, SETS);
     assert!(rt; Name::default() == Name::of("\"\""));
-    Ok(())
 }

@@ -2,166 +2,153 @@
 
 ghost use Rattle.std.specs.Prelude.{MatchOption, ◌<◌, ◌^◌, length};
 ghost use Rattle.sql_lex.specs.Inside.{IsSpan};
+ghost use Rattle.sql_token.specs.Token.{Lexed};
 
+use crate::rows::{Answer, Reading, compare_each};
 use sql_action::read_actions;
 use sql_column::{read_domain, read_elems};
 use sql_lex::lex;
 use sql_token::{Span, Tok};
 use sql_tree::{Action, Constraint, Elem, Expr, StmtKind};
-use std::alloc::Global;
-use std::test::Fail;
+use sqlite_items::Items;
+use std::fmt::Debug;
+use text_pos::NoMemory;
 
-/// What a span of tokens is read as.
-#[derive(Clone, Copy)]
+/// What a span of tokens is read as, and the numbers of its first and last token.
 enum Part {
     /// The list of a table.
-    List,
+    List(u32, u32),
     /// What comes after the type of a domain.
-    Domain,
+    Domain(u32, u32),
     /// The tail of a statement of this kind.
-    Actions(StmtKind),
+    Actions(StmtKind, u32, u32),
 }
 
-const TABLE: Part = Part::Actions(StmtKind::AlterTable);
+const TABLE: StmtKind = StmtKind::AlterTable;
 
-const PRIVILEGES: Part = Part::Actions(StmtKind::AlterDefaultPrivileges);
+const PRIVILEGES: StmtKind = StmtKind::AlterDefaultPrivileges;
 
-/// What a span is read as, the text, the numbers of the span's first and last token, and what is read: of a column the number of
-/// its name; of a table's constraint its kind and its expression; of a domain's constraint and of an action the kind, the first
-/// and the last token.
-const ROWS: &[(Part, &str, u32, u32, &str)] = &[
-    (Part::List, "()", 0, 1, ""),
-    (Part::List, " (a int)", 1, 5, "2 "),
+/// A span and what it is read as, the text, and what is read: of a column the number of its name; of a table's constraint its
+/// kind and its expression; of a domain's constraint and of an action the kind, the first and the last token.
+const ROWS: &[(Part, &str, &str)] = &[
+    (Part::List(0, 1), "()", ""),
+    (Part::List(1, 5), " (a int)", "2 "),
     (
-        Part::List,
+        Part::List(0, 20),
         "(a int NOT NULL, LIKE s, CHECK (b))",
-        0,
-        20,
         "1 like Check Name ",
     ),
-    (Part::List, "(a int), (b)", 0, 9, "1 "),
-    (Part::List, "SELECT a", 0, 2, ""),
-    (Part::List, "CREATE TABLE t (a int, 1)", 6, 13, "7 other "),
+    (Part::List(0, 9), "(a int), (b)", "1 "),
+    (Part::List(0, 2), "SELECT a", ""),
+    (Part::List(6, 13), "CREATE TABLE t (a int, 1)", "7 other "),
     (
-        Part::List,
+        Part::List(0, 12),
         "(CHECK (a IS NOT NULL))",
-        0,
-        12,
         "Check IsNotNull of Name ",
     ),
     (
-        Part::List,
+        Part::List(0, 18),
         "(CHECK (a IS NOT NULL IS NOT NULL))",
-        0,
-        18,
         "Check Other ",
     ),
-    (Part::List, "(CHECK (-1))", 0, 7, "Check Other "),
-    (Part::List, "(CHECK ((1)))", 0, 8, "Check Other "),
+    (Part::List(0, 7), "(CHECK (-1))", "Check Other "),
+    (Part::List(0, 8), "(CHECK ((1)))", "Check Other "),
     (
-        Part::List,
+        Part::List(0, 9),
         "(CHECK ('x'::text))",
-        0,
-        9,
         "Check Cast of Literal ",
     ),
     (
-        Part::List,
+        Part::List(0, 13),
         "(CHECK (CAST(1 AS int)))",
-        0,
-        13,
         "Check Cast of Literal ",
     ),
     (
-        Part::List,
+        Part::List(0, 8),
         "(CHECK (now()))",
-        0,
-        8,
         "Check Call with a name and no arguments ",
     ),
     (
-        Part::List,
+        Part::List(0, 10),
         "(CHECK (pg_catalog.now()))",
-        0,
-        10,
         "Check Call without a name and no arguments ",
     ),
-    (Part::Domain, "CREATE DOMAIN d AS int", 8, 8, ""),
+    (Part::Domain(8, 8), "CREATE DOMAIN d AS int", ""),
     (
-        Part::Domain,
+        Part::Domain(8, 14),
         "CREATE DOMAIN d AS int NOT NULL UNIQUE",
-        8,
-        14,
         "NotNull 10 12 Unique 14 14 ",
     ),
     (
-        Part::Domain,
+        Part::Domain(10, 12),
         "CREATE DOMAIN d AS int DEFAULT 1",
-        10,
-        12,
         "Default 10 12 ",
     ),
-    (Part::Domain, "SELECT DEFAULT", 2, 2, "none"),
+    (Part::Domain(2, 2), "SELECT DEFAULT", "none"),
     (
-        Part::Domain,
+        Part::Domain(8, 18),
         "CREATE DOMAIN d AS int CHECK (VALUE > 0);",
-        8,
-        18,
         "Check 10 18 ",
     ),
     (
-        Part::Domain,
+        Part::Domain(8, 10),
         "CREATE DOMAIN d AS int DEFAULT;",
-        8,
-        10,
         "none",
     ),
-    (Part::Domain, "CREATE DOMAIN d AS int DEFAULT;", 8, 8, ""),
+    (Part::Domain(8, 8), "CREATE DOMAIN d AS int DEFAULT;", ""),
     (
-        Part::Domain,
+        Part::Domain(9, 9),
         "CREATE DOMAIN d AS int DEFAULT;",
-        9,
-        9,
         "none",
     ),
     (
-        TABLE,
+        Part::Actions(TABLE, 6, 10),
         "ALTER TABLE t DROP COLUMN a",
-        6,
-        10,
         "DropColumn 6 10 ",
     ),
     (
-        TABLE,
+        Part::Actions(TABLE, 6, 17),
         "ALTER TABLE t ADD a int, ADD b int",
-        6,
-        17,
         "AddColumn 6 10 AddColumn 13 17 ",
     ),
     (
-        TABLE,
+        Part::Actions(TABLE, 13, 17),
         "ALTER TABLE t ADD a int, ADD b int",
-        13,
-        17,
         "AddColumn 13 17 ",
     ),
-    (TABLE, "ALTER TABLE t ADD a int, ADD b int", 11, 17, "none"),
-    (TABLE, "ALTER TABLE t ADD a int,;", 6, 11, "none"),
-    (TABLE, "ALTER TABLE t ADD a int,;", 6, 10, "AddColumn 6 10 "),
-    (TABLE, "ALTER TABLE t ADD a int,;", 11, 11, "none"),
-    (TABLE, "ALTER TABLE t ADD a int,;", 5, 5, "none"),
     (
-        PRIVILEGES,
+        Part::Actions(TABLE, 11, 17),
+        "ALTER TABLE t ADD a int, ADD b int",
+        "none",
+    ),
+    (
+        Part::Actions(TABLE, 6, 11),
+        "ALTER TABLE t ADD a int,;",
+        "none",
+    ),
+    (
+        Part::Actions(TABLE, 6, 10),
+        "ALTER TABLE t ADD a int,;",
+        "AddColumn 6 10 ",
+    ),
+    (
+        Part::Actions(TABLE, 11, 11),
+        "ALTER TABLE t ADD a int,;",
+        "none",
+    ),
+    (
+        Part::Actions(TABLE, 5, 5),
+        "ALTER TABLE t ADD a int,;",
+        "none",
+    ),
+    (
+        Part::Actions(PRIVILEGES, 12, 22),
         "ALTER DEFAULT PRIVILEGES IN SCHEMA s REVOKE ALL ON TABLES FROM u",
-        12,
-        22,
         "RevokePrivileges 12 22 ",
     ),
     (
-        PRIVILEGES,
+        Part::Actions(PRIVILEGES, 6, 22),
         "ALTER DEFAULT PRIVILEGES IN SCHEMA s REVOKE ALL ON TABLES FROM u",
-        6,
-        22,
         "none",
     ),
 ];
@@ -183,51 +170,78 @@ fn leaf(e: &Expr) -> &'static str {
     }
 }
 
-fn push_expr(out: &mut String, e: &Expr) -> Result<(), Fail> {
+fn show_expr(e: &Expr, out: &mut Answer) {
     let (front, leaf) = match e {
         Expr::IsNotNull(part) => ("IsNotNull of ", leaf(part.get())),
         Expr::Cast(part) => ("Cast of ", leaf(part.get())),
         _ => ("", leaf(e)),
     };
-    out.push_str(front)?;
-    out.push_str(leaf)?;
-    Ok(())
+    out.add(front);
+    out.add(leaf);
 }
 
-fn push_element(alloc: Global, out: &mut String, e: &Elem) -> Result<(), Fail> {
+fn show_constraint(c: &Constraint, out: &mut Answer) {
+    out.show(c.kind);
+    out.add(" ");
+    if let Some(e) = &c.expr {
+        show_expr(e, out);
+    }
+}
+
+fn show_element(e: &Elem, out: &mut Answer) {
     match e {
-        Elem::Column(c) => out.push_str(format!(in alloc; "{} ", c.name)?.as_str())?,
-        Elem::Constraint(c) => {
-            out.push_str(format!(in alloc; "{:?} ", c.kind)?.as_str())?;
-            if let Some(e) = &c.expr {
-                push_expr(out, e)?;
+        Elem::Column(c) => {
+            out.show(c.name);
+            out.add(" ");
+        }
+        Elem::Constraint(c) => show_constraint(c, out),
+        Elem::Like => out.add("like "),
+        Elem::Other => out.add("other "),
+    }
+}
+
+fn show_part<K: Debug + Drop>(kind: K, first: u32, last: u32, out: &mut Answer) {
+    out.show(kind);
+    out.add(" ");
+    out.show(first);
+    out.add(" ");
+    out.show(last);
+    out.add(" ");
+}
+
+fn show_elements(found: Result<Items<Elem>, NoMemory>, out: &mut Answer) {
+    match found {
+        Ok(found) => {
+            for e in found.as_slice() {
+                show_element(e, out);
             }
         }
-        Elem::Like => out.push_str("like ")?,
-        Elem::Other => out.push_str("other ")?,
+        Err(_) => out.fail(),
     }
-    Ok(())
 }
 
-fn push_elements(alloc: Global, out: &mut String, elements: &[Elem]) -> Result<(), Fail> {
-    for e in elements {
-        push_element(alloc, out, e)?;
+fn show_constraints(found: Result<Option<Items<Constraint>>, NoMemory>, out: &mut Answer) {
+    match found {
+        Ok(Some(found)) => {
+            for c in found.as_slice() {
+                show_part(c.kind, c.first, c.last, out);
+            }
+        }
+        Ok(None) => out.add("none"),
+        Err(_) => out.fail(),
     }
-    Ok(())
 }
 
-fn push_constraints(alloc: Global, out: &mut String, found: &[Constraint]) -> Result<(), Fail> {
-    for c in found {
-        out.push_str(format!(in alloc; "{:?} {} {} ", c.kind, c.first, c.last)?.as_str())?;
+fn show_actions(found: Result<Option<Items<Action>>, NoMemory>, out: &mut Answer) {
+    match found {
+        Ok(Some(found)) => {
+            for a in found.as_slice() {
+                show_part(a.kind, a.first, a.last, out);
+            }
+        }
+        Ok(None) => out.add("none"),
+        Err(_) => out.fail(),
     }
-    Ok(())
-}
-
-fn push_actions(alloc: Global, out: &mut String, found: &[Action]) -> Result<(), Fail> {
-    for a in found {
-        out.push_str(format!(in alloc; "{:?} {} {} ", a.kind, a.first, a.last)?.as_str())?;
-    }
-    Ok(())
 }
 
 /// From one token to another one, where they are tokens of the list and in this order.
@@ -241,37 +255,44 @@ fn span_in(toks: &[Tok], first: u32, last: u32) -> Option<Span>
     }
 }
 
-fn read(alloc: Global, part: Part, text: &str, first: u32, last: u32) -> Result<String, Fail>
-    requires { length text.now < 2 ^ 32 }
-{
-    let toks = lex(alloc, text)?;
-    let Some(span) = span_in(&toks, first, last) else {
-        return Err(Fail::from("no such tokens"));
-    };
-    let mut out = String::new(alloc);
-    match part {
-        Part::List => {
-            let found = read_elems(alloc, text, &toks, span)?;
-            push_elements(alloc, &mut out, found.as_slice())?;
+impl Part {
+    fn span_in(&self, toks: &[Tok]) -> Option<Span>
+        ensures { MatchOption result (Unit {0}) (IsSpan toks.now) }
+    {
+        match *self {
+            Part::List(first, last) => span_in(toks, first, last),
+            Part::Domain(first, last) => span_in(toks, first, last),
+            Part::Actions(_, first, last) => span_in(toks, first, last),
         }
-        Part::Domain => match read_domain(alloc, text, &toks, span)? {
-            Some(found) => push_constraints(alloc, &mut out, found.as_slice())?,
-            None => out.push_str("none")?,
-        },
-        Part::Actions(kind) => match read_actions(alloc, kind, text, &toks, span)? {
-            Some(found) => push_actions(alloc, &mut out, found.as_slice())?,
-            None => out.push_str("none")?,
-        },
     }
-    Ok(out)
+}
+
+fn read_part(part: &Part, text: &str, toks: &[Tok], span: Span, out: &mut Answer)
+    requires lexed { Lexed text.now toks.now }
+    requires short { length text.now < 2 ^ 32 }
+    requires inside { IsSpan toks.now span }
+{
+    let alloc = out.alloc();
+    match *part {
+        Part::List(..) => show_elements(read_elems(alloc, text, toks, span), out),
+        Part::Domain(..) => show_constraints(read_domain(alloc, text, toks, span), out),
+        Part::Actions(kind, ..) => show_actions(read_actions(alloc, kind, text, toks, span), out),
+    }
+}
+
+impl Reading for Part {
+    fn read(&self, text: &str, out: &mut Answer) {
+        let Ok(toks) = lex(out.alloc(), text) else {
+            return out.fail();
+        };
+        match self.span_in(&toks) {
+            Some(span) => read_part(self, text, &toks, span, out),
+            None => out.fail(),
+        }
+    }
 }
 
 #[test]
-fn parts(rt: HostRuntime) -> Result<(), Fail> {
-    for (part, text, first, last, want) in ROWS {
-        assert!(rt; text.len() < 1000);
-        let answer = read(rt.alloc(), *part, text, *first, *last)?;
-        assert_eq!(rt; answer.as_str(), *want, "at {text:?} from {first}");
-    }
-    Ok(())
+fn parts(rt: HostRuntime) {
+    compare_each(&rt, rt.alloc(), ROWS);
 }

@@ -1,105 +1,85 @@
 //! Paths: which names tell two of them apart, and their order.
 
+use crate::rows::{Answer, Reading, compare};
 use sql_read::parse;
-use sql_token::Span;
 use sql_tree::{Body, NamePath, Parse, Stmt};
 use std::alloc::Global;
 use std::cmp::Ordering;
-use std::test::Fail;
 
-/// A text of two statements, and how the path of the first one is there to the path of the second one.
-const ROWS: &[(&str, Option<Ordering>)] = &[
-    (
-        "CREATE TABLE t (); CREATE INDEX ON T (a);",
-        Some(Ordering::Equal),
-    ),
-    (
-        "CREATE TABLE t (); CREATE INDEX ON \"t\" (a);",
-        Some(Ordering::Equal),
-    ),
-    (
-        "CREATE TABLE t (); CREATE INDEX ON \"T\" (a);",
-        Some(Ordering::Greater),
-    ),
-    (
-        "CREATE TABLE public.t (); CREATE INDEX ON t (a);",
-        Some(Ordering::Less),
-    ),
+/// A text of two statements, and how the path of the first one is there to the path of the second one, or `none`.
+const ROWS: &[(&str, &str)] = &[
+    ("CREATE TABLE t (); CREATE INDEX ON T (a);", "Equal"),
+    ("CREATE TABLE t (); CREATE INDEX ON \"t\" (a);", "Equal"),
+    ("CREATE TABLE t (); CREATE INDEX ON \"T\" (a);", "Greater"),
+    ("CREATE TABLE public.t (); CREATE INDEX ON t (a);", "Less"),
     (
         "CREATE TABLE public.t (); CREATE INDEX ON PUBLIC . \"t\" (a);",
-        Some(Ordering::Equal),
+        "Equal",
     ),
-    (
-        "CREATE TABLE s/**/.t (); CREATE INDEX ON s.t (a);",
-        Some(Ordering::Equal),
-    ),
-    (
-        "CREATE TABLE a.b.c (); CREATE INDEX ON a.b.c (a);",
-        Some(Ordering::Equal),
-    ),
-    (
-        "CREATE TABLE a.b.c (); CREATE INDEX ON a.b (a);",
-        Some(Ordering::Greater),
-    ),
+    ("CREATE TABLE s/**/.t (); CREATE INDEX ON s.t (a);", "Equal"),
+    ("CREATE TABLE a.b.c (); CREATE INDEX ON a.b.c (a);", "Equal"),
+    ("CREATE TABLE a.b.c (); CREATE INDEX ON a.b (a);", "Greater"),
     (
         "CREATE TABLE a.b.c.d.e (); CREATE INDEX ON a.b.c.d.f (a);",
-        Some(Ordering::Less),
+        "Less",
     ),
     (
         "CREATE TABLE \"a.b\" (); CREATE INDEX ON a.b (a);",
-        Some(Ordering::Greater),
+        "Greater",
     ),
-    ("CREATE TABLE t (); COMMIT;", None),
-    ("CREATE TABLE t ();", None),
+    ("CREATE TABLE t (); COMMIT;", "none"),
+    ("CREATE TABLE t ();", "none"),
 ];
 
-// The path of a table that is created or indexed.
-fn path_of(s: &Stmt) -> Option<Span> {
-    match s.body {
-        Body::Table { path, .. } => Some(path),
-        Body::Index { path, .. } => Some(path),
-        _ => None,
-    }
+// The path of a table that is created or indexed, where it has one and memory serves.
+fn path_of<'t>(alloc: Global, p: &Parse<'t>, s: &Stmt) -> Option<NamePath<'t>> {
+    let span = match s.body {
+        Body::Table { path, .. } => path,
+        Body::Index { path, .. } => path,
+        _ => return None,
+    };
+    NamePath::of(alloc, p, span).ok()
 }
 
 // How two paths are there to each other.
-fn order_of(left: &NamePath<'_>, right: &NamePath<'_>) -> Result<Option<Ordering>, Fail> {
+fn show_order(left: &NamePath<'_>, right: &NamePath<'_>, out: &mut Answer) {
     let order = left.cmp(right);
-    if (left == right) != (order == Ordering::Equal) {
-        return Err(Fail::from("equality and order differ"));
-    }
-    Ok(Some(order))
+    out.show(order);
+    out.mark(
+        (left == right) != (order == Ordering::Equal),
+        " and equality differs",
+    );
 }
 
-// How the paths of two statements are there to each other, where both have one.
-fn order_in(
-    alloc: Global,
-    p: &Parse<'_>,
-    left: &Stmt,
-    right: &Stmt,
-) -> Result<Option<Ordering>, Fail> {
-    match (path_of(left), path_of(right)) {
-        (Some(left), Some(right)) => order_of(
-            &NamePath::of(alloc, p, left)?,
-            &NamePath::of(alloc, p, right)?,
-        ),
-        _ => Ok(None),
+// How the paths of the two statements are there to each other, where there are two, and both have one.
+fn show_paths(p: &Parse<'_>, out: &mut Answer) {
+    let alloc = out.alloc();
+    let statements = p.tree().stmts.as_slice();
+    if statements.len() != 2 {
+        return out.add("none");
+    }
+    match (
+        path_of(alloc, p, &statements[0]),
+        path_of(alloc, p, &statements[1]),
+    ) {
+        (Some(left), Some(right)) => show_order(&left, &right, out),
+        _ => out.add("none"),
     }
 }
 
-// How the paths of two statements are there to each other, where there are two.
-fn compared(alloc: Global, text: &str) -> Result<Option<Ordering>, Fail> {
-    let p = parse(alloc, text)?;
-    match p.tree().stmts.as_slice() {
-        [left, right] => order_in(alloc, &p, left, right),
-        _ => Ok(None),
+/// The paths of a text of two statements.
+struct Paths;
+
+impl Reading for Paths {
+    fn read(&self, text: &str, out: &mut Answer) {
+        match parse(out.alloc(), text) {
+            Ok(p) => show_paths(&p, out),
+            Err(_) => out.fail(),
+        }
     }
 }
 
 #[test]
-fn order(rt: HostRuntime) -> Result<(), Fail> {
-    for row in ROWS {
-        assert_eq!(rt; compared(rt.alloc(), row.0)?, row.1, "at {:?}", row.0);
-    }
-    Ok(())
+fn order(rt: HostRuntime) {
+    compare(&rt, rt.alloc(), &Paths, ROWS);
 }

@@ -1,11 +1,8 @@
 //! Where statements begin and end, and which of them may be read at all.
 
-ghost use Rattle.std.specs.Prelude.{◌<◌, ◌^◌, length};
-
+use crate::rows::{Answer, Reading, compare, compare_each, read_short};
 use sql_lex::{Statements, cut, is_sound, lex, span_of};
-use sql_token::Terminal;
-use std::alloc::Global;
-use std::test::Fail;
+use sql_token::{Span, Terminal};
 
 /// A text, and of each statement the numbers of its first and its last token, and `y` where it is sound, each with a blank after
 /// it.
@@ -52,70 +49,80 @@ const ROWS: &[(&str, &str)] = &[
     ("atomic begin", "0-2 y "),
 ];
 
-/// How deep brackets are in each other, and the statement.
-const DEPTHS: &[(usize, &str)] = &[
-    (1, "0-1 y "),
-    (127, "0-253 y "),
-    (128, "0-255 y "),
-    (129, "0-257 n "),
-    (200, "0-399 n "),
+// A statement of a walk, and the span that the call that gives all of them has for it.
+fn show_statement(statement: &[Terminal], cut: Span, out: &mut Answer) {
+    let span = span_of(statement);
+    out.mark(cut != span, "cut otherwise ");
+    out.show_span(span);
+    out.add(if is_sound(statement) { " y " } else { " n " });
+}
+
+// Whether the walk has one more statement, which is then in the list.
+fn has_next(walk: &mut Statements<'_>, statement: &mut Vec<Terminal>, out: &mut Answer) -> bool {
+    match walk.next_into(statement) {
+        Ok(is_one) => is_one,
+        Err(_) => {
+            out.fail();
+            false
+        }
+    }
+}
+
+// The statements of a walk one by one, which are those of the call that gives them all.
+fn show_walk(walk: &mut Statements<'_>, spans: &[Span], out: &mut Answer) {
+    let mut statement: Vec<Terminal> = Vec::new(out.alloc());
+    for cut in spans {
+        let is_one = has_next(walk, &mut statement, out);
+        out.mark(!is_one, "too few ");
+        show_statement(&statement, *cut, out);
+    }
+    let is_one = has_next(walk, &mut statement, out);
+    out.mark(is_one, "too many");
+}
+
+/// The statements of a text, in the form of the rows.
+struct Walk;
+
+impl Reading for Walk {
+    fn read(&self, text: &str, out: &mut Answer) {
+        let Ok(toks) = lex(out.alloc(), text) else {
+            return out.fail();
+        };
+        match cut(out.alloc(), text, &toks) {
+            Ok(spans) => show_walk(&mut Statements::new(text, &toks), &spans, out),
+            Err(_) => out.fail(),
+        }
+    }
+}
+
+#[test]
+fn statements(rt: HostRuntime) {
+    compare(&rt, rt.alloc(), &Walk, ROWS);
+}
+
+/// The statements of a text in round brackets that are so deep in each other.
+struct Nested(usize);
+
+impl Reading for Nested {
+    fn read(&self, text: &str, out: &mut Answer) {
+        let mut nested = Answer::new(out.alloc());
+        nested.repeat("(", "", self.0);
+        nested.add(text);
+        nested.repeat(")", "", self.0);
+        read_short(&Walk, nested.text(), out);
+    }
+}
+
+/// How deep brackets are in each other, what is in them, and the statement.
+const DEPTHS: &[(Nested, &str, &str)] = &[
+    (Nested(1), "", "0-1 y "),
+    (Nested(127), "", "0-253 y "),
+    (Nested(128), "", "0-255 y "),
+    (Nested(129), "", "0-257 n "),
+    (Nested(200), "", "0-399 n "),
 ];
 
-// The statements of a text one by one, which are those of the call that gives them all.
-fn statements_of(alloc: Global, text: &str) -> Result<String, Fail>
-    requires { length text.now < 2 ^ 32 }
-{
-    let mut out = String::new(alloc);
-    let toks = lex(alloc, text)?;
-    let spans = cut(alloc, text, &toks)?;
-    let mut statement: Vec<Terminal> = Vec::new(alloc);
-    let mut walk = Statements::new(text, &toks);
-    for i in 0..=toks.len() {
-        if !walk.next_into(&mut statement)? {
-            out.push_str(if i == spans.len() { "" } else { "too many" })?;
-            break;
-        }
-        let span = span_of(&statement);
-        let is_cut_so = spans.get(i).copied() == Some(span);
-        out.push_str(if is_cut_so { "" } else { "cut otherwise " })?;
-        out.push_str(format!(in alloc; "{}-{} ", span.first, span.last)?.as_str())?;
-        out.push_str(if is_sound(&statement) { "y " } else { "n " })?;
-    }
-    Ok(out)
-}
-
-fn push_times(text: &mut String, piece: &str, times: usize) -> Result<(), Fail> {
-    for _ in 0..times {
-        text.push_str(piece)?;
-    }
-    Ok(())
-}
-
-// Round brackets that are so deep in each other.
-fn nested(alloc: Global, depth: usize) -> Result<String, Fail> {
-    let mut text = String::new(alloc);
-    push_times(&mut text, "(", depth)?;
-    push_times(&mut text, ")", depth)?;
-    Ok(text)
-}
-
 #[test]
-fn statements(rt: HostRuntime) -> Result<(), Fail> {
-    for row in ROWS {
-        assert!(rt; row.0.len() < 1000);
-        let answer = statements_of(rt.alloc(), row.0)?;
-        assert_eq!(rt; answer.as_str(), row.1, "at {:?}", row.0);
-    }
-    Ok(())
-}
-
-#[test]
-fn depths(rt: HostRuntime) -> Result<(), Fail> {
-    for row in DEPTHS {
-        let text = nested(rt.alloc(), row.0)?;
-        assert!(rt; text.len() < 1000);
-        let answer = statements_of(rt.alloc(), text.as_str())?;
-        assert_eq!(rt; answer.as_str(), row.1, "at depth {}", row.0);
-    }
-    Ok(())
+fn depths(rt: HostRuntime) {
+    compare_each(&rt, rt.alloc(), DEPTHS);
 }

@@ -2,10 +2,9 @@
 
 ghost use Rattle.std.specs.Prelude.{◌<◌, ◌^◌, length};
 
+use crate::rows::{Answer, Reading, compare};
 use sql_lex::{Statements, lex};
 use sql_token::{Keyword, Terminal};
-use std::alloc::Global;
-use std::test::Fail;
 
 /// A text of one token, what it is, and what it counts as: the key word CREATE, a name, an opening, closing or round
 /// bracket, a semicolon, a dot, an identifier with Unicode escapes.
@@ -38,52 +37,47 @@ const ROWS: &[(&str, &str)] = &[
     ("{", "Other"),
 ];
 
-// What is said of one token, in the form of the rows.
-fn told(alloc: Global, terminal: Terminal) -> Result<String, Fail> {
-    let mut out = format!(in alloc; "{:?}", terminal.symbol)?;
-    for (is_so, word) in [
-        (terminal.is_keyword(Keyword::CREATE), " create"),
-        (terminal.is_name(), " name"),
-        (terminal.is_opener(), " opener"),
-        (terminal.is_closer(), " closer"),
-        (terminal.is_round(), " round"),
-        (terminal.is_semicolon(), " semicolon"),
-        (terminal.is_dot(), " dot"),
-        (terminal.is_unicode_name(), " unicode"),
-    ] {
-        if is_so {
-            out.push_str(word)?;
-        }
-    }
-    Ok(out)
+/// What is said of each token of the first statement, in the form of the rows.
+struct Telling;
+
+fn tell(terminal: Terminal, out: &mut Answer) {
+    out.show(terminal.symbol);
+    out.mark(terminal.is_keyword(Keyword::CREATE), " create");
+    out.mark(terminal.is_name(), " name");
+    out.mark(terminal.is_opener(), " opener");
+    out.mark(terminal.is_closer(), " closer");
+    out.mark(terminal.is_round(), " round");
+    out.mark(terminal.is_semicolon(), " semicolon");
+    out.mark(terminal.is_dot(), " dot");
+    out.mark(terminal.is_unicode_name(), " unicode");
 }
 
 /// The terminals of the first statement of a text.
-pub(crate) fn terminals_of(alloc: Global, text: &str) -> Result<Vec<Terminal>, Fail>
+pub(crate) fn terminals_of(text: &str, out: &mut Answer) -> Vec<Terminal>
     requires { length text.now < 2 ^ 32 }
 {
-    let toks = lex(alloc, text)?;
-    let mut terminals: Vec<Terminal> = Vec::new(alloc);
-    let mut walk = Statements::new(text, &toks);
-    walk.next_into(&mut terminals)?;
-    Ok(terminals)
+    let mut terminals: Vec<Terminal> = Vec::new(out.alloc());
+    match lex(out.alloc(), text) {
+        Ok(toks) => {
+            let mut walk = Statements::new(text, &toks);
+            if walk.next_into(&mut terminals).is_err() {
+                out.fail();
+            }
+        }
+        Err(_) => out.fail(),
+    }
+    terminals
 }
 
-fn shown(alloc: Global, text: &str) -> Result<String, Fail>
-    requires { length text.now < 2 ^ 32 }
-{
-    let mut out = String::new(alloc);
-    for terminal in &terminals_of(alloc, text)? {
-        out.push_str(told(alloc, *terminal)?.as_str())?;
+impl Reading for Telling {
+    fn read(&self, text: &str, out: &mut Answer) {
+        for terminal in &terminals_of(text, out) {
+            tell(*terminal, out);
+        }
     }
-    Ok(out)
 }
 
 #[test]
-fn terminals(rt: HostRuntime) -> Result<(), Fail> {
-    for row in ROWS {
-        assert!(rt; row.0.len() < 1000);
-        assert_eq!(rt; shown(rt.alloc(), row.0)?.as_str(), row.1, "at {:?}", row.0);
-    }
-    Ok(())
+fn terminals(rt: HostRuntime) {
+    compare(&rt, rt.alloc(), &Telling, ROWS);
 }

@@ -1,10 +1,8 @@
-//! Tokens of short texts (PostgreSQL manual, section 4.1).
+//! Lexing of short texts (PostgreSQL manual, section 4.1).
 
-ghost use Rattle.std.specs.Prelude.{◌<◌, ◌^◌, length};
-
+use crate::rows::{Answer, Message, Reading, compare, compare_each};
 use sql_lex::{LexError, lex};
-use sql_token::TokKind;
-use std::alloc::Global;
+use sql_token::{Tok, TokKind};
 use std::test::Fail;
 
 /// A text and its tokens: a letter for each kind, and the place after the token in bytes; or `!` and the place of the
@@ -178,49 +176,48 @@ fn letter(kind: TokKind) -> &'static str {
     }
 }
 
-// What the lexer answers, in the form of the rows; `gap` where a token does not begin where the one before it ends.
-fn shown(alloc: Global, text: &str) -> Result<String, Fail>
-    requires { length text.now < 2 ^ 32 }
-{
-    let mut out = String::new(alloc);
+/// The tokens of a text, in the form of the rows; `gap` where a token does not begin where the one before it ends.
+struct Lexing;
+
+fn show_tokens(toks: &[Tok], out: &mut Answer) {
     let mut end = 0;
-    match lex(alloc, text) {
-        Ok(toks) => {
-            for tok in &toks {
-                if tok.start != end {
-                    out.push_str("gap")?;
-                }
-                end = tok.end;
-                out.push_str(letter(tok.kind))?;
-                out.push_str(format!(in alloc; "{}", tok.end)?.as_str())?;
+    for tok in toks {
+        out.mark(tok.start != end, "gap");
+        end = tok.end;
+        out.add(letter(tok.kind));
+        out.show(tok.end);
+    }
+}
+
+impl Reading for Lexing {
+    fn read(&self, text: &str, out: &mut Answer) {
+        match lex(out.alloc(), text) {
+            Ok(toks) => show_tokens(&toks, out),
+            Err(LexError::Unterminated { at }) => {
+                out.add("!");
+                out.show(at);
             }
+            Err(LexError::NoMemory) => out.fail(),
         }
-        Err(LexError::Unterminated { at }) => out.push_str(format!(in alloc; "!{at}")?.as_str())?,
-        Err(LexError::NoMemory) => out.push_str("memory")?,
     }
-    Ok(out)
 }
 
 #[test]
-fn tokens(rt: HostRuntime) -> Result<(), Fail> {
-    for row in ROWS {
-        assert!(rt; row.0.len() < 1000);
-        assert_eq!(rt; shown(rt.alloc(), row.0)?.as_str(), row.1, "at {:?}", row.0);
-    }
-    Ok(())
+fn tokens(rt: HostRuntime) {
+    compare(&rt, rt.alloc(), &Lexing, ROWS);
 }
 
+/// Errors, and their texts.
+const MESSAGES: &[(Message<LexError>, &str, &str)] = &[
+    (
+        Message(LexError::Unterminated { at: 7 }),
+        "",
+        "unterminated at 7",
+    ),
+    (Message(LexError::NoMemory), "", "out of memory"),
+];
+
 #[test]
-fn messages(rt: HostRuntime) -> Result<(), Fail> {
-    let open = LexError::Unterminated { at: 7 };
-    assert_eq!(rt;
-        format!(in rt.alloc(); "{open}")?.as_str(),
-        "unterminated at 7"
-    );
-    let memory = LexError::NoMemory;
-    assert_eq!(rt;
-        format!(in rt.alloc(); "{memory}")?.as_str(),
-        "out of memory"
-    );
-    Ok(())
+fn messages(rt: HostRuntime) {
+    compare_each(&rt, rt.alloc(), MESSAGES);
 }

@@ -1,18 +1,22 @@
 //! What is kept of a text beside its tree, and the texts of errors. Trees are cases in `cases/forms`.
 
+use crate::rows::{Answer, Message, Reading, compare_each, compare_row};
 use sql_read::{LintError, parse};
-use std::alloc::Global;
-use std::test::Fail;
 
-// The texts of all tokens of a text, joined.
-fn joined(alloc: Global, text: &str) -> Result<String, Fail> {
-    let mut out = String::new(alloc);
-    if let Ok(p) = parse(alloc, text) {
-        for i in 0..p.tokens().len() {
-            out.push_str(p.token_text(i))?;
+/// The texts of all tokens of a text, joined.
+struct Joining;
+
+impl Reading for Joining {
+    fn read(&self, text: &str, out: &mut Answer) {
+        match parse(out.alloc(), text) {
+            Ok(p) => {
+                for i in 0..p.tokens().len() {
+                    out.add(p.token_text(i));
+                }
+            }
+            Err(_) => out.fail(),
         }
     }
-    Ok(out)
 }
 
 /// Texts whose tokens, joined, are the text.
@@ -27,25 +31,25 @@ const TEXTS: &[&str] = &[
 ];
 
 #[test]
-fn tokens_make_the_text(rt: HostRuntime) -> Result<(), Fail> {
-    for text in TEXTS {
-        assert_eq!(rt; joined(rt.alloc(), text)?.as_str(), *text);
+fn tokens_make_the_text(rt: HostRuntime) {
+    for (number, text) in TEXTS.iter().enumerate() {
+        compare_row(&rt, rt.alloc(), number, &Joining, text, text);
     }
-    Ok(())
 }
 
+/// Errors, and their texts.
+const MESSAGES: &[(Message<LintError>, &str, &str)] = &[
+    (Message(LintError::TooLong), "", "text too long"),
+    (
+        Message(LintError::Unterminated { at: 4294967295 }),
+        "",
+        "unterminated at 4294967295",
+    ),
+    (Message(LintError::Syntax { at: 0 }), "", "syntax at 0"),
+    (Message(LintError::NoMemory), "", "out of memory"),
+];
+
 #[test]
-fn messages(rt: HostRuntime) -> Result<(), Fail> {
-    for (error, want) in [
-        (LintError::TooLong, "text too long"),
-        (
-            LintError::Unterminated { at: 4294967295 },
-            "unterminated at 4294967295",
-        ),
-        (LintError::Syntax { at: 0 }, "syntax at 0"),
-        (LintError::NoMemory, "out of memory"),
-    ] {
-        assert_eq!(rt; format!(in rt.alloc(); "{error}")?.as_str(), want);
-    }
-    Ok(())
+fn messages(rt: HostRuntime) {
+    compare_each(&rt, rt.alloc(), MESSAGES);
 }

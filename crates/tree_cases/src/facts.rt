@@ -1,89 +1,90 @@
 //! Locks, transactions and ignore comments of a tree.
 
-use crate::shown::{push_mark, push_range};
-use case_text::{Fault, push_word};
+use crate::row::{Row, Show};
 use lint_base::{Reports, RuleSet, Violation};
 use lint_ignore::{
-    Found, find_ignores, has_disable_assume_in_transaction, ignore_rule_info, unused_pieces,
+    Found, IgnorePiece, find_ignores, has_disable_assume_in_transaction, ignore_rule_info,
+    unused_pieces,
 };
 use lint_lock::{LockKind, analyze};
 use lint_transaction::{OpenTransaction, TablesCreatedInTransaction};
-use sql_tree::{Body, NamePath, Parse};
+use sql_tree::{Body, NamePath, Parse, Stmt};
 use std::alloc::Global;
+use text_pos::NoMemory;
 
-/// For each statement whether it may take long, and its lock. It serves the tests, so no clause is owed.
-pub(crate) fn push_locks(alloc: Global, out: &mut String, p: &Parse<'_>) -> Result<(), Fault> {
-    for s in p.tree().stmts.as_slice() {
-        let is_slow = analyze::possibly_slow_stmt(p, s);
-        let lock = LockKind::of(p, s);
-        out.push_str(if is_slow { "slow " } else { "quick " })?;
-        out.push_str(format!(in alloc; "{lock:?}")?.as_str())?;
-    }
-    Ok(())
+/// Whether a statement may take long, and its lock. It serves the tests, so no clause is owed.
+pub(crate) fn show_lock(row: &mut Row, p: &Parse<'_>, s: &Stmt) {
+    let is_slow = analyze::possibly_slow_stmt(p, s);
+    let label = if is_slow { "slow " } else { "quick " };
+    row.debug(label, &LockKind::of(p, s));
 }
 
 /// For each CREATE INDEX whether its table was created in the open transaction. It serves the tests, so no clause is owed.
-pub(crate) fn push_created(
-    alloc: Global,
-    out: &mut String,
-    assumed: bool,
-    p: &Parse<'_>,
-) -> Result<(), Fault> {
+pub(crate) fn show_created(alloc: Global, row: &mut Row, p: &Parse<'_>, assumed: bool) {
     let mut created = TablesCreatedInTransaction::new(alloc, assumed);
     for s in p.tree().stmts.as_slice() {
         if let Body::Index { path, .. } = s.body {
-            let path = NamePath::of(alloc, p, path)?;
-            out.push_str(if created.contains(&path) { "y" } else { "n" })?;
+            match NamePath::of(alloc, p, path) {
+                Ok(path) => row.yes_or_no(created.contains(&path)),
+                Err(_) => row.fail(),
+            }
         }
-        created.update(p, s)?;
+        if created.update(p, s).is_err() {
+            row.fail();
+        }
     }
-    Ok(())
 }
 
 /// For each statement and for the end whether a transaction is open before it. It serves the tests, so no clause is owed.
-pub(crate) fn push_transaction(
-    out: &mut String,
-    assumed: bool,
-    p: &Parse<'_>,
-) -> Result<(), Fault> {
+pub(crate) fn show_transaction(row: &mut Row, p: &Parse<'_>, assumed: bool) {
     let mut transaction = OpenTransaction::new(assumed);
     for s in p.tree().stmts.as_slice() {
-        out.push_str(if transaction.inside() { "y" } else { "n" })?;
+        row.yes_or_no(transaction.inside());
         transaction.update(s);
     }
-    out.push_str(if transaction.inside() { "y" } else { "n" })?;
-    Ok(())
+    row.yes_or_no(transaction.inside());
 }
 
 /// The ignore comments: the kind of each, its range and its text without the prefix; and `disable` where a comment says
 /// that no transaction is to be assumed. It serves the tests, so no clause is owed.
-pub(crate) fn push_comments(alloc: Global, out: &mut String, p: &Parse<'_>) -> Result<(), Fault> {
+pub(crate) fn show_comments(row: &mut Row, p: &Parse<'_>) {
     for i in 0..p.tokens().len() {
         if let Some((rest, range, kind)) = ignore_rule_info(p, i) {
-            push_word(out, format!(in alloc; "{kind:?} ")?.as_str())?;
-            push_range(alloc, out, range)?;
-            out.push_str(format!(in alloc; " {rest:?}")?.as_str())?;
+            row.gap(" ");
+            row.debug("", &kind);
+            row.range(" ", range);
+            row.debug(" ", &rest);
         }
     }
     if has_disable_assume_in_transaction(p) {
-        push_word(out, "disable")?;
+        row.word("disable");
     }
-    Ok(())
 }
 
-fn push_reports(alloc: Global, out: &mut String, reports: &[Violation]) -> Result<(), Fault> {
-    push_word(out, "|")?;
-    for report in reports {
-        out.push_str(" ")?;
-        push_range(alloc, out, report.text_range)?;
-        push_word(out, report.message.as_str())?;
+impl Show for IgnorePiece {
+    fn show(&self, row: &mut Row, _p: &Parse<'_>) {
+        row.gap(" ");
+        row.debug("", &self.ignore);
+        row.range(" ", self.range);
     }
-    Ok(())
+}
+
+impl Show for Violation {
+    fn show(&self, row: &mut Row, _p: &Parse<'_>) {
+        row.range(" ", self.text_range);
+        row.add(" ");
+        row.add(self.message.as_str());
+    }
+}
+
+fn show_reports(row: &mut Row, p: &Parse<'_>, reports: &[Violation]) {
+    row.word("|");
+    row.parts(p, "", "", reports);
 }
 
 /// What the ignore comments name: each rule with the number of its comment, then the reports of names that are not rules,
 /// then those of names that are used by no report, under the default rules. It serves the tests, so no clause is owed.
-pub(crate) fn push_names(alloc: Global, out: &mut String, p: &Parse<'_>) -> Result<(), Fault> {
+pub(crate) fn show_names(alloc: Global, row: &mut Row, p: &Parse<'_>) -> Result<(), NoMemory> {
     let mut found = Found::new(alloc);
     find_ignores(alloc, p, &mut found)?;
     let mut unused = Reports::new(alloc);
@@ -97,10 +98,8 @@ pub(crate) fn push_names(alloc: Global, out: &mut String, p: &Parse<'_>) -> Resu
         &rules,
         &mut unused,
     )?;
-    for piece in &found.pieces {
-        push_word(out, format!(in alloc; "{} ", piece.ignore)?.as_str())?;
-        push_range(alloc, out, piece.range)?;
-    }
-    push_reports(alloc, out, found.reports.items())?;
-    push_reports(alloc, out, unused.items())
+    row.parts(p, "", "", found.pieces.as_slice());
+    show_reports(row, p, found.reports.items());
+    show_reports(row, p, unused.items());
+    Ok(())
 }

@@ -4,19 +4,24 @@
 
 mod facts;
 mod ranges;
+mod row;
 mod shown;
 mod shown_body;
 mod view;
 
 use case_text::{Answer, Fault, Subject};
+pub use row::Row;
 use std::alloc::Global;
 use view::{View, viewed};
 
 /// The printed trees.
 pub struct Trees;
 
-fn has_word(words: &[String], wanted: &str) -> bool {
-    words.iter().any(|word| word.as_str() == wanted)
+fn word_at(words: &[String], number: usize) -> &str {
+    match words.get(number) {
+        Some(word) => word.as_str(),
+        None => "",
+    }
 }
 
 impl Subject for Trees {
@@ -24,9 +29,9 @@ impl Subject for Trees {
         let mut answer = Answer::new(alloc);
         match std::str::from_utf8(text) {
             Ok(text) => {
-                let row = self.row(alloc, words, text)?;
-                answer.out.extend_from_slice(row.as_bytes())?;
-                answer.out.push(b'\n')?;
+                let mut row = self.row(alloc, words, text)?;
+                row.push_str("\n")?;
+                answer.out = row.into_bytes();
             }
             Err(_) => answer.status = 2,
         }
@@ -34,12 +39,9 @@ impl Subject for Trees {
     }
 
     fn row(&self, alloc: Global, words: &[String], text: &str) -> Result<String, Fault> {
-        let name = match words.split_first() {
-            Some((first, _)) => first.as_str(),
-            None => "",
-        };
+        let name = word_at(words, 0);
         match View::named(name) {
-            Some(view) => viewed(alloc, view, has_word(words, "assumed"), text),
+            Some(view) => viewed(alloc, view, word_at(words, 1) == "assumed", text),
             None => Ok(format!(in alloc; "no view `{name}`")?),
         }
     }

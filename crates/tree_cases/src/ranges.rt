@@ -1,95 +1,38 @@
 //! The ranges of statements, actions and constraints, in bytes.
 
-use crate::shown::{push_mark, push_range, push_span, push_token};
-use case_text::Fault;
-use sql_tree::{Action, Body, Parse, Stmt};
-use std::alloc::Global;
+use crate::row::Row;
+use crate::shown_body::{actions_of, show_head};
+use sql_tree::{Action, Body, Constraint, Parse, Stmt};
 
-fn push_table(out: &mut String, p: &Parse<'_>, body: &Body) -> Result<(), Fault> {
-    if let Body::Table {
-        path,
-        word,
-        temp,
-        guarded,
-        ..
-    } = body
-    {
-        push_token(out, p, " word ", Some(*word))?;
-        push_mark(out, *temp, " temp")?;
-        push_mark(out, *guarded, " guarded")?;
-        push_span(out, p, " path ", Some(*path))?;
-    }
-    Ok(())
+fn show_constraint(row: &mut Row, p: &Parse<'_>, c: &Constraint) {
+    row.span_range(p, "", c.first, c.last);
+    row.debug(" ", &c.kind);
+    row.token(p, " name ", c.name);
+    row.mark(c.not_valid, " not valid");
+    row.mark(c.by_index, " index");
 }
 
-fn push_index(out: &mut String, p: &Parse<'_>, body: &Body) -> Result<(), Fault> {
-    if let Body::Index {
-        word,
-        unique,
-        concurrently,
-        guarded,
-        name,
-        path,
-    } = body
-    {
-        push_token(out, p, " word ", Some(*word))?;
-        push_mark(out, *unique, " unique")?;
-        push_token(out, p, " concurrently ", *concurrently)?;
-        push_mark(out, *guarded, " guarded")?;
-        push_token(out, p, " name ", *name)?;
-        push_span(out, p, " path ", Some(*path))?;
-    }
-    Ok(())
-}
-
-fn push_body(out: &mut String, p: &Parse<'_>, body: &Body) -> Result<(), Fault> {
-    match body {
-        Body::Kept => Ok(()),
-        Body::End { plain, chain } => {
-            push_mark(out, *plain, " plain")?;
-            push_mark(out, *chain, " chain")
+// The range of each action, and the range, kind, name and marks of the constraint that it adds.
+fn show_actions(row: &mut Row, p: &Parse<'_>, actions: &[Action]) {
+    for action in actions {
+        row.span_range(p, " (", action.first, action.last);
+        row.add(" ");
+        if let Some(constraint) = &action.constraint {
+            show_constraint(row, p, constraint);
         }
-        Body::Table { .. } => push_table(out, p, body),
-        Body::Index { .. } => push_index(out, p, body),
-        Body::Into { path, .. } => push_span(out, p, " path ", Some(*path)),
-        Body::Alter { path, .. } => push_span(out, p, " path ", *path),
-        _ => push_mark(out, true, " more"),
+        row.add(")");
     }
 }
 
-// The range of an action, and the range, kind, name and marks of the constraint that it adds.
-fn push_action(alloc: Global, out: &mut String, p: &Parse<'_>, a: &Action) -> Result<(), Fault> {
-    out.push_str(" (")?;
-    push_range(alloc, out, p.span_range(a.first, a.last))?;
-    out.push_str(" ")?;
-    if let Some(c) = &a.constraint {
-        push_range(alloc, out, p.span_range(c.first, c.last))?;
-        out.push_str(format!(in alloc; " {:?}", c.kind)?.as_str())?;
-        push_token(out, p, " name ", c.name)?;
-        push_mark(out, c.not_valid, " not valid")?;
-        push_mark(out, c.by_index, " index")?;
+/// A statement with its range, and its actions in brackets with theirs. It serves the tests, so no clause is owed.
+pub(crate) fn show_ranges(row: &mut Row, p: &Parse<'_>, s: &Stmt) {
+    row.debug("", &s.kind);
+    row.span_range(p, " ", s.first, s.last);
+    show_head(row, p, &s.body);
+    match &s.body {
+        Body::Kept | Body::End { .. } | Body::Table { .. } | Body::Index { .. } => (),
+        Body::Into { .. } | Body::Alter { .. } => (),
+        _ => row.add(" more"),
     }
-    out.push_str(")")?;
-    Ok(())
-}
-
-fn push_actions(alloc: Global, out: &mut String, p: &Parse<'_>, s: &Stmt) -> Result<(), Fault> {
-    if let Body::Alter { actions, .. } = &s.body {
-        for action in actions.as_slice() {
-            push_action(alloc, out, p, action)?;
-        }
-    }
-    Ok(())
-}
-
-/// The statements with their ranges, and the actions in brackets with theirs. It serves the tests, so no clause is owed.
-pub(crate) fn push_ranges(alloc: Global, out: &mut String, p: &Parse<'_>) -> Result<(), Fault> {
-    for s in p.tree().stmts.as_slice() {
-        push_mark(out, !out.is_empty(), " | ")?;
-        out.push_str(format!(in alloc; "{:?} ", s.kind)?.as_str())?;
-        push_range(alloc, out, p.stmt_range(s))?;
-        push_body(out, p, &s.body)?;
-        push_actions(alloc, out, p, s)?;
-    }
-    Ok(())
+    show_actions(row, p, actions_of(&s.body));
 }

@@ -1,66 +1,80 @@
 //! What is known of a statement, in words.
 
-use crate::shown::{
-    push_actions, push_clause, push_constraints, push_elements, push_expr, push_mark, push_span,
-    push_targets, push_token,
-};
-use case_text::Fault;
-use sql_tree::{Body, Elem, Parse, Stmt, TableWrite, Target, ViewDefinition};
-use std::alloc::Global;
+use crate::row::{Row, Show};
+use crate::shown::show_constraints;
+use sql_token::Span;
+use sql_tree::{Action, Body, Elem, Parse, SetPart, Stmt, TableWrite, Target, ViewDefinition};
+use sqlite_items::Items;
 
-fn push_view(out: &mut String, p: &Parse<'_>, v: &ViewDefinition) -> Result<(), Fault> {
-    push_mark(out, v.replace, " replace")?;
-    push_mark(out, true, " columns")?;
-    push_targets(out, p, v.columns.as_slice())?;
-    push_mark(out, true, " targets")?;
-    push_targets(out, p, v.targets.as_slice())
-}
-
-fn push_lists(out: &mut String, p: &Parse<'_>, list: &[Target]) -> Result<(), Fault> {
-    push_mark(out, true, " list")?;
-    push_targets(out, p, list)
-}
-
-fn push_write(out: &mut String, p: &Parse<'_>, x: &TableWrite) -> Result<(), Fault> {
-    push_span(out, p, " path ", Some(x.path))?;
-    for clause in x.sets.as_slice() {
-        push_clause(out, p, clause.as_slice())?;
+impl Show for ViewDefinition {
+    fn show(&self, row: &mut Row, p: &Parse<'_>) {
+        row.mark(self.replace, " replace");
+        row.add(" columns");
+        row.parts(p, "", "", self.columns.as_slice());
+        row.add(" targets");
+        row.parts(p, "", "", self.targets.as_slice());
     }
-    for list in x.lists.as_slice() {
-        push_lists(out, p, list.as_slice())?;
-    }
-    Ok(())
 }
 
-fn push_paths(out: &mut String, p: &Parse<'_>, paths: &[sql_tree::Span]) -> Result<(), Fault> {
-    for path in paths {
-        push_span(out, p, " path ", Some(*path))?;
+/// A SET clause.
+impl Show for Items<SetPart> {
+    fn show(&self, row: &mut Row, p: &Parse<'_>) {
+        row.add(" set");
+        row.parts(p, "", "", self.as_slice());
     }
-    Ok(())
 }
 
-fn push_table(alloc: Global, out: &mut String, p: &Parse<'_>, body: &Body) -> Result<(), Fault> {
-    if let Body::Table {
-        temp,
-        guarded,
-        on_commit_drop,
-        word,
-        path,
-        elems,
-    } = body
-    {
-        push_token(out, p, " word ", Some(*word))?;
-        push_mark(out, *temp, " temp")?;
-        push_mark(out, *guarded, " guarded")?;
-        push_mark(out, *on_commit_drop, " dropped")?;
-        push_span(out, p, " path ", Some(*path))?;
-        push_mark(out, !elems.is_empty(), ": ")?;
-        push_elements(alloc, out, p, elems.as_slice())?;
+/// A list of columns.
+impl Show for Items<Target> {
+    fn show(&self, row: &mut Row, p: &Parse<'_>) {
+        row.add(" list");
+        row.parts(p, "", "", self.as_slice());
     }
-    Ok(())
 }
 
-fn push_index(out: &mut String, p: &Parse<'_>, body: &Body) -> Result<(), Fault> {
+impl Show for TableWrite {
+    fn show(&self, row: &mut Row, p: &Parse<'_>) {
+        row.span(p, " path ", Some(self.path));
+        row.parts(p, "", "", self.sets.as_slice());
+        row.parts(p, "", "", self.lists.as_slice());
+    }
+}
+
+/// A path.
+impl Show for Span {
+    fn show(&self, row: &mut Row, p: &Parse<'_>) {
+        row.span(p, " path ", Some(*self));
+    }
+}
+
+/// The end of a transaction, a new table or index without its parts, and the path of an ALTER statement.
+pub(crate) fn show_head(row: &mut Row, p: &Parse<'_>, body: &Body) {
+    match body {
+        Body::End { plain, chain } => {
+            row.mark(*plain, " plain");
+            row.mark(*chain, " chain");
+        }
+        Body::Table {
+            temp,
+            guarded,
+            on_commit_drop,
+            word,
+            path,
+            ..
+        } => {
+            row.token(p, " word ", Some(*word));
+            row.mark(*temp, " temp");
+            row.mark(*guarded, " guarded");
+            row.mark(*on_commit_drop, " dropped");
+            row.span(p, " path ", Some(*path));
+        }
+        Body::Into { path, .. } => row.span(p, " path ", Some(*path)),
+        Body::Alter { path, .. } => row.span(p, " path ", *path),
+        _ => show_index(row, p, body),
+    }
+}
+
+fn show_index(row: &mut Row, p: &Parse<'_>, body: &Body) {
     if let Body::Index {
         word,
         unique,
@@ -70,17 +84,36 @@ fn push_index(out: &mut String, p: &Parse<'_>, body: &Body) -> Result<(), Fault>
         path,
     } = body
     {
-        push_token(out, p, " word ", Some(*word))?;
-        push_mark(out, *unique, " unique")?;
-        push_token(out, p, " concurrently ", *concurrently)?;
-        push_mark(out, *guarded, " guarded")?;
-        push_token(out, p, " name ", *name)?;
-        push_span(out, p, " path ", Some(*path))?;
+        row.token(p, " word ", Some(*word));
+        row.mark(*unique, " unique");
+        row.token(p, " concurrently ", *concurrently);
+        row.mark(*guarded, " guarded");
+        row.token(p, " name ", *name);
+        row.span(p, " path ", Some(*path));
     }
-    Ok(())
 }
 
-fn push_dropped(alloc: Global, out: &mut String, p: &Parse<'_>, body: &Body) -> Result<(), Fault> {
+fn show_parts(row: &mut Row, p: &Parse<'_>, body: &Body) {
+    match body {
+        Body::Table { elems, .. } => {
+            row.parts(p, ": ", "; ", elems.as_slice());
+        }
+        Body::Into { targets, .. } => {
+            row.add(" targets");
+            row.parts(p, "", "", targets.as_slice());
+        }
+        Body::Alter { actions, .. } => {
+            row.add(": ");
+            row.parts(p, "", "; ", actions.as_slice());
+        }
+        Body::Domain { constraints } => show_constraints(row, p, constraints.as_slice()),
+        Body::View(view) => view.get().show(row, p),
+        Body::Write(write) => write.get().show(row, p),
+        _ => (),
+    }
+}
+
+fn show_object(row: &mut Row, p: &Parse<'_>, body: &Body) {
     match body {
         Body::Drop {
             word,
@@ -88,10 +121,10 @@ fn push_dropped(alloc: Global, out: &mut String, p: &Parse<'_>, body: &Body) -> 
             guarded,
             paths,
         } => {
-            push_token(out, p, " word ", Some(*word))?;
-            push_mark(out, *concurrently, " concurrently")?;
-            push_mark(out, *guarded, " guarded")?;
-            push_paths(out, p, paths.as_slice())
+            row.token(p, " word ", Some(*word));
+            row.mark(*concurrently, " concurrently");
+            row.mark(*guarded, " guarded");
+            row.parts(p, "", "", paths.as_slice());
         }
         Body::Reindex {
             target,
@@ -100,137 +133,73 @@ fn push_dropped(alloc: Global, out: &mut String, p: &Parse<'_>, body: &Body) -> 
             valued,
             path,
         } => {
-            out.push_str(format!(in alloc; " {target:?}")?.as_str())?;
-            push_token(out, p, " word ", Some(*word))?;
-            push_mark(out, *concurrent, " concurrently")?;
-            push_mark(out, *valued, " valued")?;
-            push_span(out, p, " path ", *path)
+            row.debug(" ", target);
+            row.token(p, " word ", Some(*word));
+            row.mark(*concurrent, " concurrently");
+            row.mark(*valued, " valued");
+            row.span(p, " path ", *path);
         }
-        _ => Ok(()),
-    }
-}
-
-fn push_made(alloc: Global, out: &mut String, p: &Parse<'_>, body: &Body) -> Result<(), Fault> {
-    match body {
-        Body::Into { path, targets } => {
-            push_span(out, p, " path ", Some(*path))?;
-            push_mark(out, true, " targets")?;
-            push_targets(out, p, targets.as_slice())
-        }
-        Body::Alter { path, actions } => {
-            push_span(out, p, " path ", *path)?;
-            push_mark(out, true, ": ")?;
-            push_actions(alloc, out, p, actions.as_slice())
-        }
-        Body::Domain { constraints } => push_constraints(alloc, out, p, constraints.as_slice()),
         Body::Made { path, guarded } => {
-            push_mark(out, *guarded, " guarded")?;
-            push_span(out, p, " path ", Some(*path))
+            row.mark(*guarded, " guarded");
+            row.span(p, " path ", Some(*path));
         }
-        Body::View(view) => push_view(out, p, view.get()),
-        Body::Write(x) => push_write(out, p, x.get()),
-        _ => Ok(()),
+        _ => (),
     }
 }
 
-fn push_other(alloc: Global, out: &mut String, p: &Parse<'_>, body: &Body) -> Result<(), Fault> {
+fn show_other(row: &mut Row, p: &Parse<'_>, body: &Body) {
     match body {
-        Body::End { plain, chain } => {
-            push_mark(out, *plain, " plain")?;
-            push_mark(out, *chain, " chain")
-        }
-        Body::Code { replace } => push_mark(out, *replace, " replace"),
-        Body::Truncate { cascade } => push_token(out, p, " ", *cascade),
-        Body::Setting { name } => push_span(out, p, " ", *name),
+        Body::Code { replace } => row.mark(*replace, " replace"),
+        Body::Truncate { cascade } => row.token(p, " ", *cascade),
+        Body::Setting { name } => row.span(p, " ", *name),
         Body::Locking { mode: Some(mode) } => {
-            out.push_str(format!(in alloc; " {mode:?}")?.as_str())?;
-            Ok(())
+            row.debug(" ", mode);
         }
-        Body::Refresh { concurrently } => push_mark(out, *concurrently, " concurrently"),
+        Body::Refresh { concurrently } => row.mark(*concurrently, " concurrently"),
         Body::Vacuum { full, tables } => {
-            push_mark(out, *full, " full")?;
-            push_span(out, p, " tables ", *tables)
+            row.mark(*full, " full");
+            row.span(p, " tables ", *tables);
         }
         Body::Cluster { table, index } => {
-            push_span(out, p, " table ", *table)?;
-            push_token(out, p, " index ", *index)
+            row.span(p, " table ", *table);
+            row.token(p, " index ", *index);
         }
-        _ => Ok(()),
+        _ => (),
     }
 }
 
-fn push_body(alloc: Global, out: &mut String, p: &Parse<'_>, s: &Stmt) -> Result<(), Fault> {
-    push_table(alloc, out, p, &s.body)?;
-    push_index(out, p, &s.body)?;
-    push_dropped(alloc, out, p, &s.body)?;
-    push_made(alloc, out, p, &s.body)?;
-    push_other(alloc, out, p, &s.body)
-}
-
-/// The statements with all that is known of them. It serves the tests, so no clause is owed.
-pub(crate) fn push_stmts(alloc: Global, out: &mut String, p: &Parse<'_>) -> Result<(), Fault> {
-    for s in p.tree().stmts.as_slice() {
-        push_mark(out, !out.is_empty(), " | ")?;
-        out.push_str(format!(in alloc; "{:?}", s.kind)?.as_str())?;
-        push_body(alloc, out, p, s)?;
+/// A statement with all that is known of it.
+impl Show for Stmt {
+    fn show(&self, row: &mut Row, p: &Parse<'_>) {
+        row.debug("", &self.kind);
+        show_head(row, p, &self.body);
+        show_parts(row, p, &self.body);
+        show_object(row, p, &self.body);
+        show_other(row, p, &self.body);
     }
-    Ok(())
 }
 
-/// The kinds of the statements. It serves the tests, so no clause is owed.
-pub(crate) fn push_kinds(alloc: Global, out: &mut String, p: &Parse<'_>) -> Result<(), Fault> {
-    for s in p.tree().stmts.as_slice() {
-        push_mark(out, !out.is_empty(), " ")?;
-        out.push_str(format!(in alloc; "{:?}", s.kind)?.as_str())?;
-    }
-    Ok(())
-}
-
-/// The actions of ALTER statements. It serves the tests, so no clause is owed.
-pub(crate) fn push_all_actions(
-    alloc: Global,
-    out: &mut String,
-    p: &Parse<'_>,
-) -> Result<(), Fault> {
-    for s in p.tree().stmts.as_slice() {
-        if let Body::Alter { actions, .. } = &s.body {
-            push_actions(alloc, out, p, actions.as_slice())?;
-        }
-    }
-    Ok(())
-}
-
-/// The elements of tables. It serves the tests, so no clause is owed.
-pub(crate) fn push_all_elements(
-    alloc: Global,
-    out: &mut String,
-    p: &Parse<'_>,
-) -> Result<(), Fault> {
-    for s in p.tree().stmts.as_slice() {
-        if let Body::Table { elems, .. } = &s.body {
-            push_elements(alloc, out, p, elems.as_slice())?;
-        }
-    }
-    Ok(())
-}
-
-fn push_checks(out: &mut String, p: &Parse<'_>, elems: &[Elem]) -> Result<(), Fault> {
+/// The expressions of the checks of a table.
+pub(crate) fn show_checks(row: &mut Row, p: &Parse<'_>, elems: &[Elem]) {
     for elem in elems {
-        if let Elem::Constraint(c) = elem {
-            if let Some(e) = &c.expr {
-                push_expr(out, p, e)?;
-            }
+        if let Elem::Constraint(constraint) = elem {
+            row.part(p, "", &constraint.expr);
         }
     }
-    Ok(())
 }
 
-/// The expressions of the checks of tables. It serves the tests, so no clause is owed.
-pub(crate) fn push_all_checks(out: &mut String, p: &Parse<'_>) -> Result<(), Fault> {
-    for s in p.tree().stmts.as_slice() {
-        if let Body::Table { elems, .. } = &s.body {
-            push_checks(out, p, elems.as_slice())?;
-        }
+/// The actions of an ALTER statement. It serves the tests, so no clause is owed.
+pub(crate) fn actions_of(body: &Body) -> &[Action] {
+    match body {
+        Body::Alter { actions, .. } => actions.as_slice(),
+        _ => &[],
     }
-    Ok(())
+}
+
+/// The elements of a table. It serves the tests, so no clause is owed.
+pub(crate) fn elements_of(body: &Body) -> &[Elem] {
+    match body {
+        Body::Table { elems, .. } => elems.as_slice(),
+        _ => &[],
+    }
 }

@@ -1,32 +1,38 @@
 //! The views of a tree.
 
-use crate::facts::{push_comments, push_created, push_locks, push_names, push_transaction};
-use crate::ranges::push_ranges;
-use crate::shown_body::{
-    push_all_actions, push_all_checks, push_all_elements, push_kinds, push_stmts,
-};
+use crate::facts::{show_comments, show_created, show_lock, show_names, show_transaction};
+use crate::ranges::show_ranges;
+use crate::row::{Row, Show};
+use crate::shown_body::{actions_of, elements_of, show_checks};
 use case_text::Fault;
 use sql_read::parse;
-use sql_tree::Parse;
+use sql_tree::{Parse, Stmt};
 use std::alloc::Global;
+
+/// What is shown of each statement.
+#[derive(Clone, Copy)]
+pub(crate) enum Each {
+    /// Its kind.
+    Kind,
+    /// All that is known of it.
+    Statement,
+    /// The ranges of it, of its actions and of their constraints.
+    Ranges,
+    /// The actions of an ALTER statement.
+    Actions,
+    /// The elements of a table.
+    Elements,
+    /// The expressions of the checks of a table.
+    Checks,
+    /// Whether it may take long, and its lock.
+    Lock,
+}
 
 /// What is shown of a tree.
 #[derive(Clone, Copy)]
 pub(crate) enum View {
-    /// The kinds of the statements.
-    Kinds,
-    /// The statements, with all that is known of them.
-    Statements,
-    /// The ranges of the statements, of actions and of constraints.
-    Ranges,
-    /// The actions of ALTER statements.
-    Actions,
-    /// The elements of tables.
-    Elements,
-    /// The expressions of the checks of tables.
-    Checks,
-    /// For each statement whether it may take long, and its lock.
-    Locks,
+    /// Its statements, each by itself.
+    Stmts(Each),
     /// For each CREATE INDEX whether its table was created in the open transaction, `y` or `n`.
     Created,
     /// For each statement and for the end whether a transaction is open before it, `y` or `n`.
@@ -37,17 +43,28 @@ pub(crate) enum View {
     Names,
 }
 
+impl Each {
+    /// What is between two statements.
+    fn separator(self) -> &'static str {
+        match self {
+            Each::Kind => " ",
+            Each::Statement | Each::Ranges => " | ",
+            _ => "",
+        }
+    }
+}
+
 impl View {
     /// The view of a name. It serves the tests, so no clause is owed.
     pub(crate) fn named(name: &str) -> Option<View> {
         match name {
-            "kinds" => Some(View::Kinds),
-            "statements" => Some(View::Statements),
-            "ranges" => Some(View::Ranges),
-            "actions" => Some(View::Actions),
-            "elements" => Some(View::Elements),
-            "checks" => Some(View::Checks),
-            "locks" => Some(View::Locks),
+            "kinds" => Some(View::Stmts(Each::Kind)),
+            "statements" => Some(View::Stmts(Each::Statement)),
+            "ranges" => Some(View::Stmts(Each::Ranges)),
+            "actions" => Some(View::Stmts(Each::Actions)),
+            "elements" => Some(View::Stmts(Each::Elements)),
+            "checks" => Some(View::Stmts(Each::Checks)),
+            "locks" => Some(View::Stmts(Each::Lock)),
             "created" => Some(View::Created),
             "transaction" => Some(View::Transaction),
             "comments" => Some(View::Comments),
@@ -57,25 +74,36 @@ impl View {
     }
 }
 
-fn push_view(
-    alloc: Global,
-    out: &mut String,
-    view: View,
-    assumed: bool,
-    p: &Parse<'_>,
-) -> Result<(), Fault> {
+fn show_stmt(row: &mut Row, p: &Parse<'_>, each: Each, s: &Stmt) {
+    match each {
+        Each::Kind => row.debug("", &s.kind),
+        Each::Statement => s.show(row, p),
+        Each::Ranges => show_ranges(row, p, s),
+        Each::Actions => row.parts(p, "", "; ", actions_of(&s.body)),
+        Each::Elements => row.parts(p, "", "; ", elements_of(&s.body)),
+        Each::Checks => show_checks(row, p, elements_of(&s.body)),
+        Each::Lock => show_lock(row, p, s),
+    }
+}
+
+fn show_stmts(row: &mut Row, p: &Parse<'_>, each: Each) {
+    for s in p.tree().stmts.as_slice() {
+        row.gap(each.separator());
+        show_stmt(row, p, each, s);
+    }
+}
+
+fn show_tree(alloc: Global, row: &mut Row, p: &Parse<'_>, view: View, assumed: bool) {
     match view {
-        View::Kinds => push_kinds(alloc, out, p),
-        View::Statements => push_stmts(alloc, out, p),
-        View::Ranges => push_ranges(alloc, out, p),
-        View::Actions => push_all_actions(alloc, out, p),
-        View::Elements => push_all_elements(alloc, out, p),
-        View::Checks => push_all_checks(out, p),
-        View::Locks => push_locks(alloc, out, p),
-        View::Created => push_created(alloc, out, assumed, p),
-        View::Transaction => push_transaction(out, assumed, p),
-        View::Comments => push_comments(alloc, out, p),
-        View::Names => push_names(alloc, out, p),
+        View::Stmts(each) => show_stmts(row, p, each),
+        View::Created => show_created(alloc, row, p, assumed),
+        View::Transaction => show_transaction(row, p, assumed),
+        View::Comments => show_comments(row, p),
+        View::Names => {
+            if show_names(alloc, row, p).is_err() {
+                row.fail();
+            }
+        }
     }
 }
 
@@ -86,10 +114,12 @@ pub(crate) fn viewed(
     assumed: bool,
     text: &str,
 ) -> Result<String, Fault> {
-    let mut out = String::new(alloc);
     match parse(alloc, text) {
-        Ok(p) => push_view(alloc, &mut out, view, assumed, &p)?,
-        Err(e) => out.push_str(format!(in alloc; "{e}")?.as_str())?,
+        Ok(p) => {
+            let mut row = Row::new(alloc);
+            show_tree(alloc, &mut row, &p, view, assumed);
+            row.finish()
+        }
+        Err(e) => Ok(format!(in alloc; "{e}")?),
     }
-    Ok(out)
 }
