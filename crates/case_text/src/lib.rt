@@ -35,12 +35,14 @@
 //! status 0
 //! ```
 
+mod builder;
 mod case;
 mod escape;
 mod fault;
 mod report;
 mod rows;
 
+pub use builder::TextBuilder;
 pub use case::Case;
 pub use fault::Fault;
 pub use report::{Answer, Subject, run_table, shown};

@@ -1,10 +1,9 @@
 //! The configuration that a row of words names.
 
-use case_text::Fault;
+use case_text::{Fault, TextBuilder};
 use lint_base::{Rule, RuleSet};
 use squawk_cli::{Config, Words, read_words};
 use std::alloc::Global;
-use tree_cases::Row;
 
 fn count(rules: &RuleSet) -> usize {
     Rule::ALL
@@ -17,7 +16,7 @@ fn count(rules: &RuleSet) -> usize {
 fn summary(alloc: Global, config: &Config) -> Result<String, Fault> {
     let settings = &config.linter.settings;
     let [major, minor, patch] = settings.pg_version;
-    let mut row = Row::new(alloc);
+    let mut row = TextBuilder::new(alloc);
     row.debug("", &count(&config.linter.rules));
     row.debug(" rules, ", &settings.non_volatile.len());
     row.debug(" names, ", &major);

@@ -1,8 +1,7 @@
 //! What a row keeps of a run, on one line.
 
-use case_text::{Answer, Fault, shown};
+use case_text::{Answer, Fault, TextBuilder, shown};
 use std::alloc::Global;
-use tree_cases::Row;
 
 /// What a row keeps of a run besides the lines on the error sink.
 #[derive(Clone, Copy)]
@@ -17,7 +16,7 @@ pub(crate) enum Kept {
 
 /// Of a printed line the range and the rule, or what an edit does and where. Of `unused-ignore` the message too, since its
 /// names differ.
-fn add_report(row: &mut Row, line: &str) {
+fn add_report(row: &mut TextBuilder, line: &str) {
     if let Some(edit) = line.strip_prefix("    ") {
         let (edit, _) = edit.split_once(" \"").unwrap_or((edit, ""));
         row.word(edit);
@@ -32,7 +31,7 @@ fn add_report(row: &mut Row, line: &str) {
 }
 
 /// A printed work without the word `work` and without the backquotes.
-fn add_work(row: &mut Row, line: &str) {
+fn add_work(row: &mut TextBuilder, line: &str) {
     if let Some(work) = line.strip_prefix("work ") {
         row.gap("; ");
         for piece in work.split('`') {
@@ -41,7 +40,7 @@ fn add_work(row: &mut Row, line: &str) {
     }
 }
 
-fn add_plainness(row: &mut Row, line: &str) {
+fn add_plainness(row: &mut TextBuilder, line: &str) {
     match line {
         "plain: yes" => row.word("plain"),
         "plain: no" => row.word("not plain"),
@@ -49,7 +48,7 @@ fn add_plainness(row: &mut Row, line: &str) {
     }
 }
 
-fn add_line(row: &mut Row, kept: Kept, line: &str) {
+fn add_line(row: &mut TextBuilder, kept: Kept, line: &str) {
     match kept {
         Kept::Reports => add_report(row, line),
         Kept::Works => add_work(row, line),
@@ -57,7 +56,7 @@ fn add_line(row: &mut Row, kept: Kept, line: &str) {
     }
 }
 
-fn add_errors(row: &mut Row, answer: &Answer) {
+fn add_errors(row: &mut TextBuilder, answer: &Answer) {
     for line in shown(answer.err.as_slice()).lines() {
         row.word(line);
     }
@@ -65,7 +64,7 @@ fn add_errors(row: &mut Row, answer: &Answer) {
 
 /// What a row keeps of a run, and the line on the error sink. It serves the tests, so no clause is owed.
 pub(crate) fn row_of(alloc: Global, kept: Kept, answer: &Answer) -> Result<String, Fault> {
-    let mut row = Row::new(alloc);
+    let mut row = TextBuilder::new(alloc);
     for line in shown(answer.out.as_slice()).lines() {
         add_line(&mut row, kept, line);
     }

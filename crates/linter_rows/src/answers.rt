@@ -3,7 +3,8 @@
 ghost use Rattle.std.specs.Prelude.{◌≡◌, ◌<◌};
 
 use crate::mark::Mark;
-use crate::shown::Shown;
+use crate::shown::is_shown;
+use case_text::TextBuilder;
 use lint_base::{LinterSettings, Names, Rule, Violation};
 use lint_pass::{NoPass, Pair, StepPass, Steps};
 use pass_drop::BanDropDatabase;
@@ -61,20 +62,19 @@ fn linter_of(alloc: Global, assume: bool) -> Result<Linter, Fail> {
 }
 
 // Reports in the form of the rows.
-fn reports_shown(alloc: Global, reports: &[Violation]) -> Shown {
-    let mut out = Shown::new(alloc);
+fn reports_shown(alloc: Global, reports: &[Violation]) -> TextBuilder {
+    let mut out = TextBuilder::new(alloc);
     for report in reports {
-        out.add_range(report.text_range);
-        out.add(" ");
-        out.add_value(&report.code);
+        out.range("", report.text_range);
+        out.display(" ", &report.code);
         out.add(" ");
     }
     out
 }
 
 // A linter has answered as the row says.
-fn has_answered(rt: &impl Abort, row: &Row, answer: &Shown, after: &Linter) {
-    answer.is(rt, row.1, row.2);
+fn has_answered(rt: &impl Abort, row: &Row, answer: &TextBuilder, after: &Linter) {
+    is_shown(rt, answer, row.1, row.2);
     assert!(rt;
         after.settings.assume_in_transaction == row.3,
         "at {:?}",
@@ -91,7 +91,11 @@ fn by_text(rt: &impl Abort, alloc: Global, row: &Row) -> Result<(), Fail> {
 }
 
 // What the second of two calls for a tree answers.
-fn of_tree_again(alloc: Global, linter: &mut Linter, p: &Parse<'_>) -> Result<Shown, NoMemory> {
+fn of_tree_again(
+    alloc: Global,
+    linter: &mut Linter,
+    p: &Parse<'_>,
+) -> Result<TextBuilder, NoMemory> {
     linter.lint(alloc, p)?;
     let reports = linter.lint(alloc, p)?;
     Ok(reports_shown(alloc, reports.as_slice()))
@@ -112,7 +116,7 @@ fn of_pass<P: StepPass>(
     linter: &mut Linter,
     p: &Parse<'_>,
     pass: &P,
-) -> Result<Shown, NoMemory> {
+) -> Result<TextBuilder, NoMemory> {
     placed(p, pass);
     let reports = linter.lint_with(alloc, p, pass)?;
     Ok(reports_shown(alloc, reports.as_slice()))
@@ -128,7 +132,8 @@ fn by_pass<P: StepPass>(
 ) -> Result<(), Fail> {
     let mut linter = linter_of(alloc, false)?;
     let p = parse(alloc, text)?;
-    of_pass(alloc, &mut linter, &p, pass)?.is(rt, text, want);
+    let answer = of_pass(alloc, &mut linter, &p, pass)?;
+    is_shown(rt, &answer, text, want);
     Ok(())
 }
 
@@ -138,7 +143,7 @@ fn counted_by<L: Ledger>(
     alloc: Global,
     linter: &mut Linter,
     p: &Parse<'_>,
-) -> Result<Shown, Fail>
+) -> Result<TextBuilder, Fail>
     requires name { blank.name ≡ L.name }
     requires parts { blank.parts ≡ L.parts }
     requires some { 0 < blank.parts }
@@ -148,7 +153,7 @@ fn counted_by<L: Ledger>(
     Ok(reports_shown(alloc, reports.as_slice()))
 }
 
-fn counted(alloc: Global, text: &str) -> Result<Shown, Fail> {
+fn counted(alloc: Global, text: &str) -> Result<TextBuilder, Fail> {
     let mut linter = linter_of(alloc, false)?;
     let p = parse(alloc, text)?;
     counted_by::<Brand>(Blank::new(1), alloc, &mut linter, &p)
@@ -223,7 +228,7 @@ const COUNTED: &[(&str, &str)] = &[
 #[test]
 fn counts(rt: HostRuntime) -> Result<(), Fail> {
     for (text, want) in COUNTED {
-        counted(rt.alloc(), text)?.is(&rt, text, want);
+        is_shown(&rt, &counted(rt.alloc(), text)?, text, want);
     }
     Ok(())
 }

@@ -1,6 +1,7 @@
 //! What is answered of a text together with its work under locks.
 
-use crate::shown::{Shown, is_text};
+use crate::shown::{is_shown, is_text};
+use case_text::TextBuilder;
 use lint_base::{LinterSettings, Names, Rule};
 use sql_read::parse;
 use sql_tree::Parse;
@@ -51,24 +52,20 @@ fn settings_of(alloc: Global, assume: bool) -> Result<LinterSettings, Fail> {
     })
 }
 
-fn add_work(out: &mut Shown, work: &Work) {
-    out.add("; ");
-    out.add_value(&work.stmt);
-    out.add(" ");
-    out.add_value(&work.lock);
-    out.add(" ");
+fn add_work(out: &mut TextBuilder, work: &Work) {
+    out.display("; ", &work.stmt);
+    out.display(" ", &work.lock);
     match work.path {
-        Some(path) => out.add_range(path),
-        None => out.add("none"),
+        Some(path) => out.range(" ", path),
+        None => out.add(" none"),
     }
-    out.add(" ");
-    out.add_value(&work.old);
+    out.display(" ", &work.old);
 }
 
 // What is answered, in the form of the rows.
-fn answer_shown(alloc: Global, a: &Assessed) -> Shown {
-    let mut out = Shown::new(alloc);
-    out.add_value(&a.violations.len());
+fn answer_shown(alloc: Global, a: &Assessed) -> TextBuilder {
+    let mut out = TextBuilder::new(alloc);
+    out.display("", &a.violations.len());
     out.add(" reports");
     for work in &a.works {
         add_work(&mut out, work);
@@ -101,7 +98,7 @@ fn tree_agrees(rt: &impl Abort, alloc: Global, row: &Row, a: &Assessed) -> Resul
 fn is_assessed(rt: &impl Abort, alloc: Global, linter: &mut Linter, row: &Row) -> Result<(), Fail> {
     match assess(linter, alloc, row.1) {
         Ok(a) => {
-            answer_shown(alloc, &a).is(rt, row.1, row.2);
+            is_shown(rt, &answer_shown(alloc, &a), row.1, row.2);
             tree_agrees(rt, alloc, row, &a)
         }
         Err(e) => {

@@ -2,7 +2,8 @@
 
 ghost use Rattle.std.specs.Prelude.{◌≤◌};
 
-use crate::shown::Shown;
+use crate::shown::is_shown;
+use case_text::TextBuilder;
 use lint_base::{Edit, Fix, Text};
 use squawk_fix::{FixError, apply_fix};
 use std::alloc::Global;
@@ -119,19 +120,19 @@ fn fix_of(rt: &impl Abort, alloc: Global, changes: &[Change]) -> Result<Fix, Fai
 }
 
 // The edited text, or why the edits are not made.
-fn fixed(rt: &impl Abort, alloc: Global, text: &str, fix: &Fix) -> Shown {
-    let mut out = Shown::new(alloc);
+fn fixed(rt: &impl Abort, alloc: Global, text: &str, fix: &Fix) -> TextBuilder {
+    let mut out = TextBuilder::new(alloc);
     assert!(rt; text.len() < 4294967296 && fix.edits.len() < 4294967296);
     match apply_fix(alloc, text, fix) {
         Ok(edited) => out.add(edited.as_str()),
-        Err(why) => out.add_value(&why),
+        Err(why) => out.display("", &why),
     }
     out
 }
 
 fn is_fixed(rt: &impl Abort, alloc: Global, row: &Row) -> Result<(), Fail> {
     let fix = fix_of(rt, alloc, row.1)?;
-    fixed(rt, alloc, row.0, &fix).is(rt, row.0, row.2);
+    is_shown(rt, &fixed(rt, alloc, row.0, &fix), row.0, row.2);
     Ok(())
 }
 

@@ -2,7 +2,8 @@
 
 ghost use Rattle.std.specs.Prelude.{◌≤◌};
 
-use crate::shown::{Shown, is_text};
+use crate::shown::{is_shown, is_text};
+use case_text::TextBuilder;
 use squawk_stream::{
     MemSink, MemSource, Sink, SliceSource, Source, StdSink, StdSource, read_to_end, write_all,
 };
@@ -53,8 +54,8 @@ const WHOLE: &[(usize, &[u32], bool, &str)] = &[
 const TEXT: &[u8] = b"abcdef";
 
 // What so many reads give, in the form of the rows.
-fn given<S: Source>(alloc: Global, source: &mut S, calls: usize) -> Shown {
-    let mut out = Shown::new(alloc);
+fn given<S: Source>(alloc: Global, source: &mut S, calls: usize) -> TextBuilder {
+    let mut out = TextBuilder::new(alloc);
     for _ in 0..calls {
         let mut buf = [0u8; 5];
         match source.read(&mut buf) {
@@ -67,11 +68,11 @@ fn given<S: Source>(alloc: Global, source: &mut S, calls: usize) -> Shown {
 }
 
 // How many bytes of each piece are taken, in the form of the rows.
-fn taken<K: Sink>(alloc: Global, sink: &mut K, pieces: &[&str]) -> Shown {
-    let mut out = Shown::new(alloc);
+fn taken<K: Sink>(alloc: Global, sink: &mut K, pieces: &[&str]) -> TextBuilder {
+    let mut out = TextBuilder::new(alloc);
     for piece in pieces {
         match sink.write(piece.as_bytes()) {
-            Ok(count) => out.add_value(&count),
+            Ok(count) => out.display("", &count),
             Err(_) => out.add("!"),
         }
         out.add(",");
@@ -95,7 +96,8 @@ fn reads(rt: HostRuntime) -> Result<(), Fail> {
     for row in READS {
         assert!(rt; row.0 >= 1);
         let mut source = MemSource::new(rt.alloc(), TEXT, row.0, row.1)?;
-        given(rt.alloc(), &mut source, row.2).is(&rt, "reads", row.3);
+        let shown = given(rt.alloc(), &mut source, row.2);
+        is_shown(&rt, &shown, "reads", row.3);
     }
     Ok(())
 }
@@ -103,14 +105,16 @@ fn reads(rt: HostRuntime) -> Result<(), Fail> {
 #[test]
 fn reads_of_a_slice(rt: HostRuntime) {
     let mut slice = SliceSource::new(TEXT);
-    given(rt.alloc(), &mut slice, 4).is(&rt, "a slice", "abcde,f,,,");
+    let shown = given(rt.alloc(), &mut slice, 4);
+    is_shown(&rt, &shown, "a slice", "abcde,f,,,");
 }
 
 #[test]
 fn writes(rt: HostRuntime) -> Result<(), Fail> {
     for row in WRITES {
         let mut sink = MemSink::new(rt.alloc(), row.0, row.1)?;
-        taken(rt.alloc(), &mut sink, row.2).is(&rt, row.4, row.3);
+        let shown = taken(rt.alloc(), &mut sink, row.2);
+        is_shown(&rt, &shown, row.4, row.3);
         assert_eq!(rt; sink.bytes(), row.4.as_bytes());
     }
     Ok(())
@@ -143,5 +147,6 @@ fn readers_and_writers_of_std(rt: HostRuntime) {
     let mut sink = StdSink::new(&mut queue);
     assert!(rt; write_all(&mut sink, TEXT).is_ok());
     let mut source = StdSource::new(&mut queue);
-    given(rt.alloc(), &mut source, 3).is(&rt, "a queue", "abcde,f,,");
+    let shown = given(rt.alloc(), &mut source, 3);
+    is_shown(&rt, &shown, "a queue", "abcde,f,,");
 }

@@ -1,8 +1,9 @@
 //! The fronts of statements, as their forms read them (PostgreSQL manual, part VI, SQL Commands), and words outside
 //! brackets.
 
-use crate::rows::{Answer, Reading, compare, compare_each};
+use crate::rows::{Reading, compare, compare_each, show_span};
 use crate::terminals::terminals_of;
+use case_text::TextBuilder;
 use sql_form::{nothing_kept, read_front};
 use sql_mark::has_keyword;
 use sql_token::{Keyword as K, Span};
@@ -179,21 +180,20 @@ const AS_OUTSIDE: &[(&str, &str)] = &[
     ("", "false"),
 ];
 
-fn show_number(word: &str, number: Option<u32>, out: &mut Answer) {
+fn show_number(word: &str, number: Option<u32>, out: &mut TextBuilder) {
     if let Some(number) = number {
-        out.add(word);
-        out.show(number);
+        out.debug(word, &number);
     }
 }
 
-fn show_path(path: Option<Span>, out: &mut Answer) {
+fn show_path(path: Option<Span>, out: &mut TextBuilder) {
     if let Some(path) = path {
         out.add(" path ");
-        out.show_span(path);
+        show_span(out, path);
     }
 }
 
-fn show_kept(kept: &Captures, out: &mut Answer) {
+fn show_kept(kept: &Captures, out: &mut TextBuilder) {
     show_number(" word ", kept.word, out);
     show_number(" name ", kept.name, out);
     show_number(" concurrently ", kept.concurrently, out);
@@ -207,14 +207,13 @@ fn show_kept(kept: &Captures, out: &mut Answer) {
 
 /// The form that reads what comes after the word, in the form of the rows.
 impl Reading for K {
-    fn read(&self, text: &str, out: &mut Answer) {
+    fn read(&self, text: &str, out: &mut TextBuilder) {
         let terminals = terminals_of(text, out);
         let mut kept = nothing_kept();
         match read_front(*self, &mut kept, &terminals) {
             Some((kind, left)) => {
-                out.show(kind);
-                out.add(" left ");
-                out.show(left.len());
+                out.debug("", &kind);
+                out.debug(" left ", &left.len());
                 show_kept(&kept, out);
             }
             None => out.add("none"),
@@ -231,9 +230,9 @@ fn fronts(rt: HostRuntime) {
 struct Outside;
 
 impl Reading for Outside {
-    fn read(&self, text: &str, out: &mut Answer) {
+    fn read(&self, text: &str, out: &mut TextBuilder) {
         let terminals = terminals_of(text, out);
-        out.show(has_keyword(K::AS, &terminals));
+        out.debug("", &has_keyword(K::AS, &terminals));
     }
 }
 

@@ -1,6 +1,7 @@
 //! Which words are keywords (PostgreSQL manual, appendix C).
 
-use crate::rows::{Answer, Reading, compare};
+use crate::rows::{Reading, compare};
+use case_text::TextBuilder;
 use sql_keyword::{Keyword, keyword_of, same_keyword};
 
 /// A text, and the key word that it is.
@@ -37,8 +38,8 @@ const ROWS: &[(&str, &str)] = &[
 struct Words;
 
 impl Reading for Words {
-    fn read(&self, text: &str, out: &mut Answer) {
-        out.show(keyword_of(text.as_bytes()));
+    fn read(&self, text: &str, out: &mut TextBuilder) {
+        out.debug("", &keyword_of(text.as_bytes()));
     }
 }
 

@@ -1,6 +1,7 @@
 //! Large texts: many columns, many actions, many operands, deep brackets.
 
-use crate::rows::{Answer, Reading, compare_each};
+use crate::rows::{Reading, compare_each, repeat};
+use case_text::TextBuilder;
 use sql_read::parse;
 use sql_tree::{Body, Elem, Expr, Stmt};
 
@@ -43,27 +44,30 @@ struct List {
     end: &'static str,
 }
 
-fn show_sizes(text: &str, out: &mut Answer) {
+fn show_sizes(text: &str, out: &mut TextBuilder) {
     match parse(out.alloc(), text) {
         Ok(p) => {
             for s in p.tree().stmts.as_slice() {
-                out.show(size(s));
+                out.debug("", &size(s));
             }
         }
-        Err(e) => out.say(&e),
+        Err(e) => out.display("", &e),
     }
 }
 
 /// The text is what comes before the list.
 impl Reading for List {
-    fn read(&self, text: &str, out: &mut Answer) {
-        let mut whole = Answer::new(out.alloc());
+    fn read(&self, text: &str, out: &mut TextBuilder) {
+        let mut whole = TextBuilder::new(out.alloc());
         whole.add(text);
-        whole.repeat(self.piece, self.between, self.count);
+        repeat(&mut whole, self.piece, self.between, self.count);
         whole.add(self.middle);
-        whole.repeat(self.closing, "", self.count);
+        repeat(&mut whole, self.closing, "", self.count);
         whole.add(self.end);
-        show_sizes(whole.text(), out);
+        match whole.text() {
+            Some(text) => show_sizes(text, out),
+            None => out.fail(),
+        }
     }
 }
 

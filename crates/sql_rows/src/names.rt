@@ -1,6 +1,7 @@
 //! Names: full texts, equality, order and hashes (PostgreSQL manual, section 4.1.1).
 
-use crate::rows::{Answer, Reading, compare, compare_each};
+use crate::rows::{Reading, compare, compare_each};
+use case_text::TextBuilder;
 use sql_name::{FullName, Name};
 use std::alloc::Global;
 use std::cmp::Ordering;
@@ -35,10 +36,10 @@ fn hash_of<T: Hash>(value: &T) -> u64 {
 }
 
 // How both are there to each other, by each call that compares.
-fn show_order<T: Ord + Hash>(left: &T, right: &T, out: &mut Answer) {
+fn show_order<T: Ord + Hash>(left: &T, right: &T, out: &mut TextBuilder) {
     let order = left.cmp(right);
     let is_same = order == Ordering::Equal;
-    out.show(order);
+    out.debug("", &order);
     out.mark(
         right.cmp(left) != order.reverse(),
         " but not the other way round",
@@ -56,7 +57,7 @@ fn show_order<T: Ord + Hash>(left: &T, right: &T, out: &mut Answer) {
 }
 
 // How two names are there to each other: by what is kept of both, and by their full texts.
-fn show_orders(left: &str, right: &str, out: &mut Answer) {
+fn show_orders(left: &str, right: &str, out: &mut TextBuilder) {
     show_order(&Name::of(left), &Name::of(right), out);
     out.add(" ");
     show_order(&FullName::of(left), &FullName::of(right), out);
@@ -66,7 +67,7 @@ fn show_orders(left: &str, right: &str, out: &mut Answer) {
 struct Names;
 
 impl Reading for Names {
-    fn read(&self, text: &str, out: &mut Answer) {
+    fn read(&self, text: &str, out: &mut TextBuilder) {
         let name = Name::of(text);
         match name.folded(out.alloc()) {
             Ok(full) => {
@@ -83,7 +84,7 @@ impl Reading for Names {
 struct FullNames;
 
 impl Reading for FullNames {
-    fn read(&self, text: &str, out: &mut Answer) {
+    fn read(&self, text: &str, out: &mut TextBuilder) {
         let name = FullName::of(text);
         match name.folded(out.alloc()) {
             Ok(full) => {
@@ -106,7 +107,7 @@ fn full_texts(rt: HostRuntime) {
 struct Written(&'static str);
 
 impl Reading for Written {
-    fn read(&self, text: &str, out: &mut Answer) {
+    fn read(&self, text: &str, out: &mut TextBuilder) {
         out.mark(Name::of(self.0).is(text), "full text");
         out.mark(FullName::of(self.0).is(text), "full text of a full name");
     }
@@ -132,7 +133,7 @@ fn other_texts(rt: HostRuntime) {
 struct Left(&'static str);
 
 impl Reading for Left {
-    fn read(&self, text: &str, out: &mut Answer) {
+    fn read(&self, text: &str, out: &mut TextBuilder) {
         show_orders(self.0, text, out);
     }
 }
@@ -178,8 +179,8 @@ struct Long {
 }
 
 // A name of 62 letters and this ending, between these quotes.
-fn made(alloc: Global, quote: &str, ending: &str) -> Answer {
-    let mut name = Answer::new(alloc);
+fn made(alloc: Global, quote: &str, ending: &str) -> TextBuilder {
+    let mut name = TextBuilder::new(alloc);
     name.add(quote);
     name.add(LETTERS);
     name.add(ending);
@@ -188,10 +189,13 @@ fn made(alloc: Global, quote: &str, ending: &str) -> Answer {
 }
 
 impl Reading for Long {
-    fn read(&self, text: &str, out: &mut Answer) {
+    fn read(&self, text: &str, out: &mut TextBuilder) {
         let left = made(out.alloc(), self.quote, self.ending);
         let right = made(out.alloc(), self.other_quote, text);
-        show_orders(left.text(), right.text(), out);
+        match (left.text(), right.text()) {
+            (Some(left), Some(right)) => show_orders(left, right, out),
+            _ => out.fail(),
+        }
     }
 }
 
@@ -412,24 +416,24 @@ fn cut_names(rt: HostRuntime) {
     compare_each(&rt, rt.alloc(), CUTS);
 }
 
-fn show_insert<'a>(set: &mut HashSet<Name<'a>>, name: &'a str, out: &mut Answer) {
-    out.add(match set.insert(Name::of(name)) {
-        Ok(true) => "new ",
-        Ok(false) => "there ",
-        Err(_) => "no memory ",
-    });
+fn show_insert<'a>(set: &mut HashSet<Name<'a>>, name: &'a str, out: &mut TextBuilder) {
+    match set.insert(Name::of(name)) {
+        Ok(true) => out.add("new "),
+        Ok(false) => out.add("there "),
+        Err(_) => out.fail(),
+    }
 }
 
 /// A set to which three names are added, and whether it has a name in the end.
 struct Adding;
 
 impl Reading for Adding {
-    fn read(&self, text: &str, out: &mut Answer) {
+    fn read(&self, text: &str, out: &mut TextBuilder) {
         let mut set = HashSet::new(out.alloc());
         show_insert(&mut set, "Users", out);
         show_insert(&mut set, "\"users\"", out);
         show_insert(&mut set, "\"Users\"", out);
-        out.show(set.len());
+        out.debug("", &set.len());
         out.mark(set.contains(&Name::of(text)), " with it");
     }
 }

@@ -4,7 +4,8 @@ ghost use Rattle.std.specs.Prelude.{MatchOption, ◌<◌, ◌^◌, length};
 ghost use Rattle.sql_lex.specs.Inside.{IsSpan};
 ghost use Rattle.sql_token.specs.Token.{Lexed};
 
-use crate::rows::{Answer, Reading, compare_each};
+use crate::rows::{Reading, compare_each};
+use case_text::TextBuilder;
 use sql_action::read_actions;
 use sql_column::{read_domain, read_elems};
 use sql_lex::lex;
@@ -170,7 +171,7 @@ fn leaf(e: &Expr) -> &'static str {
     }
 }
 
-fn show_expr(e: &Expr, out: &mut Answer) {
+fn show_expr(e: &Expr, out: &mut TextBuilder) {
     let (front, leaf) = match e {
         Expr::IsNotNull(part) => ("IsNotNull of ", leaf(part.get())),
         Expr::Cast(part) => ("Cast of ", leaf(part.get())),
@@ -180,18 +181,18 @@ fn show_expr(e: &Expr, out: &mut Answer) {
     out.add(leaf);
 }
 
-fn show_constraint(c: &Constraint, out: &mut Answer) {
-    out.show(c.kind);
+fn show_constraint(c: &Constraint, out: &mut TextBuilder) {
+    out.debug("", &c.kind);
     out.add(" ");
     if let Some(e) = &c.expr {
         show_expr(e, out);
     }
 }
 
-fn show_element(e: &Elem, out: &mut Answer) {
+fn show_element(e: &Elem, out: &mut TextBuilder) {
     match e {
         Elem::Column(c) => {
-            out.show(c.name);
+            out.debug("", &c.name);
             out.add(" ");
         }
         Elem::Constraint(c) => show_constraint(c, out),
@@ -200,16 +201,14 @@ fn show_element(e: &Elem, out: &mut Answer) {
     }
 }
 
-fn show_part<K: Debug + Drop>(kind: K, first: u32, last: u32, out: &mut Answer) {
-    out.show(kind);
-    out.add(" ");
-    out.show(first);
-    out.add(" ");
-    out.show(last);
+fn show_part<K: Debug + Drop>(kind: K, first: u32, last: u32, out: &mut TextBuilder) {
+    out.debug("", &kind);
+    out.debug(" ", &first);
+    out.debug(" ", &last);
     out.add(" ");
 }
 
-fn show_elements(found: Result<Items<Elem>, NoMemory>, out: &mut Answer) {
+fn show_elements(found: Result<Items<Elem>, NoMemory>, out: &mut TextBuilder) {
     match found {
         Ok(found) => {
             for e in found.as_slice() {
@@ -220,7 +219,7 @@ fn show_elements(found: Result<Items<Elem>, NoMemory>, out: &mut Answer) {
     }
 }
 
-fn show_constraints(found: Result<Option<Items<Constraint>>, NoMemory>, out: &mut Answer) {
+fn show_constraints(found: Result<Option<Items<Constraint>>, NoMemory>, out: &mut TextBuilder) {
     match found {
         Ok(Some(found)) => {
             for c in found.as_slice() {
@@ -232,7 +231,7 @@ fn show_constraints(found: Result<Option<Items<Constraint>>, NoMemory>, out: &mu
     }
 }
 
-fn show_actions(found: Result<Option<Items<Action>>, NoMemory>, out: &mut Answer) {
+fn show_actions(found: Result<Option<Items<Action>>, NoMemory>, out: &mut TextBuilder) {
     match found {
         Ok(Some(found)) => {
             for a in found.as_slice() {
@@ -267,7 +266,7 @@ impl Part {
     }
 }
 
-fn read_part(part: &Part, text: &str, toks: &[Tok], span: Span, out: &mut Answer)
+fn read_part(part: &Part, text: &str, toks: &[Tok], span: Span, out: &mut TextBuilder)
     requires lexed { Lexed text.now toks.now }
     requires short { length text.now < 2 ^ 32 }
     requires inside { IsSpan toks.now span }
@@ -281,7 +280,7 @@ fn read_part(part: &Part, text: &str, toks: &[Tok], span: Span, out: &mut Answer
 }
 
 impl Reading for Part {
-    fn read(&self, text: &str, out: &mut Answer) {
+    fn read(&self, text: &str, out: &mut TextBuilder) {
         let Ok(toks) = lex(out.alloc(), text) else {
             return out.fail();
         };

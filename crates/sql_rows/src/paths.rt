@@ -1,9 +1,9 @@
 //! Paths: which names tell two of them apart, and their order.
 
-use crate::rows::{Answer, Reading, compare};
+use crate::rows::{Reading, compare};
+use case_text::TextBuilder;
 use sql_read::parse;
 use sql_tree::{Body, NamePath, Parse, Stmt};
-use std::alloc::Global;
 use std::cmp::Ordering;
 
 /// A text of two statements, and how the path of the first one is there to the path of the second one, or `none`.
@@ -31,20 +31,26 @@ const ROWS: &[(&str, &str)] = &[
     ("CREATE TABLE t ();", "none"),
 ];
 
-// The path of a table that is created or indexed, where it has one and memory serves.
-fn path_of<'t>(alloc: Global, p: &Parse<'t>, s: &Stmt) -> Option<NamePath<'t>> {
+// The path of a table that is created or indexed, where it has one.
+fn path_of<'t>(p: &Parse<'t>, s: &Stmt, out: &mut TextBuilder) -> Option<NamePath<'t>> {
     let span = match s.body {
         Body::Table { path, .. } => path,
         Body::Index { path, .. } => path,
         _ => return None,
     };
-    NamePath::of(alloc, p, span).ok()
+    match NamePath::of(out.alloc(), p, span) {
+        Ok(path) => Some(path),
+        Err(_) => {
+            out.fail();
+            None
+        }
+    }
 }
 
 // How two paths are there to each other.
-fn show_order(left: &NamePath<'_>, right: &NamePath<'_>, out: &mut Answer) {
+fn show_order(left: &NamePath<'_>, right: &NamePath<'_>, out: &mut TextBuilder) {
     let order = left.cmp(right);
-    out.show(order);
+    out.debug("", &order);
     out.mark(
         (left == right) != (order == Ordering::Equal),
         " and equality differs",
@@ -52,15 +58,14 @@ fn show_order(left: &NamePath<'_>, right: &NamePath<'_>, out: &mut Answer) {
 }
 
 // How the paths of the two statements are there to each other, where there are two, and both have one.
-fn show_paths(p: &Parse<'_>, out: &mut Answer) {
-    let alloc = out.alloc();
+fn show_paths(p: &Parse<'_>, out: &mut TextBuilder) {
     let statements = p.tree().stmts.as_slice();
     if statements.len() != 2 {
         return out.add("none");
     }
     match (
-        path_of(alloc, p, &statements[0]),
-        path_of(alloc, p, &statements[1]),
+        path_of(p, &statements[0], out),
+        path_of(p, &statements[1], out),
     ) {
         (Some(left), Some(right)) => show_order(&left, &right, out),
         _ => out.add("none"),
@@ -71,7 +76,7 @@ fn show_paths(p: &Parse<'_>, out: &mut Answer) {
 struct Paths;
 
 impl Reading for Paths {
-    fn read(&self, text: &str, out: &mut Answer) {
+    fn read(&self, text: &str, out: &mut TextBuilder) {
         match parse(out.alloc(), text) {
             Ok(p) => show_paths(&p, out),
             Err(_) => out.fail(),

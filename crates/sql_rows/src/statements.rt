@@ -1,6 +1,7 @@
 //! Where statements begin and end, and which of them may be read at all.
 
-use crate::rows::{Answer, Reading, compare, compare_each, read_short};
+use crate::rows::{Reading, compare, compare_each, read_short, repeat, show_span};
+use case_text::TextBuilder;
 use sql_lex::{Statements, cut, is_sound, lex, span_of};
 use sql_token::{Span, Terminal};
 
@@ -50,15 +51,19 @@ const ROWS: &[(&str, &str)] = &[
 ];
 
 // A statement of a walk, and the span that the call that gives all of them has for it.
-fn show_statement(statement: &[Terminal], cut: Span, out: &mut Answer) {
+fn show_statement(statement: &[Terminal], cut: Span, out: &mut TextBuilder) {
     let span = span_of(statement);
     out.mark(cut != span, "cut otherwise ");
-    out.show_span(span);
+    show_span(out, span);
     out.add(if is_sound(statement) { " y " } else { " n " });
 }
 
 // Whether the walk has one more statement, which is then in the list.
-fn has_next(walk: &mut Statements<'_>, statement: &mut Vec<Terminal>, out: &mut Answer) -> bool {
+fn has_next(
+    walk: &mut Statements<'_>,
+    statement: &mut Vec<Terminal>,
+    out: &mut TextBuilder,
+) -> bool {
     match walk.next_into(statement) {
         Ok(is_one) => is_one,
         Err(_) => {
@@ -69,7 +74,7 @@ fn has_next(walk: &mut Statements<'_>, statement: &mut Vec<Terminal>, out: &mut 
 }
 
 // The statements of a walk one by one, which are those of the call that gives them all.
-fn show_walk(walk: &mut Statements<'_>, spans: &[Span], out: &mut Answer) {
+fn show_walk(walk: &mut Statements<'_>, spans: &[Span], out: &mut TextBuilder) {
     let mut statement: Vec<Terminal> = Vec::new(out.alloc());
     for cut in spans {
         let is_one = has_next(walk, &mut statement, out);
@@ -84,7 +89,7 @@ fn show_walk(walk: &mut Statements<'_>, spans: &[Span], out: &mut Answer) {
 struct Walk;
 
 impl Reading for Walk {
-    fn read(&self, text: &str, out: &mut Answer) {
+    fn read(&self, text: &str, out: &mut TextBuilder) {
         let Ok(toks) = lex(out.alloc(), text) else {
             return out.fail();
         };
@@ -104,12 +109,15 @@ fn statements(rt: HostRuntime) {
 struct Nested(usize);
 
 impl Reading for Nested {
-    fn read(&self, text: &str, out: &mut Answer) {
-        let mut nested = Answer::new(out.alloc());
-        nested.repeat("(", "", self.0);
+    fn read(&self, text: &str, out: &mut TextBuilder) {
+        let mut nested = TextBuilder::new(out.alloc());
+        repeat(&mut nested, "(", "", self.0);
         nested.add(text);
-        nested.repeat(")", "", self.0);
-        read_short(&Walk, nested.text(), out);
+        repeat(&mut nested, ")", "", self.0);
+        match nested.text() {
+            Some(text) => read_short(&Walk, text, out),
+            None => out.fail(),
+        }
     }
 }
 

@@ -2,7 +2,8 @@
 
 ghost use Rattle.std.specs.Prelude.{◌<◌, ◌^◌, length};
 
-use crate::rows::{Answer, Reading, compare};
+use crate::rows::{Reading, compare};
+use case_text::TextBuilder;
 use sql_lex::{Statements, lex};
 use sql_token::{Keyword, Terminal};
 
@@ -40,8 +41,8 @@ const ROWS: &[(&str, &str)] = &[
 /// What is said of each token of the first statement, in the form of the rows.
 struct Telling;
 
-fn tell(terminal: Terminal, out: &mut Answer) {
-    out.show(terminal.symbol);
+fn tell(terminal: Terminal, out: &mut TextBuilder) {
+    out.debug("", &terminal.symbol);
     out.mark(terminal.is_keyword(Keyword::CREATE), " create");
     out.mark(terminal.is_name(), " name");
     out.mark(terminal.is_opener(), " opener");
@@ -53,7 +54,7 @@ fn tell(terminal: Terminal, out: &mut Answer) {
 }
 
 /// The terminals of the first statement of a text.
-pub(crate) fn terminals_of(text: &str, out: &mut Answer) -> Vec<Terminal>
+pub(crate) fn terminals_of(text: &str, out: &mut TextBuilder) -> Vec<Terminal>
     requires { length text.now < 2 ^ 32 }
 {
     let mut terminals: Vec<Terminal> = Vec::new(out.alloc());
@@ -70,7 +71,7 @@ pub(crate) fn terminals_of(text: &str, out: &mut Answer) -> Vec<Terminal>
 }
 
 impl Reading for Telling {
-    fn read(&self, text: &str, out: &mut Answer) {
+    fn read(&self, text: &str, out: &mut TextBuilder) {
         for terminal in &terminals_of(text, out) {
             tell(*terminal, out);
         }

@@ -1,6 +1,7 @@
 //! Lexing of short texts (PostgreSQL manual, section 4.1).
 
-use crate::rows::{Answer, Message, Reading, compare, compare_each};
+use crate::rows::{Message, Reading, compare, compare_each};
+use case_text::TextBuilder;
 use sql_lex::{LexError, lex};
 use sql_token::{Tok, TokKind};
 use std::test::Fail;
@@ -179,23 +180,23 @@ fn letter(kind: TokKind) -> &'static str {
 /// The tokens of a text, in the form of the rows; `gap` where a token does not begin where the one before it ends.
 struct Lexing;
 
-fn show_tokens(toks: &[Tok], out: &mut Answer) {
+fn show_tokens(toks: &[Tok], out: &mut TextBuilder) {
     let mut end = 0;
     for tok in toks {
         out.mark(tok.start != end, "gap");
         end = tok.end;
         out.add(letter(tok.kind));
-        out.show(tok.end);
+        out.debug("", &tok.end);
     }
 }
 
 impl Reading for Lexing {
-    fn read(&self, text: &str, out: &mut Answer) {
+    fn read(&self, text: &str, out: &mut TextBuilder) {
         match lex(out.alloc(), text) {
             Ok(toks) => show_tokens(&toks, out),
             Err(LexError::Unterminated { at }) => {
                 out.add("!");
-                out.show(at);
+                out.debug("", &at);
             }
             Err(LexError::NoMemory) => out.fail(),
         }

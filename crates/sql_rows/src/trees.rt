@@ -1,13 +1,14 @@
 //! What is kept of a text beside its tree, and the texts of errors. Trees are cases in `cases/forms`.
 
-use crate::rows::{Answer, Message, Reading, compare_each, compare_row};
+use crate::rows::{Message, Reading, compare_each, compare_row};
+use case_text::TextBuilder;
 use sql_read::{LintError, parse};
 
 /// The texts of all tokens of a text, joined.
 struct Joining;
 
 impl Reading for Joining {
-    fn read(&self, text: &str, out: &mut Answer) {
+    fn read(&self, text: &str, out: &mut TextBuilder) {
         match parse(out.alloc(), text) {
             Ok(p) => {
                 for i in 0..p.tokens().len() {

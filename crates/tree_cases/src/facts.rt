@@ -1,6 +1,7 @@
 //! Locks, transactions and ignore comments of a tree.
 
-use crate::row::{Row, Show};
+use crate::row::{Show, add_parts, add_yes_or_no};
+use case_text::TextBuilder;
 use lint_base::{Reports, RuleSet, Violation};
 use lint_ignore::{
     Found, IgnorePiece, find_ignores, has_disable_assume_in_transaction, ignore_rule_info,
@@ -13,19 +14,19 @@ use std::alloc::Global;
 use text_pos::NoMemory;
 
 /// Whether a statement may take long, and its lock. It serves the tests, so no clause is owed.
-pub(crate) fn show_lock(row: &mut Row, p: &Parse<'_>, s: &Stmt) {
+pub(crate) fn show_lock(row: &mut TextBuilder, p: &Parse<'_>, s: &Stmt) {
     let is_slow = analyze::possibly_slow_stmt(p, s);
     let label = if is_slow { "slow " } else { "quick " };
     row.debug(label, &LockKind::of(p, s));
 }
 
 /// For each CREATE INDEX whether its table was created in the open transaction. It serves the tests, so no clause is owed.
-pub(crate) fn show_created(alloc: Global, row: &mut Row, p: &Parse<'_>, assumed: bool) {
+pub(crate) fn show_created(alloc: Global, row: &mut TextBuilder, p: &Parse<'_>, assumed: bool) {
     let mut created = TablesCreatedInTransaction::new(alloc, assumed);
     for s in p.tree().stmts.as_slice() {
         if let Body::Index { path, .. } = s.body {
             match NamePath::of(alloc, p, path) {
-                Ok(path) => row.yes_or_no(created.contains(&path)),
+                Ok(path) => add_yes_or_no(row, created.contains(&path)),
                 Err(_) => row.fail(),
             }
         }
@@ -36,18 +37,18 @@ pub(crate) fn show_created(alloc: Global, row: &mut Row, p: &Parse<'_>, assumed:
 }
 
 /// For each statement and for the end whether a transaction is open before it. It serves the tests, so no clause is owed.
-pub(crate) fn show_transaction(row: &mut Row, p: &Parse<'_>, assumed: bool) {
+pub(crate) fn show_transaction(row: &mut TextBuilder, p: &Parse<'_>, assumed: bool) {
     let mut transaction = OpenTransaction::new(assumed);
     for s in p.tree().stmts.as_slice() {
-        row.yes_or_no(transaction.inside());
+        add_yes_or_no(row, transaction.inside());
         transaction.update(s);
     }
-    row.yes_or_no(transaction.inside());
+    add_yes_or_no(row, transaction.inside());
 }
 
 /// The ignore comments: the kind of each, its range and its text without the prefix; and `disable` where a comment says
 /// that no transaction is to be assumed. It serves the tests, so no clause is owed.
-pub(crate) fn show_comments(row: &mut Row, p: &Parse<'_>) {
+pub(crate) fn show_comments(row: &mut TextBuilder, p: &Parse<'_>) {
     for i in 0..p.tokens().len() {
         if let Some((rest, range, kind)) = ignore_rule_info(p, i) {
             row.gap(" ");
@@ -62,7 +63,7 @@ pub(crate) fn show_comments(row: &mut Row, p: &Parse<'_>) {
 }
 
 impl Show for IgnorePiece {
-    fn show(&self, row: &mut Row, _p: &Parse<'_>) {
+    fn show(&self, row: &mut TextBuilder, _p: &Parse<'_>) {
         row.gap(" ");
         row.debug("", &self.ignore);
         row.range(" ", self.range);
@@ -70,21 +71,25 @@ impl Show for IgnorePiece {
 }
 
 impl Show for Violation {
-    fn show(&self, row: &mut Row, _p: &Parse<'_>) {
+    fn show(&self, row: &mut TextBuilder, _p: &Parse<'_>) {
         row.range(" ", self.text_range);
         row.add(" ");
         row.add(self.message.as_str());
     }
 }
 
-fn show_reports(row: &mut Row, p: &Parse<'_>, reports: &[Violation]) {
+fn show_reports(row: &mut TextBuilder, p: &Parse<'_>, reports: &[Violation]) {
     row.word("|");
-    row.parts(p, "", "", reports);
+    add_parts(row, p, "", "", reports);
 }
 
 /// What the ignore comments name: each rule with the number of its comment, then the reports of names that are not rules,
 /// then those of names that are used by no report, under the default rules. It serves the tests, so no clause is owed.
-pub(crate) fn show_names(alloc: Global, row: &mut Row, p: &Parse<'_>) -> Result<(), NoMemory> {
+pub(crate) fn show_names(
+    alloc: Global,
+    row: &mut TextBuilder,
+    p: &Parse<'_>,
+) -> Result<(), NoMemory> {
     let mut found = Found::new(alloc);
     find_ignores(alloc, p, &mut found)?;
     let mut unused = Reports::new(alloc);
@@ -98,7 +103,7 @@ pub(crate) fn show_names(alloc: Global, row: &mut Row, p: &Parse<'_>) -> Result<
         &rules,
         &mut unused,
     )?;
-    row.parts(p, "", "", found.pieces.as_slice());
+    add_parts(row, p, "", "", found.pieces.as_slice());
     show_reports(row, p, found.reports.items());
     show_reports(row, p, unused.items());
     Ok(())

@@ -10,7 +10,6 @@ mod shown_body;
 mod view;
 
 use case_text::{Answer, Fault, Subject};
-pub use row::Row;
 use std::alloc::Global;
 use view::{View, viewed};
 

@@ -1,21 +1,22 @@
 //! The ranges of statements, actions and constraints, in bytes.
 
-use crate::row::Row;
+use crate::row::{add_span_range, add_token};
 use crate::shown_body::{actions_of, show_head};
+use case_text::TextBuilder;
 use sql_tree::{Action, Body, Constraint, Parse, Stmt};
 
-fn show_constraint(row: &mut Row, p: &Parse<'_>, c: &Constraint) {
-    row.span_range(p, "", c.first, c.last);
+fn show_constraint(row: &mut TextBuilder, p: &Parse<'_>, c: &Constraint) {
+    add_span_range(row, p, "", c.first, c.last);
     row.debug(" ", &c.kind);
-    row.token(p, " name ", c.name);
+    add_token(row, p, " name ", c.name);
     row.mark(c.not_valid, " not valid");
     row.mark(c.by_index, " index");
 }
 
 // The range of each action, and the range, kind, name and marks of the constraint that it adds.
-fn show_actions(row: &mut Row, p: &Parse<'_>, actions: &[Action]) {
+fn show_actions(row: &mut TextBuilder, p: &Parse<'_>, actions: &[Action]) {
     for action in actions {
-        row.span_range(p, " (", action.first, action.last);
+        add_span_range(row, p, " (", action.first, action.last);
         row.add(" ");
         if let Some(constraint) = &action.constraint {
             show_constraint(row, p, constraint);
@@ -25,9 +26,9 @@ fn show_actions(row: &mut Row, p: &Parse<'_>, actions: &[Action]) {
 }
 
 /// A statement with its range, and its actions in brackets with theirs. It serves the tests, so no clause is owed.
-pub(crate) fn show_ranges(row: &mut Row, p: &Parse<'_>, s: &Stmt) {
+pub(crate) fn show_ranges(row: &mut TextBuilder, p: &Parse<'_>, s: &Stmt) {
     row.debug("", &s.kind);
-    row.span_range(p, " ", s.first, s.last);
+    add_span_range(row, p, " ", s.first, s.last);
     show_head(row, p, &s.body);
     match &s.body {
         Body::Kept | Body::End { .. } | Body::Table { .. } | Body::Index { .. } => (),

@@ -4,27 +4,28 @@
 //! name, and its arguments where it has some. A constraint is its kind, its text in quotes, its name, its marks, and its
 //! expression with the expression's text. A piece is its kind, its text in quotes, and its type.
 
-use crate::row::{Row, Show};
+use crate::row::{Show, add_part, add_parts, add_quoted, add_source, add_span, add_token};
+use case_text::TextBuilder;
 use sql_tree::{Action, ColType, Column, Constraint, Elem, Expr, Parse, Piece, SetPart, Target};
 
 // ---- expressions
 
-fn show_leaf(row: &mut Row, p: &Parse<'_>, e: &Expr) {
+fn show_leaf(row: &mut TextBuilder, p: &Parse<'_>, e: &Expr) {
     match e {
         Expr::Literal => row.add("Literal"),
         Expr::Array => row.add("Array"),
         Expr::Call { name, no_args } => {
             row.add("Call");
-            row.token(p, " ", *name);
+            add_token(row, p, " ", *name);
             row.mark(*no_args, " empty");
         }
-        Expr::Name(path) => row.span(p, "Name ", Some(*path)),
+        Expr::Name(path) => add_span(row, p, "Name ", Some(*path)),
         _ => row.add("Other"),
     }
 }
 
 // An expression inside another one: of its parts only the kinds are shown.
-fn show_inner(row: &mut Row, p: &Parse<'_>, e: &Expr) {
+fn show_inner(row: &mut TextBuilder, p: &Parse<'_>, e: &Expr) {
     match e {
         Expr::Bin(_) => row.add("Bin"),
         Expr::Cast(inner) => {
@@ -40,7 +41,7 @@ fn show_inner(row: &mut Row, p: &Parse<'_>, e: &Expr) {
     }
 }
 
-fn show_inners(row: &mut Row, p: &Parse<'_>, parts: &[Expr]) {
+fn show_inners(row: &mut TextBuilder, p: &Parse<'_>, parts: &[Expr]) {
     let mut gap = "";
     row.add("Bin of ");
     for part in parts {
@@ -52,7 +53,7 @@ fn show_inners(row: &mut Row, p: &Parse<'_>, parts: &[Expr]) {
 
 impl Show for Expr {
     /// An expression, and the expressions in it.
-    fn show(&self, row: &mut Row, p: &Parse<'_>) {
+    fn show(&self, row: &mut TextBuilder, p: &Parse<'_>) {
         match self {
             Expr::Bin(parts) => show_inners(row, p, parts.as_slice()),
             Expr::Cast(inner) => {
@@ -75,12 +76,12 @@ impl Show for Expr {
 // ---- columns
 
 impl Show for ColType {
-    fn show(&self, row: &mut Row, p: &Parse<'_>) {
+    fn show(&self, row: &mut TextBuilder, p: &Parse<'_>) {
         row.debug(" ", &self.kind);
-        row.span(p, "/", Some(self.whole));
-        row.span(p, "/", Some(self.inner));
-        row.token(p, "/", Some(self.name));
-        row.span(p, "/", self.args);
+        add_span(row, p, "/", Some(self.whole));
+        add_span(row, p, "/", Some(self.inner));
+        add_token(row, p, "/", Some(self.name));
+        add_span(row, p, "/", self.args);
         row.mark(self.array, " array");
         row.mark(self.with_zone, " zone");
     }
@@ -88,34 +89,34 @@ impl Show for ColType {
 
 /// A constraint of a table, a column or a domain.
 impl Show for Constraint {
-    fn show(&self, row: &mut Row, p: &Parse<'_>) {
+    fn show(&self, row: &mut TextBuilder, p: &Parse<'_>) {
         row.debug("", &self.kind);
-        row.quoted(p, self.first, self.last);
-        row.token(p, " name ", self.name);
+        add_quoted(row, p, self.first, self.last);
+        add_token(row, p, " name ", self.name);
         row.mark(self.not_valid, " not valid");
         row.mark(self.by_index, " by index");
-        row.part(p, " = ", &self.expr);
-        row.span(p, " in ", self.expr_span);
+        add_part(row, p, " = ", &self.expr);
+        add_span(row, p, " in ", self.expr_span);
     }
 }
 
 /// Constraints, each after a comma.
-pub(crate) fn show_constraints(row: &mut Row, p: &Parse<'_>, constraints: &[Constraint]) {
-    row.parts(p, ", ", ", ", constraints);
+pub(crate) fn show_constraints(row: &mut TextBuilder, p: &Parse<'_>, constraints: &[Constraint]) {
+    add_parts(row, p, ", ", ", ", constraints);
 }
 
 /// A column: its name, its type, and its constraints.
 impl Show for Column {
-    fn show(&self, row: &mut Row, p: &Parse<'_>) {
-        row.token(p, "", Some(self.name));
-        row.part(p, "", &self.ty);
+    fn show(&self, row: &mut TextBuilder, p: &Parse<'_>) {
+        add_token(row, p, "", Some(self.name));
+        add_part(row, p, "", &self.ty);
         show_constraints(row, p, self.constraints.as_slice());
     }
 }
 
 /// An element of a table's list.
 impl Show for Elem {
-    fn show(&self, row: &mut Row, p: &Parse<'_>) {
+    fn show(&self, row: &mut TextBuilder, p: &Parse<'_>) {
         match self {
             Elem::Column(column) => column.show(row, p),
             Elem::Constraint(constraint) => constraint.show(row, p),
@@ -128,10 +129,10 @@ impl Show for Elem {
 // ---- actions
 
 impl Show for Piece {
-    fn show(&self, row: &mut Row, p: &Parse<'_>) {
+    fn show(&self, row: &mut TextBuilder, p: &Parse<'_>) {
         row.debug(" [", &self.kind);
-        row.quoted(p, self.first, self.last);
-        row.part(p, "", &self.ty);
+        add_quoted(row, p, self.first, self.last);
+        add_part(row, p, "", &self.ty);
         row.mark(self.always, " always");
         row.add("]");
     }
@@ -139,17 +140,17 @@ impl Show for Piece {
 
 /// An action: its kind, its text in quotes, and what is known of it.
 impl Show for Action {
-    fn show(&self, row: &mut Row, p: &Parse<'_>) {
+    fn show(&self, row: &mut TextBuilder, p: &Parse<'_>) {
         row.debug("", &self.kind);
-        row.quoted(p, self.first, self.last);
-        row.token(p, " word ", self.word);
+        add_quoted(row, p, self.first, self.last);
+        add_token(row, p, " word ", self.word);
         row.mark(self.guarded, " guarded");
         row.mark(self.placed, " placed");
-        row.token(p, " name ", self.name);
-        row.span(p, " path ", self.path);
-        row.part(p, " adds ", &self.constraint);
-        row.part(p, " column ", &self.column);
-        row.parts(p, "", "", self.pieces.as_slice());
+        add_token(row, p, " name ", self.name);
+        add_span(row, p, " path ", self.path);
+        add_part(row, p, " adds ", &self.constraint);
+        add_part(row, p, " column ", &self.column);
+        add_parts(row, p, "", "", self.pieces.as_slice());
     }
 }
 
@@ -157,19 +158,19 @@ impl Show for Action {
 
 /// A name, with `..` where only a part of it is written.
 impl Show for Target {
-    fn show(&self, row: &mut Row, p: &Parse<'_>) {
-        row.token(p, " ", Some(self.name));
+    fn show(&self, row: &mut TextBuilder, p: &Parse<'_>) {
+        add_token(row, p, " ", Some(self.name));
         row.mark(self.partial, "..");
     }
 }
 
 /// A part of a SET clause in brackets: its text, and its targets.
 impl Show for SetPart {
-    fn show(&self, row: &mut Row, p: &Parse<'_>) {
-        row.source(p, " (", self.first, self.last);
+    fn show(&self, row: &mut TextBuilder, p: &Parse<'_>) {
+        add_source(row, p, " (", self.first, self.last);
         row.add(":");
         row.mark(self.single, " single");
-        row.parts(p, "", "", self.targets.as_slice());
+        add_parts(row, p, "", "", self.targets.as_slice());
         row.add(")");
     }
 }

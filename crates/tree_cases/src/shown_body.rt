@@ -1,54 +1,55 @@
 //! What is known of a statement, in words.
 
-use crate::row::{Row, Show};
+use crate::row::{Show, add_part, add_parts, add_span, add_token};
 use crate::shown::show_constraints;
+use case_text::TextBuilder;
 use sql_token::Span;
 use sql_tree::{Action, Body, Elem, Parse, SetPart, Stmt, TableWrite, Target, ViewDefinition};
 use sqlite_items::Items;
 
 impl Show for ViewDefinition {
-    fn show(&self, row: &mut Row, p: &Parse<'_>) {
+    fn show(&self, row: &mut TextBuilder, p: &Parse<'_>) {
         row.mark(self.replace, " replace");
         row.add(" columns");
-        row.parts(p, "", "", self.columns.as_slice());
+        add_parts(row, p, "", "", self.columns.as_slice());
         row.add(" targets");
-        row.parts(p, "", "", self.targets.as_slice());
+        add_parts(row, p, "", "", self.targets.as_slice());
     }
 }
 
 /// A SET clause.
 impl Show for Items<SetPart> {
-    fn show(&self, row: &mut Row, p: &Parse<'_>) {
+    fn show(&self, row: &mut TextBuilder, p: &Parse<'_>) {
         row.add(" set");
-        row.parts(p, "", "", self.as_slice());
+        add_parts(row, p, "", "", self.as_slice());
     }
 }
 
 /// A list of columns.
 impl Show for Items<Target> {
-    fn show(&self, row: &mut Row, p: &Parse<'_>) {
+    fn show(&self, row: &mut TextBuilder, p: &Parse<'_>) {
         row.add(" list");
-        row.parts(p, "", "", self.as_slice());
+        add_parts(row, p, "", "", self.as_slice());
     }
 }
 
 impl Show for TableWrite {
-    fn show(&self, row: &mut Row, p: &Parse<'_>) {
-        row.span(p, " path ", Some(self.path));
-        row.parts(p, "", "", self.sets.as_slice());
-        row.parts(p, "", "", self.lists.as_slice());
+    fn show(&self, row: &mut TextBuilder, p: &Parse<'_>) {
+        add_span(row, p, " path ", Some(self.path));
+        add_parts(row, p, "", "", self.sets.as_slice());
+        add_parts(row, p, "", "", self.lists.as_slice());
     }
 }
 
 /// A path.
 impl Show for Span {
-    fn show(&self, row: &mut Row, p: &Parse<'_>) {
-        row.span(p, " path ", Some(*self));
+    fn show(&self, row: &mut TextBuilder, p: &Parse<'_>) {
+        add_span(row, p, " path ", Some(*self));
     }
 }
 
 /// The end of a transaction, a new table or index without its parts, and the path of an ALTER statement.
-pub(crate) fn show_head(row: &mut Row, p: &Parse<'_>, body: &Body) {
+pub(crate) fn show_head(row: &mut TextBuilder, p: &Parse<'_>, body: &Body) {
     match body {
         Body::End { plain, chain } => {
             row.mark(*plain, " plain");
@@ -62,19 +63,19 @@ pub(crate) fn show_head(row: &mut Row, p: &Parse<'_>, body: &Body) {
             path,
             ..
         } => {
-            row.token(p, " word ", Some(*word));
+            add_token(row, p, " word ", Some(*word));
             row.mark(*temp, " temp");
             row.mark(*guarded, " guarded");
             row.mark(*on_commit_drop, " dropped");
-            row.span(p, " path ", Some(*path));
+            add_span(row, p, " path ", Some(*path));
         }
-        Body::Into { path, .. } => row.span(p, " path ", Some(*path)),
-        Body::Alter { path, .. } => row.span(p, " path ", *path),
+        Body::Into { path, .. } => add_span(row, p, " path ", Some(*path)),
+        Body::Alter { path, .. } => add_span(row, p, " path ", *path),
         _ => show_index(row, p, body),
     }
 }
 
-fn show_index(row: &mut Row, p: &Parse<'_>, body: &Body) {
+fn show_index(row: &mut TextBuilder, p: &Parse<'_>, body: &Body) {
     if let Body::Index {
         word,
         unique,
@@ -84,27 +85,27 @@ fn show_index(row: &mut Row, p: &Parse<'_>, body: &Body) {
         path,
     } = body
     {
-        row.token(p, " word ", Some(*word));
+        add_token(row, p, " word ", Some(*word));
         row.mark(*unique, " unique");
-        row.token(p, " concurrently ", *concurrently);
+        add_token(row, p, " concurrently ", *concurrently);
         row.mark(*guarded, " guarded");
-        row.token(p, " name ", *name);
-        row.span(p, " path ", Some(*path));
+        add_token(row, p, " name ", *name);
+        add_span(row, p, " path ", Some(*path));
     }
 }
 
-fn show_parts(row: &mut Row, p: &Parse<'_>, body: &Body) {
+fn show_parts(row: &mut TextBuilder, p: &Parse<'_>, body: &Body) {
     match body {
         Body::Table { elems, .. } => {
-            row.parts(p, ": ", "; ", elems.as_slice());
+            add_parts(row, p, ": ", "; ", elems.as_slice());
         }
         Body::Into { targets, .. } => {
             row.add(" targets");
-            row.parts(p, "", "", targets.as_slice());
+            add_parts(row, p, "", "", targets.as_slice());
         }
         Body::Alter { actions, .. } => {
             row.add(": ");
-            row.parts(p, "", "; ", actions.as_slice());
+            add_parts(row, p, "", "; ", actions.as_slice());
         }
         Body::Domain { constraints } => show_constraints(row, p, constraints.as_slice()),
         Body::View(view) => view.get().show(row, p),
@@ -113,7 +114,7 @@ fn show_parts(row: &mut Row, p: &Parse<'_>, body: &Body) {
     }
 }
 
-fn show_object(row: &mut Row, p: &Parse<'_>, body: &Body) {
+fn show_object(row: &mut TextBuilder, p: &Parse<'_>, body: &Body) {
     match body {
         Body::Drop {
             word,
@@ -121,10 +122,10 @@ fn show_object(row: &mut Row, p: &Parse<'_>, body: &Body) {
             guarded,
             paths,
         } => {
-            row.token(p, " word ", Some(*word));
+            add_token(row, p, " word ", Some(*word));
             row.mark(*concurrently, " concurrently");
             row.mark(*guarded, " guarded");
-            row.parts(p, "", "", paths.as_slice());
+            add_parts(row, p, "", "", paths.as_slice());
         }
         Body::Reindex {
             target,
@@ -134,35 +135,35 @@ fn show_object(row: &mut Row, p: &Parse<'_>, body: &Body) {
             path,
         } => {
             row.debug(" ", target);
-            row.token(p, " word ", Some(*word));
+            add_token(row, p, " word ", Some(*word));
             row.mark(*concurrent, " concurrently");
             row.mark(*valued, " valued");
-            row.span(p, " path ", *path);
+            add_span(row, p, " path ", *path);
         }
         Body::Made { path, guarded } => {
             row.mark(*guarded, " guarded");
-            row.span(p, " path ", Some(*path));
+            add_span(row, p, " path ", Some(*path));
         }
         _ => (),
     }
 }
 
-fn show_other(row: &mut Row, p: &Parse<'_>, body: &Body) {
+fn show_other(row: &mut TextBuilder, p: &Parse<'_>, body: &Body) {
     match body {
         Body::Code { replace } => row.mark(*replace, " replace"),
-        Body::Truncate { cascade } => row.token(p, " ", *cascade),
-        Body::Setting { name } => row.span(p, " ", *name),
+        Body::Truncate { cascade } => add_token(row, p, " ", *cascade),
+        Body::Setting { name } => add_span(row, p, " ", *name),
         Body::Locking { mode: Some(mode) } => {
             row.debug(" ", mode);
         }
         Body::Refresh { concurrently } => row.mark(*concurrently, " concurrently"),
         Body::Vacuum { full, tables } => {
             row.mark(*full, " full");
-            row.span(p, " tables ", *tables);
+            add_span(row, p, " tables ", *tables);
         }
         Body::Cluster { table, index } => {
-            row.span(p, " table ", *table);
-            row.token(p, " index ", *index);
+            add_span(row, p, " table ", *table);
+            add_token(row, p, " index ", *index);
         }
         _ => (),
     }
@@ -170,7 +171,7 @@ fn show_other(row: &mut Row, p: &Parse<'_>, body: &Body) {
 
 /// A statement with all that is known of it.
 impl Show for Stmt {
-    fn show(&self, row: &mut Row, p: &Parse<'_>) {
+    fn show(&self, row: &mut TextBuilder, p: &Parse<'_>) {
         row.debug("", &self.kind);
         show_head(row, p, &self.body);
         show_parts(row, p, &self.body);
@@ -180,10 +181,10 @@ impl Show for Stmt {
 }
 
 /// The expressions of the checks of a table.
-pub(crate) fn show_checks(row: &mut Row, p: &Parse<'_>, elems: &[Elem]) {
+pub(crate) fn show_checks(row: &mut TextBuilder, p: &Parse<'_>, elems: &[Elem]) {
     for elem in elems {
         if let Elem::Constraint(constraint) = elem {
-            row.part(p, "", &constraint.expr);
+            add_part(row, p, "", &constraint.expr);
         }
     }
 }

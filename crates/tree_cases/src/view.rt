@@ -2,9 +2,9 @@
 
 use crate::facts::{show_comments, show_created, show_lock, show_names, show_transaction};
 use crate::ranges::show_ranges;
-use crate::row::{Row, Show};
+use crate::row::{Show, add_parts};
 use crate::shown_body::{actions_of, elements_of, show_checks};
-use case_text::Fault;
+use case_text::{Fault, TextBuilder};
 use sql_read::parse;
 use sql_tree::{Parse, Stmt};
 use std::alloc::Global;
@@ -74,26 +74,26 @@ impl View {
     }
 }
 
-fn show_stmt(row: &mut Row, p: &Parse<'_>, each: Each, s: &Stmt) {
+fn show_stmt(row: &mut TextBuilder, p: &Parse<'_>, each: Each, s: &Stmt) {
     match each {
         Each::Kind => row.debug("", &s.kind),
         Each::Statement => s.show(row, p),
         Each::Ranges => show_ranges(row, p, s),
-        Each::Actions => row.parts(p, "", "; ", actions_of(&s.body)),
-        Each::Elements => row.parts(p, "", "; ", elements_of(&s.body)),
+        Each::Actions => add_parts(row, p, "", "; ", actions_of(&s.body)),
+        Each::Elements => add_parts(row, p, "", "; ", elements_of(&s.body)),
         Each::Checks => show_checks(row, p, elements_of(&s.body)),
         Each::Lock => show_lock(row, p, s),
     }
 }
 
-fn show_stmts(row: &mut Row, p: &Parse<'_>, each: Each) {
+fn show_stmts(row: &mut TextBuilder, p: &Parse<'_>, each: Each) {
     for s in p.tree().stmts.as_slice() {
         row.gap(each.separator());
         show_stmt(row, p, each, s);
     }
 }
 
-fn show_tree(alloc: Global, row: &mut Row, p: &Parse<'_>, view: View, assumed: bool) {
+fn show_tree(alloc: Global, row: &mut TextBuilder, p: &Parse<'_>, view: View, assumed: bool) {
     match view {
         View::Stmts(each) => show_stmts(row, p, each),
         View::Created => show_created(alloc, row, p, assumed),
@@ -116,7 +116,7 @@ pub(crate) fn viewed(
 ) -> Result<String, Fault> {
     match parse(alloc, text) {
         Ok(p) => {
-            let mut row = Row::new(alloc);
+            let mut row = TextBuilder::new(alloc);
             show_tree(alloc, &mut row, &p, view, assumed);
             row.finish()
         }
