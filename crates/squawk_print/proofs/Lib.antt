@@ -5,3 +5,4 @@ pub mod Reports
 pub mod Vectors
 pub mod Rooms
 pub mod Pieces
+pub mod Pushes

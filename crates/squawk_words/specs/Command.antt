@@ -5,7 +5,7 @@ use Rattle.clap.specs.declared.builder.ArgAction.TheVariants.{SetTrue}
 use Rattle.clap.specs.declared.parser.matches.Found.{Found}
 use Rattle.squawk_words.specs.declared.given.Given.{Given}
 use Rattle.squawk_words.specs.Choices.{Said}
-use Rattle.squawk_words.specs.Words.{table}
+use Rattle.squawk_words.specs.Words.{Table, table}
 
 -- the word does not begin with `-`, or it is `--` and at least one byte more
 abbrev pub is_tidy : Text → Bool
@@ -31,6 +31,14 @@ with_name a e = with_rule a (if e.1 then option_rule e.0 else flag_rule e.0)
 
 abbrev pub app : App
 app = fold with_name bare table
+
+-- the names whose values choose rules
+abbrev pub rule_names : Table
+rule_names = (codes "only", true) ∷ (codes "include", true) ∷ (codes "exclude", true) ∷ []
+
+-- the names whose values are the parts of a version
+abbrev pub version_names : Table
+version_names = (codes "pg-major", true) ∷ (codes "pg-minor", true) ∷ (codes "pg-patch", true) ∷ []
 
 -- ---- the values
 

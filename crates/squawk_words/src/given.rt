@@ -1,8 +1,8 @@
 //! The values of the words, read by `clap`.
-ghost use Rattle.std.specs.Prelude.{◌≡◌, IfOk, map, option_map, string_bytes};
+ghost use Rattle.std.specs.Prelude.{◌≡◌, IfOk, fold, map, option_map, string_bytes};
 ghost use Rattle.std.specs.List.{list_all};
 ghost use Rattle.clap.specs.Words.{app_of, found_of, with_rule};
-ghost use Rattle.squawk_words.specs.Command.{IsGiven, app, flag_rule, is_tidy, option_rule, said_by};
+ghost use Rattle.squawk_words.specs.Command.{IsGiven, app, flag_rule, is_tidy, option_rule, rule_names, said_by, version_names, with_name};
 ghost use Rattle.squawk_words.specs.Choices.{said_of};
 
 use clap::error::ErrorKind;
@@ -73,16 +73,30 @@ fn command<'w>(alloc: Global) -> Result<Command<'w>, AllocError>
     let bare = Command::new(alloc, "squawk")
         .no_binary_name(true)
         .disable_help_flag(true);
-    let with_only = with_option(bare, alloc, "only")?;
-    let with_include = with_option(with_only, alloc, "include")?;
-    let with_exclude = with_option(with_include, alloc, "exclude")?;
-    let with_non_volatile = with_option(with_exclude, alloc, "non-volatile")?;
-    let with_pg_major = with_option(with_non_volatile, alloc, "pg-major")?;
-    let with_pg_minor = with_option(with_pg_major, alloc, "pg-minor")?;
-    let with_pg_patch = with_option(with_pg_minor, alloc, "pg-patch")?;
-    let with_generate = with_option(with_pg_patch, alloc, "generate")?;
+    let with_rules = with_rule_names(bare, alloc)?;
+    let with_non_volatile = with_option(with_rules, alloc, "non-volatile")?;
+    let with_version = with_version_names(with_non_volatile, alloc)?;
+    let with_generate = with_option(with_version, alloc, "generate")?;
     let with_assumed = with_flag(with_generate, alloc, "assume-in-transaction")?;
     with_flag(with_assumed, alloc, "locks")
+}
+
+// A command and the names whose values choose rules.
+fn with_rule_names<'w>(command: Command<'w>, alloc: Global) -> Result<Command<'w>, AllocError>
+    ensures { IfOk result (λ c. app_of c ≡ fold with_name (app_of command.entry) rule_names) }
+{
+    let with_only = with_option(command, alloc, "only")?;
+    let with_include = with_option(with_only, alloc, "include")?;
+    with_option(with_include, alloc, "exclude")
+}
+
+// A command and the names whose values are the parts of a version.
+fn with_version_names<'w>(command: Command<'w>, alloc: Global) -> Result<Command<'w>, AllocError>
+    ensures { IfOk result (λ c. app_of c ≡ fold with_name (app_of command.entry) version_names) }
+{
+    let with_major = with_option(command, alloc, "pg-major")?;
+    let with_minor = with_option(with_major, alloc, "pg-minor")?;
+    with_option(with_minor, alloc, "pg-patch")
 }
 
 // A command and one more name that takes a value.
