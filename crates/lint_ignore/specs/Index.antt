@@ -29,7 +29,8 @@ names g rule = not g.ignore_all && has g.violation_names rule
 abbrev pub line_names : Text → ℕ → Rule → Ignore → Bool
 line_names text line rule g = not (is_file g.kind) && names g rule && line_of_ignore text g == line
 
--- the index knows which of these ignore comments of a text name a rule, for the file and for each line
+-- the index knows whether some of these ignore comments names a rule, for the file and for each line, and whether a bare file
+-- ignore is there
 pub record IsIndexOf (index : IgnoreIndex) (text : Text) (ignores : List Ignore) : Type 0 where
   pub lines : index.lines ≡ line_feeds text
   pub bare : index.covers_all ≡ list_any is_bare_file ignores

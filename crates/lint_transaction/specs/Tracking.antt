@@ -10,7 +10,7 @@ pub record Known : Type 0 where
   pub is_open : Bool
   pub tables : List (List (List ℕ))
 
--- whether the table of this path is among them
+-- whether the table of this path is among the known tables
 abbrev pub holds : Known → List (List ℕ) → Bool
 holds known path = list_any (same_path path) known.tables
 

@@ -10,7 +10,7 @@ pub record Kept : Type 0 where
   pub in_block : Bool
   pub births : Values ℕ
 
--- the walk keeps this state
+-- what the walk keeps is this state of the lock machine
 pub record IsMachine (tree : Tree) (m : Machine) (kept : Kept) : Type 0 where
   pub same_number : kept.number ≡ m.number
   pub same_block : kept.in_block ≡ m.in_block

@@ -1,8 +1,8 @@
 //! What the statements of a text do under locks that block others, and whether they do it to tables that others know.
 //!
-//! [`lock_work`] lists the work: each index that is built or dropped, each constraint that is checked and each table that is
-//! rewritten while its table is locked, with the lock and with whether the table is old, that is, was not created in the
-//! same transaction. [`is_plain`] says whether a text does nothing that the list cannot follow.
+//! [`lock_work`] lists the work: each index that is built, dropped or rebuilt, each constraint that is checked, each column whose type
+//! changes or that is added with a look at all rows, and each partition that is detached while its table is locked, with the lock and
+//! with whether the table is old, that is, was not created in the same transaction. [`is_plain`] says whether a text does nothing that the list cannot follow.
 //!
 //! `specs/` says what each call means: `Machine` numbers the transactions of a text and knows in which one a table was created,
 //! `Works` has the work of each statement, `Steady` the defaults that rewrite no table, `Plain` the plain texts, and `MachineWalk`

@@ -20,7 +20,7 @@ known_check tree known name = get_span tree known.checks (name ∷ [])
 abbrev pub has_excuse : Tree → ExcusedColumns → List ℕ → List ℕ → Bool
 has_excuse tree known table column = has_span tree known.tables (table ∷ []) || has_span tree known.columns (table ∷ column ∷ [])
 
--- the names by which each is kept
+-- constraints and tables are kept by their last names, columns by table and column
 pub record IsKeyed (known : ExcusedColumns) : Type 0 where
   pub by_name : known.checks.key ≡ by.LastName
   pub by_table : known.tables.key ≡ by.LastName

@@ -21,7 +21,7 @@ or_first (Some n) = n
 abbrev pub first_significant : Tree → ℕ
 first_significant tree = or_first (position is_significant_token tree.toks)
 
--- where it begins
+-- where the first significant token begins
 abbrev pub first_place : Tree → ℕ
 first_place tree = (span_range_of tree.toks (first_significant tree) (first_significant tree)).start
 

@@ -58,14 +58,14 @@ StatementKept g ts = FormKept g (without_semicolon ts)
 
 -- ---- laws
 
--- It is enough that it holds of all terminals of a statement.
+-- A map that keeps these options of all terminals of a statement keeps the statement.
 abbrev pub StatementKeptByAll : (Terminal → Terminal) → Type 0
 StatementKeptByAll g = (ts : List Terminal) → OptionsKept g ts → StatementKept g ts
 
--- For a whole text the same.
+-- One that keeps them of all terminals of a text keeps all its statements.
 abbrev pub StatementsKeptByAll : (Terminal → Terminal) → Type 0
 StatementsKeptByAll g = (ts : List Terminal) → OptionsKept g ts → All (StatementKept g) (statements ts)
 
--- A map under which each word stays one keeps them.
+-- A map under which words stay words keeps the options of ALTER CONSTRAINT.
 abbrev pub OptionsKeptByWords : (Terminal → Terminal) → Type 0
 OptionsKeptByWords g = ((t : Terminal) → StaysWord g t) → (ts : List Terminal) → OptionsKept g ts

@@ -116,7 +116,7 @@ plain_type (t ∷ ts) = either_of (symbol_type t.symbol (t ∷ ts) ts) (path_typ
 unfoldable pub no_group : Option Terminal → Terminal → List Terminal → Bool
 no_group earlier t after = not (is_open_square_symbol t.symbol)
 
--- from where on nothing but bracket groups [ .. ] is there
+-- from here on there are only bracket groups [ .. ]
 unfoldable pub only_groups : Option Terminal → Terminal → List Terminal → Bool
 only_groups earlier t after = not (has no_group (t ∷ after))
 

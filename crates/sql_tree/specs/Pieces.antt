@@ -7,7 +7,7 @@ use Rattle.sql_token.specs.Depth.{one_if, onto}
 use Rattle.sql_tree.specs.Split.{Test}
 
 -- How many terminals come before the first mark of depth 0 that is none of the first n terminals, all where there is
--- none. Before them are there `earlier`, o openers and c closers.
+-- none. Before them come `earlier`, o openers and c closers.
 abbrev pub before_after_head : Test → ℕ → Option Terminal → ℕ → ℕ → List Terminal → ℕ
 before_after_head mark n earlier o c [] = 0
 before_after_head mark n earlier o c (t ∷ ts) =

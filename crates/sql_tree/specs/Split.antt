@@ -1,6 +1,6 @@
 -- Lists of terminals, split at marks of depth 0.
 -- Depth is counted from the start of the list, by the two counts of openers and closers.
-use Rattle.std.specs.Prelude.{◌≡◌, ◌≤◌, ℕ, zero, suc, ◌+◌, ◌-◌, ◌==◌, nat_lt, Bool, true, false, not, ◌&&◌, ◌||◌, if◌then◌else◌, List, [], ◌∷◌, length, take, drop, Option, Some, None}
+use Rattle.std.specs.Prelude.{◌≡◌, ◌≤◌, ℕ, suc, ◌+◌, ◌==◌, nat_lt, Bool, true, false, not, ◌&&◌, ◌||◌, if◌then◌else◌, List, [], ◌∷◌, length, take, drop, Option, Some, None}
 use Rattle.sql_keyword.specs.declared.words.Keyword.{Keyword}
 use Rattle.sql_keyword.specs.declared.words.Keyword.TheVariants as k
 use Rattle.sql_keyword.specs.declared.words.Verb.TheVariants as verbs
@@ -211,7 +211,7 @@ ChunksFollow =
 
 -- ---- bracket lists
 
--- How many terminals come up to where as many closers as openers have come, where o openers and c closers stood
+-- How many terminals come up to where as many closers as openers have come, where o openers and c closers came
 -- earlier.
 abbrev pub closing : ℕ → ℕ → List Terminal → ℕ
 closing o c [] = 0

@@ -1,6 +1,6 @@
 //! The actions of ALTER statements and their pieces as data: rows of tables that the reader of forms reads.
 //!
-//! A row is all that an action or a piece is made of. The tables of a word stand for every kind of statement, those of a
+//! A row is all that an action or a piece is made of. The tables of a word are for every kind of statement, those of a
 //! kind for its statements alone; `specs/ActionRows.antt` says which tables an action is read by, and in which order. A
 //! table has rows that exclude each other, or the longer one first.
 //!

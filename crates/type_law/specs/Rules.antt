@@ -1,4 +1,4 @@
--- The rules on column types that have a fix, as tables.
+-- Four of the rules on column types that have a fix, as tables.
 use Rattle.std.specs.Prelude.{◌≡◌, Bool, List}
 use Rattle.sql_tree.specs.declared.nodes.ColType.{ColType}
 use Rattle.sql_tree.specs.declared.nodes.Stmt.{Stmt}

@@ -48,7 +48,7 @@ pub fn tables_are_silent()
     ensures smallints { TypesSilent rule.smallints }
 {}
 
-/// The fix of each report on a column type makes a text that has a tree, if no byte of a word is right before or right after what
+/// The fix of each report of these four rules on column types makes a text that has a tree, if no byte of a word is right before or right after what
 /// it replaces. Its terminals are those of the old text, but that those of the type, or its last name, are the new word, and the
 /// rule reports nothing where that report began.
 pub fn fixes_mend()
