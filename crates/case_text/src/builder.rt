@@ -1,6 +1,6 @@
 //! A text that is put together piece by piece.
 
-ghost use Rattle.std.specs.Prelude.{◌≡◌, ◌++◌, ◌↔◌, [], true, false, string_bytes, IfOk, IsSome};
+ghost use Rattle.std.specs.Prelude.{◌≡◌, ◌++◌, ◌↔◌, [], true, false, string_bytes, IfOk, IsSome, OnOk};
 
 use crate::fault::Fault;
 use std::alloc::Global;
@@ -29,8 +29,10 @@ impl TextBuilder {
         }
     }
 
-    /// Where its memory comes from. It serves the tests, so no clause is owed.
-    pub fn alloc(&self) -> Global {
+    /// Where its memory comes from.
+    pub fn alloc(&self) -> Global
+        ensures { result ≡ self.now.alloc }
+    {
         self.alloc
     }
 
@@ -46,7 +48,8 @@ impl TextBuilder {
 
     /// The text, unless it is short: then it is `Fault::NoMemory`.
     pub fn finish(self) -> Result<String, Fault>
-        ensures { IfOk result (λ text. string_bytes text ≡ string_bytes self.text) }
+        ensures text { IfOk result (λ text. string_bytes text ≡ string_bytes self.text) }
+        ensures whole { OnOk result (self.is_short ≡ false) }
     {
         if self.is_short {
             return Err(Fault::NoMemory);
@@ -63,7 +66,8 @@ impl TextBuilder {
 
     /// Adds a piece.
     pub fn add(&mut self, piece: &str)
-        ensures { self.new.is_short ≡ false → string_bytes self.new.text ≡ string_bytes self.old.text ++ piece.now }
+        ensures grown { self.new.is_short ≡ false → string_bytes self.new.text ≡ string_bytes self.old.text ++ piece.now }
+        ensures stays { self.old.is_short ≡ true → self.new.is_short ≡ true }
     {
         if self.text.push_str(piece).is_err() {
             self.fail();
@@ -72,41 +76,52 @@ impl TextBuilder {
 
     /// Adds a piece where it is so.
     pub fn mark(&mut self, is_so: bool, piece: &str)
-        ensures { self.new.is_short ≡ false → is_so ≡ true → string_bytes self.new.text ≡ string_bytes self.old.text ++ piece.now }
+        ensures grown { self.new.is_short ≡ false → is_so ≡ true → string_bytes self.new.text ≡ string_bytes self.old.text ++ piece.now }
+        ensures stays { self.old.is_short ≡ true → self.new.is_short ≡ true }
     {
         if is_so {
             self.add(piece);
         }
     }
 
-    /// Adds the separator where a text comes before it. It serves the tests, so no clause is owed.
-    pub fn gap(&mut self, separator: &str) {
+    /// Adds the separator where a text comes before it.
+    pub fn gap(&mut self, separator: &str)
+        ensures { self.old.is_short ≡ true → self.new.is_short ≡ true }
+    {
         let is_first = self.text.is_empty();
         self.mark(!is_first, separator);
     }
 
-    /// Adds a word, after a blank where a text comes before it. It serves the tests, so no clause is owed.
-    pub fn word(&mut self, word: &str) {
+    /// Adds a word, after a blank where a text comes before it.
+    pub fn word(&mut self, word: &str)
+        ensures { self.old.is_short ≡ true → self.new.is_short ≡ true }
+    {
         self.gap(" ");
         self.add(word);
     }
 
-    /// Adds a value after the label, as it is shown to a programmer. It serves the tests, so no clause is owed.
-    pub fn debug<T: Debug>(&mut self, label: &str, value: &T) {
+    /// Adds a value after the label, as it is shown to a programmer.
+    pub fn debug<T: Debug>(&mut self, label: &str, value: &T)
+        ensures { self.old.is_short ≡ true → self.new.is_short ≡ true }
+    {
         if write!(self.text, "{label}{value:?}").is_err() {
             self.fail();
         }
     }
 
-    /// Adds a value after the label, as it is shown to a user. It serves the tests, so no clause is owed.
-    pub fn display<T: Display>(&mut self, label: &str, value: &T) {
+    /// Adds a value after the label, as it is shown to a user.
+    pub fn display<T: Display>(&mut self, label: &str, value: &T)
+        ensures { self.old.is_short ≡ true → self.new.is_short ≡ true }
+    {
         if write!(self.text, "{label}{value}").is_err() {
             self.fail();
         }
     }
 
-    /// Adds where a range begins and ends, in bytes, after the label. It serves the tests, so no clause is owed.
-    pub fn range(&mut self, label: &str, range: TextRange) {
+    /// Adds where a range begins and ends, in bytes, after the label.
+    pub fn range(&mut self, label: &str, range: TextRange)
+        ensures { self.old.is_short ≡ true → self.new.is_short ≡ true }
+    {
         self.display(label, &range.start().raw());
         self.display("..", &range.end().raw());
     }
