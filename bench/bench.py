@@ -3,7 +3,7 @@
 
     bench/bench.py [--sizes 1K,1M,64M] [--shapes plain,comments] [--small-pages] [PROGRAM]
 
-PROGRAM is crates/squawk_main/out/squawk_main unless it is given (./squawk builds it). For each shape and size it prints
+PROGRAM is crates/squawk_main/out/squawk_main unless it is given (./prove builds it). For each shape and size it prints
 the size in bytes, the user and system time in milliseconds, MB (10^6 bytes) a second of processor time, and the peak
 memory in bytes per byte of text (of a short text mostly this script's own, some 10 MB). A text that is refused counts as
 well: what is refused is read to its end. Each run is made three times, and the fastest is printed. Time is to grow in

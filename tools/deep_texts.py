@@ -3,7 +3,7 @@
 
     tools/deep_texts.py PROGRAM [--stack KB] [--list]
 
-PROGRAM is the built linter; `tools/unproved_build` makes one without proofs. Each text is linted twice with all rules, once with
+PROGRAM is the built linter; `tools/unproved_build --measured` makes one without proofs. Each text is linted twice with all rules, once with
 a stack of KB kilobytes (256) and once with the stack of the shell, and both runs have to print the same and end alike. What is
 run:
 

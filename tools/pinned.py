@@ -3,6 +3,7 @@
 
     tools/pinned.py                  says what is unpinned
     tools/pinned.py --write          writes it to docs/PINNED.md
+    tools/pinned.py --check          says whether docs/PINNED.md is what --write would write today, but for its date
     tools/pinned.py --show TEXT      shows what is read of a text
     tools/pinned.py .. FILE ..       takes these files of cases in place of cases/**/*.txt
 
@@ -1339,6 +1340,10 @@ def report(cases, total, found):
     return "\n".join(lines) + "\n"
 
 
+def without_date(text):
+    return re.sub(r"(?m)^- Date: .*$", "", text)
+
+
 def main(words):
     global SOURCE
     if words[:1] == ["--show"]:
@@ -1348,7 +1353,8 @@ def main(words):
             print(f"{view}: {tables.view(view, words[1])}".replace(ANY, ".."))
         return 0
     write = words[:1] == ["--write"]
-    files = words[1:] if write else words
+    check = words[:1] == ["--check"]
+    files = words[1:] if write or check else words
     files = files or sorted(glob.glob(f"{TOP}/cases/**/*.txt", recursive=True))
     cases = [case for path in files for case in cases_in(path)]
     wrong, total, found = unpinned(cases)
@@ -1366,7 +1372,10 @@ def main(words):
     if write and not wrong:
         with open(f"{TOP}/docs/PINNED.md", "w") as out:
             out.write(report(cases, total, found))
-    return 1 if wrong or loose or others else 0
+    is_old = check and without_date(open(f"{TOP}/docs/PINNED.md").read()) != without_date(report(cases, total, found))
+    if is_old:
+        print("docs/PINNED.md is not up to date: tools/pinned.py --write writes it")
+    return 1 if wrong or loose or others or is_old else 0
 
 
 if __name__ == "__main__":

@@ -1,8 +1,8 @@
 //! Runs the cases on standard input through the linter's programs.
 #![tactic(auto)]
 
-use case_text::run_table;
-use linter_cases::Programs;
+use case_format::run_table;
+use case_runs::Programs;
 use std::io;
 use std::process::ExitCode;
 

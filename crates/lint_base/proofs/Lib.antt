@@ -1,4 +1,5 @@
 pub mod Among
+pub mod OfRules
 pub mod RuleChoice
 pub mod RuleFacts
 pub mod RuleNames

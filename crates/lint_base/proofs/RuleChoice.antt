@@ -1,14 +1,9 @@
 -- Which rules are in a set after the rules of a list were put in or taken out.
-use Rattle.std.proofs.Common.{◌≡◌, ◌≢◌, ◌∙◌, ℕ, ◌<◌, ◌^◌, Bool, true, false, not, List, [], ◌∷◌, filter, fold, get_or, refl, ap, sym, inl, inr, arith, lit<, rules}
-use Rattle.std.specs.Prelude.{◌==◌, ◌&&◌, ◌||◌}
-use Rattle.std.specs.Int.{bit_at, bit_not, w128}
-use Rattle.std.proofs.Math.Pow.{pow-lt}
-use Rattle.std.proofs.lemmas.Nat.{and_le_l, or_lt}
-use Rattle.std.proofs.lemmas.Nat.Bits.{bit_at-lt, same_from_bits_below}
-use Rattle.std.proofs.lemmas.Bool.Decides.{nat_tests}
+use Rattle.std.proofs.Common.{◌≡◌, ◌≢◌, ◌∙◌, Bool, true, false, not, List, [], ◌∷◌, filter, fold, refl, ap, sym, inl, inr, rules}
+use Rattle.std.specs.Prelude.{◌&&◌, ◌||◌}
 use Rattle.std.specs.List.{list_any}
 use Rattle.std.proofs.Math.Bool.{and-false, and-true, and_assoc, or-false, or-true, or_assoc}
-use Rattle.std.proofs.lemmas.Bool.{agree_below_at, cases_Bool, eqb-true}
+use Rattle.std.proofs.lemmas.Bool.{cases_Bool}
 use denote.Enum.Bare.{same_true, same_false}
 use Rattle.lint_base.specs.contracts.rule.Rule.{the_type}
 use Rattle.lint_base.specs.declared.rule.Rule.{Rule}
@@ -18,6 +13,7 @@ use Rattle.lint_base.specs.RuleSets.{Rules, default_rules, has, no_rules, rules_
 use Rattle.lint_base.specs.Rules.{all_rules, facts_of, is_opt_in, number_of}
 use Rattle.lint_base.proofs.RuleSets.{has-no_rules, has-with_rule_same, has-with_rule_other, has-without_rule_same, has-without_rule_other, has_default_rules}
 use Rattle.lint_base.specs.RuleChoice.{is_alias, is_chosen, is_named, rules_that, with_expansions}
+use Rattle.lint_base.proofs.OfRules.{put_is_of_rules, put_rules, same_rules, taken_is_of_rules}
 
 -- ---- membership
 
@@ -87,47 +83,6 @@ found_that test r = found_where test all_rules r ∙ rw (found_in_all r) (and-tr
 pub has-rules_that : (test : Rule → Bool) (r : Rule) → has (rules_that test) r ≡ test r
 has-rules_that test r = has-put (filter test all_rules) no_rules r ∙ rw (has-no_rules r) (found_that test r)
 
--- ---- sets with the same rules are one set
-
-number_of-lt : (r : Rule) → number_of r < 78
-unfolding number_of
-number_of-lt rule.RequireTimeoutSettings = lit< tt
-number_of-lt r = lit< tt
-
--- a set has bits for rules alone
-abbrev IsOfRules : Rules → Type 0
-IsOfRules set = set.bits < 2 ^ 78
-
-put_is_of_rules : (rules : List Rule) (set : Rules) → IsOfRules set → IsOfRules (fold with_rule set rules)
-unfolding with_rule
-put_is_of_rules [] set h = h
-put_is_of_rules (r ∷ rules) set h = put_is_of_rules rules (with_rule set r) (or_lt 78 set.bits (2 ^ number_of r) h (pow-lt (number_of-lt r)))
-
-taken_is_of_rules : (rules : List Rule) (set : Rules) → IsOfRules set → IsOfRules (fold without_rule set rules)
-unfolding without_rule
-taken_is_of_rules [] set h = h
-taken_is_of_rules (r ∷ rules) set h =
-    taken_is_of_rules rules (without_rule set r) (omega (arith, and_le_l set.bits (bit_not w128 (2 ^ number_of r))))
-
--- the rule with a number
-abbrev rule_at : ℕ → Rule
-rule_at i = get_or all_rules i rule.RequireTimeoutSettings
-
-number_of-rule_at : (i : ℕ) → i < 78 → number_of (rule_at i) ≡ i
-unfolding all_rules number_of
-number_of-rule_at i l = eqb-true _ _ (agree_below_at (λ k. number_of (rule_at k) == k) (λ k. true) 78 i refl l)
-
-same_bit : (a b : ℕ) → a < 2 → b < 2 → (a == 1) ≡ (b == 1) → a ≡ b
-same_bit a b l m e = grind (arith, nat_tests)
-
-same_rules : (a b : Rules) → IsOfRules a → IsOfRules b → ((r : Rule) → has a r ≡ has b r) → a ≡ b
-unfolding has
-same_rules a b la lb same =
-    let bits : a.bits ≡ b.bits = same_from_bits_below 78 a.bits b.bits la lb (λ i l.
-    let at : (bit_at a.bits i == 1) ≡ (bit_at b.bits i == 1) = rw (number_of-rule_at i l) at (same (rule_at i)) in
-    same_bit _ _ (bit_at-lt a.bits i) (bit_at-lt b.bits i) at) in
-    ap (λ n. record { bits = n }) bits
-
 -- ---- the rules of a linter
 
 -- the set that is made of what is included and what is excluded
@@ -137,12 +92,6 @@ chosen_set include exclude = fold without_rule (fold without_rule (fold with_rul
 has-chosen_set : (include exclude : List Rule) (r : Rule) → has (chosen_set include exclude) r ≡ is_chosen include exclude r
 has-chosen_set include exclude r =
     rw (has-taken (filter is_alias all_rules), has-taken (with_expansions exclude), has-put (with_expansions include), has_default_rules r, found_that is_alias r) refl
-
-no_rules_is_of_rules : IsOfRules no_rules
-no_rules_is_of_rules = lit< tt
-
-put_rules : (rules : List Rule) → IsOfRules (rules_in rules)
-put_rules rules = put_is_of_rules rules no_rules no_rules_is_of_rules
 
 pub chosen_set_is : (include exclude : List Rule) → chosen_set include exclude ≡ rules_that (is_chosen include exclude)
 chosen_set_is include exclude =

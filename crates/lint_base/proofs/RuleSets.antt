@@ -14,7 +14,7 @@ use Rattle.std.specs.Int.{bit_at, bit_not, w128}
 use Rattle.std.proofs.lemmas.Nat.Bits.{bit_at_set_same, bit_at_set_other, bit_at_clear_same, bit_at_clear_other, bit_at-zero, bit_at-lt, bit_at_or, bit_at_and, bit_at_ones, bit_at_ones_above, same_from_bits}
 use Rattle.lint_base.specs.declared.rule.Rule.{Rule}
 use Rattle.lint_base.specs.declared.rule.Rule.TheVariants as rule
-use Rattle.lint_base.specs.Rules.{all_rules, facts_of, is_opt_in, number_of}
+use Rattle.lint_base.specs.Rules.{all_rules, facts_of, is_opt_in, number_of, rule_count}
 use Rattle.lint_base.specs.RuleSets.{Rules, has, no_rules, both_rules, with_rule, without_rule, default_rules, rules_in, rules_from}
 
 -- the rule at a rule's number
@@ -23,8 +23,8 @@ unfolding all_rules number_of
 rule_at-number_of rule.RequireTimeoutSettings = refl
 rule_at-number_of r = refl
 
--- a rule's number is below 78
-pub number_of-lt : (r : Rule) → number_of r < 78
+-- a rule's number is below the count of rules
+pub number_of-lt : (r : Rule) → number_of r < rule_count
 unfolding number_of
 number_of-lt rule.RequireTimeoutSettings = lit< tt
 number_of-lt r = lit< tt
@@ -42,7 +42,7 @@ unfolding has
 has-no_rules q = rw (bit_at-zero (number_of q)) refl
 
 -- a shifted one
-one_shifted : (n : ℕ) → n < 78 → 1 * 2 ^ n % 2 ^ 128 ≡ 2 ^ n
+one_shifted : (n : ℕ) → n < rule_count → 1 * 2 ^ n % 2 ^ 128 ≡ 2 ^ n
 one_shifted n l =
     let one : 1 * 2 ^ n ≡ 2 ^ n = omega arith in
     let small : 2 ^ n < 2 ^ 128 = pow-lt {j = 128} (omega arith) in
@@ -126,8 +126,8 @@ rules_from-out set n r h e = rw (drop-at all_rules n r h, e) refl
 pub rules_from-end : (set : Rules) (n : ℕ) → slice_get all_rules n ≡ None → rules_from set n ≡ []
 rules_from-end set n h = rw (drop-past all_rules n h) refl
 
--- a rule's place is below 78
-pub place-lt : (n : ℕ) (r : Rule) → slice_get all_rules n ≡ Some r → n < 78
+-- a rule's place is below the count of rules
+pub place-lt : (n : ℕ) (r : Rule) → slice_get all_rules n ≡ Some r → n < rule_count
 unfolding all_rules
 place-lt n r h = slice_get_within all_rules n r h
 
@@ -157,9 +157,9 @@ both_rules-bits a b = refl
 -- ---- rules in both sets
 
 -- the number of the rule at a place is the place
-pub number_of-at : (i : ℕ) (d : Rule) → i < 78 → number_of (get_or all_rules i d) ≡ i
+pub number_of-at : (i : ℕ) (d : Rule) → i < rule_count → number_of (get_or all_rules i d) ≡ i
 unfolding all_rules number_of
-number_of-at i d l = eqb-true _ _ (agree_below_at (λ k. number_of (get_or all_rules k d) == k) (λ k. true) 78 i refl l)
+number_of-at i d l = eqb-true _ _ (agree_below_at (λ k. number_of (get_or all_rules k d) == k) (λ k. true) rule_count i refl l)
 
 -- the lesser of two bits
 min_is_one : (x y : ℕ) → x < 2 → y < 2 → (min (min x y) 1 == 1) ≡ (x == 1 && y == 1)
@@ -172,15 +172,15 @@ min_is_one x (suc (suc y)) l m = absurd (omega arith)
 
 -- the bits that two sets have in common, of rules alone
 abbrev common_bits : Rules → Rules → ℕ
-common_bits a b = bit_and (bit_and a.bits b.bits) (2 ^ 78 - 1)
+common_bits a b = bit_and (bit_and a.bits b.bits) (2 ^ rule_count - 1)
 
-common_bits-at : (a b : Rules) (i : ℕ) → i < 78 → (bit_at (common_bits a b) i == 1) ≡ (bit_at a.bits i == 1 && bit_at b.bits i == 1)
+common_bits-at : (a b : Rules) (i : ℕ) → i < rule_count → (bit_at (common_bits a b) i == 1) ≡ (bit_at a.bits i == 1 && bit_at b.bits i == 1)
 common_bits-at a b i l =
-    rw (bit_at_and (bit_and a.bits b.bits) (2 ^ 78 - 1) i, bit_at_and a.bits b.bits i, bit_at_ones 78 i l) (min_is_one _ _ (bit_at-lt a.bits i) (bit_at-lt b.bits i))
+    rw (bit_at_and (bit_and a.bits b.bits) (2 ^ rule_count - 1) i, bit_at_and a.bits b.bits i, bit_at_ones rule_count i l) (min_is_one _ _ (bit_at-lt a.bits i) (bit_at-lt b.bits i))
 
-common_bits-above : (a b : Rules) (i : ℕ) → 78 ≤ i → bit_at (common_bits a b) i ≡ 0
+common_bits-above : (a b : Rules) (i : ℕ) → rule_count ≤ i → bit_at (common_bits a b) i ≡ 0
 common_bits-above a b i l =
-    rw (bit_at_and (bit_and a.bits b.bits) (2 ^ 78 - 1) i, bit_at_ones_above 78 i l) (omega arith)
+    rw (bit_at_and (bit_and a.bits b.bits) (2 ^ rule_count - 1) i, bit_at_ones_above rule_count i l) (omega arith)
 
 no_bit : (x : ℕ) → x < 2 → (x == 1) ≡ false → x ≡ 0
 no_bit zero l h = refl
@@ -202,7 +202,7 @@ common_bits-zero : (a b : Rules) → list_any (λ r. has a r && has b r) all_rul
 unfolding has all_rules
 common_bits-zero a b none = same_from_bits (common_bits a b) 0 (λ i. each i)
   where
-    at_rule : (i : ℕ) (d : Rule) → i < 78 → (bit_at (common_bits a b) i == 1) ≡ true → ⊥
+    at_rule : (i : ℕ) (d : Rule) → i < rule_count → (bit_at (common_bits a b) i == 1) ≡ true → ⊥
     at_rule i d l h =
         let n : number_of (get_or all_rules i d) ≡ i = number_of-at i d l in
         let both : (has a (get_or all_rules i d) && has b (get_or all_rules i d)) ≡ true = rw n (sym (common_bits-at a b i l) ∙ h) in
@@ -211,7 +211,7 @@ common_bits-zero a b none = same_from_bits (common_bits a b) 0 (λ i. each i)
 
     each : (i : ℕ) → bit_at (common_bits a b) i ≡ bit_at 0 i
     each i =
-        rw (bit_at-zero i) (elim (cases_lt i 78) [
+        rw (bit_at-zero i) (elim (cases_lt i rule_count) [
           | inl l ↦ elim (cases_Bool (bit_at (common_bits a b) i == 1)) [
             | inl holds ↦ absurd (at_rule i rule.UnusedIgnore l holds)
             | inr fails ↦ no_bit _ (bit_at-lt (common_bits a b) i) fails
@@ -220,7 +220,7 @@ common_bits-zero a b none = same_from_bits (common_bits a b) 0 (λ i. each i)
         ])
 
 -- what the code computes to tell whether some rule is in both
-pub intersects-bits : (a b : Rules) → not (bit_and (bit_and a.bits b.bits) (2 ^ 78 - 1) == 0) ≡ list_any (λ r. has a r && has b r) all_rules
+pub intersects-bits : (a b : Rules) → not (bit_and (bit_and a.bits b.bits) (2 ^ rule_count - 1) == 0) ≡ list_any (λ r. has a r && has b r) all_rules
 intersects-bits a b =
     elim (cases_Bool (list_any (λ r. has a r && has b r) all_rules)) [
       | inl holds ↦ rw holds (some holds)

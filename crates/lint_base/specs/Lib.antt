@@ -2,6 +2,7 @@ pub mod EditLaws
 pub mod Edits
 pub mod Fixes
 pub mod Grown
+pub mod GrownLaws
 pub mod PlainBytes
 pub mod RuleChoice
 pub mod RuleFacts

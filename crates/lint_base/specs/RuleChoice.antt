@@ -10,9 +10,13 @@ use Rattle.lint_base.specs.Rules.{all_rules, expansion_of, is_opt_in}
 abbrev pub is_alias : Rule → Bool
 is_alias r = not (length (expansion_of r) == 0)
 
+-- a rule, followed by those that it stands for
+abbrev pub with_expansion : Rule → List Rule
+with_expansion r = r ∷ expansion_of r
+
 -- the rules of a list, each followed by those that it stands for
 abbrev pub with_expansions : List Rule → List Rule
-with_expansions rules = flat_map (λ r. r ∷ expansion_of r) rules
+with_expansions rules = flat_map with_expansion rules
 
 -- whether a rule is in a list, or an alias in the list stands for it
 abbrev pub is_named : List Rule → Rule → Bool

@@ -1,8 +1,8 @@
 -- Sets of rules.
-use Rattle.std.specs.Prelude.{ℕ, ◌^◌, Bool, ◌==◌, not, List, bit_and, bit_or, drop, filter, fold}
+use Rattle.std.specs.Prelude.{ℕ, ◌<◌, ◌^◌, Bool, ◌==◌, not, List, bit_and, bit_or, drop, filter, fold}
 use Rattle.std.specs.Int.{bit_at, bit_not, w128}
 use Rattle.lint_base.specs.declared.rule.Rule.{Rule}
-use Rattle.lint_base.specs.Rules.{all_rules, is_opt_in, number_of}
+use Rattle.lint_base.specs.Rules.{all_rules, is_opt_in, number_of, rule_count}
 
 -- a set of rules: the bit at a rule's number says whether the rule is in it
 pub record Rules : Type 0 where
@@ -11,6 +11,10 @@ pub record Rules : Type 0 where
 -- whether a rule is in a set
 unfoldable pub has : Rules → Rule → Bool
 has set r = bit_at set.bits (number_of r) == 1
+
+-- a set has bits for rules alone
+abbrev pub IsOfRules : Rules → Type 0
+IsOfRules set = set.bits < 2 ^ rule_count
 
 -- the set without a rule
 abbrev pub no_rules : Rules

@@ -4,6 +4,7 @@ use denote.Enum.Declared.{tag_of}
 use Rattle.lint_base.specs.contracts.rule.Rule.{the_type}
 use Rattle.lint_base.specs.declared.rule.Rule.{Rule}
 use Rattle.lint_base.specs.declared.rule.Rule.TheVariants as rule
+use Rattle.lint_base.specs.declared.rule.TheConstants.{RULE_COUNT}
 use Rattle.lint_base.specs.declared.rule.TheConstants.Rule.{ALL}
 
 -- what is known of a rule
@@ -123,6 +124,10 @@ expansion_of r = (facts_of r).expansion
 -- every rule, in declaration order
 unfoldable pub all_rules : List Rule
 all_rules = ALL
+
+-- how many rules there are
+abbrev pub rule_count : ℕ
+rule_count = RULE_COUNT
 
 -- a rule's place in declaration order, from 0
 unfoldable pub number_of : Rule → ℕ

@@ -7,6 +7,7 @@
 
 mod edit;
 mod fix;
+pub mod laws;
 mod names;
 mod reports;
 mod rule;

@@ -1,7 +1,7 @@
 //! The rules, and what is known of each.
 ghost use Rattle.std.specs.Prelude.{◌≡◌, ◌<◌, Some, map, slice_get};
 ghost use Rattle.lint_base.specs.RuleFacts.{facts};
-ghost use Rattle.lint_base.specs.Rules.{all_rules, expansion_of, facts_of, is_opt_in, name_of, number_of};
+ghost use Rattle.lint_base.specs.Rules.{all_rules, expansion_of, facts_of, is_opt_in, name_of, number_of, rule_count};
 
 use Enabled::{AliasOf, ByDefault, ByName};
 use std::fmt;
@@ -167,6 +167,9 @@ pub enum Rule {
     BanAlterExtension,
 }
 
+/// How many rules there are.
+pub(crate) const RULE_COUNT: usize = 78;
+
 /// How a rule comes into a set of rules.
 #[derive(Clone, Copy)]
 enum Enabled {
@@ -182,7 +185,7 @@ enum Enabled {
 type Facts = (&'static str, Enabled);
 
 /// The facts of each rule, in declaration order.
-static FACTS: [Facts; 78] = [
+static FACTS: [Facts; RULE_COUNT] = [
     ("require-concurrent-index-creation", ByDefault),
     ("require-concurrent-index-deletion", ByDefault),
     ("constraint-missing-not-valid", ByDefault),
@@ -283,7 +286,7 @@ fn facts_in(table: &'static [Facts], rule: Rule) -> &'static Facts
 
 impl Rule {
     /// Every rule, in declaration order.
-    pub const ALL: [Rule; 78] = [
+    pub const ALL: [Rule; RULE_COUNT] = [
         Rule::RequireConcurrentIndexCreation,
         Rule::RequireConcurrentIndexDeletion,
         Rule::ConstraintMissingNotValid,
@@ -368,7 +371,7 @@ impl Rule {
     pub(crate) fn number(self) -> usize
         ensures value { result ≡ number_of self }
         ensures place { slice_get all_rules result ≡ Some self }
-        ensures within { result < 78 }
+        ensures within { result < rule_count }
     {
         self as usize
     }

@@ -1,9 +1,8 @@
 //! The rules that lists choose.
 ghost use Rattle.std.specs.Prelude.{◌≡◌, [], fold, filter};
 ghost use Rattle.lint_base.specs.declared.rule.Rule.{Rule};
-ghost use Rattle.lint_base.specs.RuleChoice.{is_alias, is_chosen, is_named, rules_that, with_expansions};
+ghost use Rattle.lint_base.specs.RuleChoice.{is_alias, is_chosen, is_named, rules_that, with_expansion, with_expansions};
 ghost use Rattle.lint_base.specs.RuleSets.{default_rules, has, with_rule, without_rule};
-ghost use Rattle.lint_base.specs.Rules.{expansion_of};
 
 use crate::rule::Rule;
 use crate::rule_set::RuleSet;
@@ -32,6 +31,16 @@ impl RuleSet {
         insert_all(&mut set, rules);
         set
     }
+
+    /// Puts a rule and what it stands for in.
+    pub fn insert_with_expansion(&mut self, rule: Rule)
+        ensures { self.new ≡ fold with_rule self.old (with_expansion rule) }
+    {
+        self.insert(rule);
+        for other in rule.expands_to() {
+            self.insert(*other);
+        }
+    }
 }
 
 // Puts the rules of a list and what they stand for into a set.
@@ -39,17 +48,7 @@ fn insert_all(set: &mut RuleSet, rules: &[Rule])
     ensures { set.new ≡ fold with_rule set.old (with_expansions rules.now) }
 {
     for rule in rules {
-        insert(set, *rule);
-    }
-}
-
-// Puts a rule and what it stands for into a set.
-fn insert(set: &mut RuleSet, rule: Rule)
-    ensures { set.new ≡ fold with_rule (with_rule set.old rule) (expansion_of rule) }
-{
-    set.insert(rule);
-    for other in rule.expands_to() {
-        set.insert(*other);
+        set.insert_with_expansion(*rule);
     }
 }
 
@@ -64,7 +63,7 @@ fn remove_all(set: &mut RuleSet, rules: &[Rule])
 
 // Takes a rule and what it stands for out of a set.
 fn remove(set: &mut RuleSet, rule: Rule)
-    ensures { set.new ≡ fold without_rule (without_rule set.old rule) (expansion_of rule) }
+    ensures { set.new ≡ fold without_rule set.old (with_expansion rule) }
 {
     set.remove(rule);
     for other in rule.expands_to() {

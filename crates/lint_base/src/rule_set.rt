@@ -6,11 +6,11 @@ ghost use Rattle.lint_base.specs.RuleSets.{both_rules, default_rules, has, no_ru
 ghost use Rattle.lint_base.specs.Rules.{all_rules, is_opt_in};
 ghost use Rattle.std.specs.Iterator.{YieldsFirst, item_count};
 
-use crate::rule::Rule;
+use crate::rule::{RULE_COUNT, Rule};
 use std::marker::Model;
 
 /// The bits of all rules.
-const RULE_BITS: u128 = 0x3fff_ffff_ffff_ffff_ffff;
+const RULE_BITS: u128 = (1 << RULE_COUNT) - 1;
 
 /// A set of rules.
 #[derive(Clone, Copy, Debug, PartialEq, Eq)]

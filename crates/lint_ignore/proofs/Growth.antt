@@ -7,14 +7,14 @@ use Rattle.std.proofs.lemmas.List.Sums.{fold-append}
 use Rattle.std.specs.List.{cons_option, flat_map}
 use Rattle.std.specs.Prelude.{filter, not, ◌==◌, if◌then◌else◌}
 use Rattle.lint_base.specs.declared.rule.Rule.{Rule}
-use Rattle.lint_base.specs.Grown.{grown_by_all, grown_by_none, grown_by_first, grown_by_second}
+use Rattle.lint_base.specs.GrownLaws.{grown_by_all, grown_by_none, grown_by_first, grown_by_second}
 use Rattle.lint_base.specs.RuleSets.{Rules, with_rule, no_rules}
 use Rattle.sql_token.specs.declared.token.Tok.{Tok}
 use Rattle.sql_tree.specs.Statement.{Tree, no_token}
 use Rattle.sql_tree.specs.Range.{token_at}
 use Rattle.lint_ignore.specs.declared.ignore.IgnoreKind.{IgnoreKind}
 use Rattle.lint_ignore.specs.declared.part.Part.{Part as Kept}
-use Rattle.lint_ignore.specs.Part.{Part, part_of, trimmed, comma_pieces, pieces_left}
+use Rattle.lint_ignore.specs.Part.{Part, part_of, trimmed, comma_parts, parts_left}
 use Rattle.lint_ignore.specs.Comment.{ignore_of, ignore_in_token}
 use Rattle.lint_ignore.specs.Names.{names_of, names_in, rules_of_name, unknown_name, known_name}
 use Rattle.lint_ignore.specs.Found.{Lists, HasGrown, followed_by, named, nothing, rules_named, said, all_said, ignore_comments, ignore_said, found_from}
@@ -55,7 +55,7 @@ grown_second old mid new a b e h = record {
 -- the names so far are kept, and those of what is left follow them
 pub record IsReading (rest : Part) (old : Lists) (ignore : ℕ) (left : Option Kept) (names : Rules) (now : Lists) : Type 0 where
   pub done : List Part
-  pub split : names_in rest ≡ done ++ names_of (pieces_left left)
+  pub split : names_in rest ≡ done ++ names_of (parts_left left)
   pub rules : names ≡ fold with_rule no_rules (flat_map rules_of_name done)
   pub kept : now ≡ followed_by old (named ignore done)
 
@@ -80,7 +80,7 @@ reading_begins kept old ignore names now e same =
 
 pub reading_goes_on : (rest : Part) (old : Lists) (ignore : ℕ) (part piece : Kept) (next : Option Kept) (names more : Rules) (now new : Lists)
     → IsReading rest old ignore (Some part) names now
-    → comma_pieces (part_of part) ≡ part_of piece ∷ pieces_left next
+    → comma_parts (part_of part) ≡ part_of piece ∷ parts_left next
     → more ≡ fold with_rule names (flat_map rules_of_name (names_of (part_of piece ∷ [])))
     → new ≡ followed_by now (named ignore (names_of (part_of piece ∷ [])))
     → IsReading rest old ignore next more new
@@ -88,7 +88,7 @@ reading_goes_on rest old ignore part piece next names more now new h cut rules k
     let here : List Part = names_of (part_of piece ∷ []) in
     record {
       done = h.done ++ here;
-      split = h.split ∙ (ap (λ (ps : List Part). h.done ++ names_of ps) cut ∙ (ap (λ (ps : List Part). h.done ++ ps) (names_of_cons (part_of piece) (pieces_left next)) ∙ sym (append_assoc h.done here (names_of (pieces_left next)))));
+      split = h.split ∙ (ap (λ (ps : List Part). h.done ++ names_of ps) cut ∙ (ap (λ (ps : List Part). h.done ++ ps) (names_of_cons (part_of piece) (parts_left next)) ∙ sym (append_assoc h.done here (names_of (parts_left next)))));
       rules =
           rules
           ∙ (ap (λ (s : Rules). fold with_rule s (flat_map rules_of_name here)) h.rules
@@ -112,7 +112,7 @@ reading_kept rest old ignore names now h = h.kept ∙ ap (λ (ps : List Part). f
 pub reading_stops : (rest : Part) (old : Lists) (ignore : ℕ) (left : Option Kept) (names : Rules) (now new : Lists)
     → IsReading rest old ignore left names now → new ≡ now → HasGrown old new (named ignore (names_in rest))
 reading_stops rest old ignore left names now new h e =
-    let more : List Part = names_of (pieces_left left) in
+    let more : List Part = names_of (parts_left left) in
     let whole : named ignore (names_in rest) ≡ followed_by (named ignore h.done) (named ignore more) =
     ap (λ (ps : List Part). named ignore ps) h.split ∙ named_append ignore h.done more in
     let P : Lists → Type 0 = λ table. HasGrown old new table in

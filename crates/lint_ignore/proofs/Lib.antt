@@ -1,7 +1,7 @@
 pub mod Cover
 pub mod Growth
 pub mod LineSets
-pub mod Marks
+pub mod Delimiters
 pub mod Parts
 pub mod Places
 pub mod RuleNumbers

@@ -7,15 +7,15 @@ use Rattle.std.specs.Prelude.{◌==◌, ◌&&◌, Some, None, if◌then◌else�
 use Rattle.std.specs.List.{starts_with}
 use Rattle.std.specs.Str.{IsCharBoundary}
 use Rattle.std.specs.Str.Pattern.{FindsText, SplitsAroundMatch, FindsTextPrefix, StripsPrefix, LacksTextAt}
-use Rattle.lint_ignore.specs.Part.{Part, before_dashes, pieces_from, with_front}
+use Rattle.lint_ignore.specs.Part.{Part, before_dashes, parts_from, with_prefix}
 
 -- ---- a text at the front
 
-pub lacks_front : (n s : List ℕ) → FindsTextPrefix n s None → starts_with eqb s n ≡ false
-lacks_front n s h = sym (starts_text false n s h)
+pub lacks_prefix : (n s : List ℕ) → FindsTextPrefix n s None → starts_with eqb s n ≡ false
+lacks_prefix n s h = sym (starts_text false n s h)
 
-pub has_front : (n s x : List ℕ) → StripsPrefix (FindsTextPrefix n) s x → (starts_with eqb s n ≡ true) × (x ≡ drop (length n) s)
-has_front n s x (k, finds, is, len) =
+pub has_prefix : (n s x : List ℕ) → StripsPrefix (FindsTextPrefix n) s x → (starts_with eqb s n ≡ true) × (x ≡ drop (length n) s)
+has_prefix n s x (k, finds, is, len) =
     let P : ℕ → Type 0 = λ i. IsCharBoundary s i in
     let at : IsCharBoundary s k = subst P (sym finds.0) finds.2 in
     (sym (starts_text true n s (k, finds, at)), is ∙ ap (λ (i : ℕ). drop i s) finds.0)
@@ -57,40 +57,40 @@ up_to_dashes (b ∷ bs) rest (suc i) lacks at =
     step_no b bs (no_dashes b bs (lacks 0 (omega arith))) ∙ ap (λ (xs : List ℕ). b ∷ xs) (up_to_dashes bs rest i (λ k lt. lacks (suc k) (omega arith)) at)
 
 -- what `split_once` gives
-pub front_of_dashes : (s front back : List ℕ) → SplitsAroundMatch (FindsText (45 ∷ 45 ∷ [])) s front back → before_dashes s ≡ front
-front_of_dashes s front back h = up_to_dashes s (drop h.1 s) h.0 h.2.0 h.2.1.split ∙ sym h.3
+pub prefix_of_dashes : (s front back : List ℕ) → SplitsAroundMatch (FindsText (45 ∷ 45 ∷ [])) s front back → before_dashes s ≡ front
+prefix_of_dashes s front back h = up_to_dashes s (drop h.1 s) h.0 h.2.0 h.2.1.split ∙ sym h.3
 
 -- ---- commas
 
-pub step_comma : (at b : ℕ) (bs : List ℕ) → (b == 44) ≡ false → pieces_from at (b ∷ bs) ≡ with_front at b (pieces_from (at + 1) bs)
-step_comma at b bs e = λ i. (if e i then record { at = at; bytes = [] } ∷ pieces_from (at + 1) bs else with_front at b (pieces_from (at + 1) bs))
+pub step_comma : (at b : ℕ) (bs : List ℕ) → (b == 44) ≡ false → parts_from at (b ∷ bs) ≡ with_prefix at b (parts_from (at + 1) bs)
+step_comma at b bs e = λ i. (if e i then record { at = at; bytes = [] } ∷ parts_from (at + 1) bs else with_prefix at b (parts_from (at + 1) bs))
 
 no_comma : (b : ℕ) → b ≢ 44 → (b == 44) ≡ false
 no_comma b h = grind (arith, nat_tests)
 
 -- no byte is a comma
-pub pieces_plain : (at : ℕ) (xs : List ℕ) → ((i : ℕ) → i < length xs → get_or xs i 0 ≢ 44) → pieces_from at xs ≡ record { at = at; bytes = xs } ∷ []
+pub pieces_plain : (at : ℕ) (xs : List ℕ) → ((i : ℕ) → i < length xs → get_or xs i 0 ≢ 44) → parts_from at xs ≡ record { at = at; bytes = xs } ∷ []
 pieces_plain at [] h = refl
 pieces_plain at (x ∷ xs) h =
     step_comma at x xs (no_comma x (h 0 (omega arith)))
-    ∙ ap (λ (ps : List Part). with_front at x ps) (pieces_plain (at + 1) xs (λ i lt. h (suc i) (omega arith)))
+    ∙ ap (λ (ps : List Part). with_prefix at x ps) (pieces_plain (at + 1) xs (λ i lt. h (suc i) (omega arith)))
 
 -- the first comma is between xs and ys
-pub pieces_comma : (at : ℕ) (xs ys : List ℕ) → ((i : ℕ) → i < length xs → get_or xs i 0 ≢ 44) → pieces_from at (xs ++ 44 ∷ ys) ≡ record { at = at; bytes = xs } ∷ pieces_from (at + length xs + 1) ys
+pub pieces_comma : (at : ℕ) (xs ys : List ℕ) → ((i : ℕ) → i < length xs → get_or xs i 0 ≢ 44) → parts_from at (xs ++ 44 ∷ ys) ≡ record { at = at; bytes = xs } ∷ parts_from (at + length xs + 1) ys
 pieces_comma at [] ys h =
     let same : at + 1 ≡ at + 0 + 1 = omega arith in
-    ap (λ (n : ℕ). record { at = at; bytes = [] } ∷ pieces_from n ys) same
+    ap (λ (n : ℕ). record { at = at; bytes = [] } ∷ parts_from n ys) same
 pieces_comma at (x ∷ xs) ys h =
     let same : at + 1 + length xs + 1 ≡ at + length (x ∷ xs) + 1 = omega arith in
     step_comma at x (xs ++ 44 ∷ ys) (no_comma x (h 0 (omega arith)))
-    ∙ (ap (λ (ps : List Part). with_front at x ps) (pieces_comma (at + 1) xs ys (λ i lt. h (suc i) (omega arith)))
-    ∙ ap (λ (n : ℕ). record { at = at; bytes = x ∷ xs } ∷ pieces_from n ys) same)
+    ∙ (ap (λ (ps : List Part). with_prefix at x ps) (pieces_comma (at + 1) xs ys (λ i lt. h (suc i) (omega arith)))
+    ∙ ap (λ (n : ℕ). record { at = at; bytes = x ∷ xs } ∷ parts_from n ys) same)
 
 -- what `split_once` gives
-pub split_some : (at : ℕ) (bs : List ℕ) (piece rest : Bor (List ℕ)) → IsSplitOnceResult 44 bs (Some (piece, rest)) → pieces_from at bs ≡ record { at = at; bytes = piece.now } ∷ pieces_from (at + length piece.now + 1) rest.now
+pub split_some : (at : ℕ) (bs : List ℕ) (piece rest : Bor (List ℕ)) → IsSplitOnceResult 44 bs (Some (piece, rest)) → parts_from at bs ≡ record { at = at; bytes = piece.now } ∷ parts_from (at + length piece.now + 1) rest.now
 split_some at bs piece rest h =
     let parts = split_parts 44 bs (Some (piece, rest)) h (omega arith) in
-    ap (λ (xs : List ℕ). pieces_from at xs) parts.0 ∙ pieces_comma at piece.now rest.now parts.1
+    ap (λ (xs : List ℕ). parts_from at xs) parts.0 ∙ pieces_comma at piece.now rest.now parts.1
 
-pub split_none : (at : ℕ) (bs : List ℕ) → IsSplitOnceResult 44 bs None → pieces_from at bs ≡ record { at = at; bytes = bs } ∷ []
+pub split_none : (at : ℕ) (bs : List ℕ) → IsSplitOnceResult 44 bs None → parts_from at bs ≡ record { at = at; bytes = bs } ∷ []
 split_none at bs h = pieces_plain at bs (split_parts 44 bs None h (omega arith))

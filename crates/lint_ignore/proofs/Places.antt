@@ -25,12 +25,12 @@ use Rattle.lint_ignore.specs.declared.ignore.Ignore.{Ignore}
 use Rattle.lint_ignore.specs.declared.ignore.IgnoreKind.{IgnoreKind}
 use Rattle.lint_ignore.specs.declared.ignore.IgnoreKind.TheVariants.{File, Line}
 use Rattle.lint_ignore.specs.declared.ignore.IgnorePiece.{IgnorePiece}
-use Rattle.lint_ignore.specs.Part.{Part, range_of, part_after, part_before, trimmed, trimmed_end, before_dashes, part_before_dashes, with_front, pieces_from, comma_pieces}
-use Rattle.lint_ignore.specs.Comment.{CanCutMarks, body_of, comment_body, file_text, ignore_in, ignore_in_token, inside, line_text, token_part}
+use Rattle.lint_ignore.specs.Part.{Part, range_of, part_after, part_before, trimmed, trimmed_end, before_dashes, part_before_dashes, with_prefix, parts_from, comma_parts}
+use Rattle.lint_ignore.specs.Comment.{CanCutDelimiters, body_of, comment_body, file_text, ignore_in, ignore_in_token, inside, line_text, token_part}
 use Rattle.lint_ignore.specs.Names.{known_by, known_name, names_in, unknown_by, unknown_name}
 use Rattle.lint_ignore.specs.Found.{all_said, found_in, ignore_comments}
-use Rattle.lint_ignore.specs.Places.{IsPlace, NamesStand}
-use Rattle.lint_ignore.proofs.Marks.{marks_of}
+use Rattle.lint_ignore.specs.Places.{IsPlace, NamesLie}
+use Rattle.lint_ignore.proofs.Delimiters.{delimiters_of}
 use Rattle.lint_ignore.proofs.Parts.{step_no, step_yes, step_comma}
 
 -- ---- parts of parts
@@ -69,8 +69,8 @@ part_of_part a b c outer inner =
       back_utf8 = IsUtf8-append inner.back outer.back inner.back_utf8 outer.back_utf8;
     }
 
-part_in_front : (p : Part) (n : ℕ) → IsUtf8 p.bytes → IsCharBoundary p.bytes n → IsPartOf p (part_before n p)
-part_in_front p n utf8 cut = record {
+part_in_prefix : (p : Part) (n : ℕ) → IsUtf8 p.bytes → IsCharBoundary p.bytes n → IsPartOf p (part_before n p)
+part_in_prefix p n utf8 cut = record {
   front = [];
   back = drop n p.bytes;
   is = sym (take-append-drop n p.bytes);
@@ -80,8 +80,8 @@ part_in_front p n utf8 cut = record {
   back_utf8 = IsUtf8-drop p.bytes n utf8 cut;
 }
 
-front_dropped : (p : Part) (n : ℕ) → IsUtf8 p.bytes → IsCharBoundary p.bytes n → IsPartOf p (part_after n p)
-front_dropped p n utf8 cut = record {
+prefix_dropped : (p : Part) (n : ℕ) → IsUtf8 p.bytes → IsCharBoundary p.bytes n → IsPartOf p (part_after n p)
+prefix_dropped p n utf8 cut = record {
   front = take n p.bytes;
   back = [];
   is = sym (take-append-drop n p.bytes) ∙ ap (λ (xs : List ℕ). take n p.bytes ++ xs) (sym (append-nil (drop n p.bytes)));
@@ -97,10 +97,10 @@ both : (a b : Bool) → (a && b) ≡ true → (a ≡ true) × (b ≡ true)
 both true b h = (refl, h)
 both false b h = absurd (cc)
 
-scalars_front : (cs ds : List ℕ) → all_scalars (cs ++ ds) ≡ true → all_scalars cs ≡ true
-scalars_front [] ds h = refl
-scalars_front (c ∷ cs) ds h =
-    let parts = both _ (all_scalars (cs ++ ds)) h in ap (λ (b : Bool). b && all_scalars cs) parts.0 ∙ scalars_front cs ds parts.1
+scalars_prefix : (cs ds : List ℕ) → all_scalars (cs ++ ds) ≡ true → all_scalars cs ≡ true
+scalars_prefix [] ds h = refl
+scalars_prefix (c ∷ cs) ds h =
+    let parts = both _ (all_scalars (cs ++ ds)) h in ap (λ (b : Bool). b && all_scalars cs) parts.0 ∙ scalars_prefix cs ds parts.1
 
 scalars_back : (cs ds : List ℕ) → all_scalars (cs ++ ds) ≡ true → all_scalars ds ≡ true
 scalars_back [] ds h = h
@@ -141,7 +141,7 @@ part_trimmed_start p utf8 =
       back = [];
       is = bytes ∙ ap (λ (xs : List ℕ). encode_utf8_all front ++ xs) (sym (append-nil (encode_utf8_all kept)));
       place = omega (arith, size);
-      front_utf8 = (front, (scalars_front front kept scalars, refl));
+      front_utf8 = (front, (scalars_prefix front kept scalars, refl));
       utf8 = (kept, (scalars_back front kept scalars, refl));
       back_utf8 = IsUtf8-nil;
     }
@@ -160,7 +160,7 @@ part_trimmed_end p utf8 =
       is = sym (encodes-chars p.bytes utf8) ∙ (ap encode_utf8_all split ∙ encodes-append kept back);
       place = sym (add-zero p.at);
       front_utf8 = IsUtf8-nil;
-      utf8 = (kept, (scalars_front kept back scalars, refl));
+      utf8 = (kept, (scalars_prefix kept back scalars, refl));
       back_utf8 = (back, (scalars_back kept back scalars, refl));
     }
 
@@ -191,7 +191,7 @@ part_without_dashes p utf8 =
     ]
     in
     let P : List ℕ → Type 0 = λ bytes. IsPartOf p (record { at = p.at; bytes = bytes }) in
-    subst P (sym is) (part_in_front p n utf8 cut)
+    subst P (sym is) (part_in_prefix p n utf8 cut)
 
 -- ---- the text that a body begins with
 
@@ -212,7 +212,7 @@ abbrev Stand : Part → ℕ → ℕ → List ℕ → List Part → Type 0
 Stand whole start at u [] = ⊥
 Stand whole start at u (p ∷ ps) = (p.at ≡ at) × IsPartOf whole (record { at = start; bytes = u ++ p.bytes }) × All (IsPartOf whole) ps
 
-longer : (whole : Part) (start at b : ℕ) (u : List ℕ) (ps : List Part) → Stand whole start (at + 1) (u ++ b ∷ []) ps → Stand whole start at u (with_front at b ps)
+longer : (whole : Part) (start at b : ℕ) (u : List ℕ) (ps : List Part) → Stand whole start (at + 1) (u ++ b ∷ []) ps → Stand whole start at u (with_prefix at b ps)
 longer whole start at b u [] h = h
 longer whole start at b u (p ∷ ps) h =
     let P : List ℕ → Type 0 = λ bytes. IsPartOf whole (record { at = start; bytes = bytes }) in
@@ -232,8 +232,8 @@ is_comma : (b : ℕ) → (b == 44) ≡ true → b ≡ 44
 is_comma b e = grind (arith, nat_tests)
 
 -- a text is cut before and after a comma
-comma_parts : (u bs : List ℕ) → IsUtf8 (u ++ 44 ∷ bs) → IsUtf8 u × IsUtf8 (44 ∷ bs) × IsUtf8 bs
-comma_parts u bs utf8 =
+around_comma : (u bs : List ℕ) → IsUtf8 (u ++ 44 ∷ bs) → IsUtf8 u × IsUtf8 (44 ∷ bs) × IsUtf8 bs
+around_comma u bs utf8 =
     let at : get_or (u ++ 44 ∷ bs) (length u) 0 ≡ 44 = get_or_at u 44 bs 0 (length u) refl in
     let cut : IsCharBoundary (u ++ 44 ∷ bs) (length u) = IsCharBoundary-before_ascii (u ++ 44 ∷ bs) (length u) (omega (arith, length-append u (44 ∷ bs))) (omega arith) in
     let back : IsUtf8 (44 ∷ bs) = subst IsUtf8 (drop_at u (44 ∷ bs) (length u) refl) (IsUtf8-drop (u ++ 44 ∷ bs) (length u) utf8 cut) in
@@ -244,11 +244,11 @@ abbrev up_to_comma : List ℕ → List ℕ → List ℕ
 up_to_comma front u = front ++ (u ++ 44 ∷ [])
 
 at_comma : (whole : Part) (front u bs : List ℕ) (at : ℕ) → whole.bytes ≡ front ++ (u ++ 44 ∷ bs) → at ≡ whole.at + length front + length u → IsUtf8 front → IsUtf8 (u ++ 44 ∷ bs)
-    → Stand whole (whole.at + length (up_to_comma front u)) (at + 1) [] (pieces_from (at + 1) bs) → Stand whole (whole.at + length front) at u (pieces_from at (44 ∷ bs))
+    → Stand whole (whole.at + length (up_to_comma front u)) (at + 1) [] (parts_from (at + 1) bs) → Stand whole (whole.at + length front) at u (parts_from at (44 ∷ bs))
 at_comma whole front u bs at is place before utf8 rest =
-    let parts = comma_parts u bs utf8 in
+    let parts = around_comma u bs utf8 in
     let next : whole.at + length (up_to_comma front u) ≡ at + 1 = omega (arith, length-append front (u ++ 44 ∷ []), length-append u (44 ∷ [])) in
-    let P : ℕ → Type 0 = λ n. Stand whole n (at + 1) [] (pieces_from (at + 1) bs) in
+    let P : ℕ → Type 0 = λ n. Stand whole n (at + 1) [] (parts_from (at + 1) bs) in
     let none : u ≡ u ++ [] = sym (append-nil u) in (
       refl,
       record {
@@ -260,10 +260,10 @@ at_comma whole front u bs at is place before utf8 rest =
         utf8 = subst IsUtf8 none parts.0;
         back_utf8 = parts.1;
       },
-      after_comma whole (at + 1) (pieces_from (at + 1) bs) (subst P next rest),
+      after_comma whole (at + 1) (parts_from (at + 1) bs) (subst P next rest),
     )
 
-pieces_stand : (whole : Part) (front u bs : List ℕ) (at : ℕ) → whole.bytes ≡ front ++ (u ++ bs) → at ≡ whole.at + length front + length u → IsUtf8 front → IsUtf8 (u ++ bs) → Stand whole (whole.at + length front) at u (pieces_from at bs)
+pieces_stand : (whole : Part) (front u bs : List ℕ) (at : ℕ) → whole.bytes ≡ front ++ (u ++ bs) → at ≡ whole.at + length front + length u → IsUtf8 front → IsUtf8 (u ++ bs) → Stand whole (whole.at + length front) at u (parts_from at bs)
 pieces_stand whole front u [] at is place before utf8 = (
   refl,
   record {
@@ -281,10 +281,10 @@ pieces_stand whole front u (b ∷ bs) at is place before utf8 =
     elim (cases_Bool (b == 44)) [
       | inl e ↦
           let comma : b ≡ 44 = is_comma b e in
-          let P : ℕ → Type 0 = λ x. Stand whole (whole.at + length front) at u (pieces_from at (x ∷ bs)) in
+          let P : ℕ → Type 0 = λ x. Stand whole (whole.at + length front) at u (parts_from at (x ∷ bs)) in
           let here : whole.bytes ≡ front ++ (u ++ 44 ∷ bs) = is ∙ ap (λ (x : ℕ). front ++ (u ++ x ∷ bs)) comma in
           let good : IsUtf8 (u ++ 44 ∷ bs) = subst (λ (x : ℕ). IsUtf8 (u ++ x ∷ bs)) comma utf8 in
-          let parts = comma_parts u bs good in
+          let parts = around_comma u bs good in
           let moved : front ++ (u ++ 44 ∷ bs) ≡ up_to_comma front u ++ bs = simp append_assoc in
           let later : at + 1 ≡ whole.at + length (up_to_comma front u) + 0 = omega (arith, length-append front (u ++ 44 ∷ []), length-append u (44 ∷ [])) in
           let done : IsUtf8 (up_to_comma front u) = IsUtf8-append front (u ++ 44 ∷ []) before (IsUtf8-append u (44 ∷ []) parts.0 comma_utf8) in
@@ -294,23 +294,23 @@ pieces_stand whole front u (b ∷ bs) at is place before utf8 =
           let moved : u ++ b ∷ bs ≡ (u ++ b ∷ []) ++ bs = sym (append_assoc u (b ∷ []) bs) in
           let later : at + 1 ≡ whole.at + length front + length (u ++ b ∷ []) = omega (arith, length-append u (b ∷ [])) in
           subst P (sym (step_comma at b bs e))
-          (longer whole (whole.at + length front) at b u (pieces_from (at + 1) bs)
+          (longer whole (whole.at + length front) at b u (parts_from (at + 1) bs)
           (pieces_stand whole front (u ++ b ∷ []) bs (at + 1) (is ∙ ap (λ (xs : List ℕ). front ++ xs) moved) later before (subst IsUtf8 moved utf8)))
     ]
 
 -- the pieces of a part
-parts_between_commas : (p : Part) → IsUtf8 p.bytes → All (IsPartOf p) (comma_pieces p)
+parts_between_commas : (p : Part) → IsUtf8 p.bytes → All (IsPartOf p) (comma_parts p)
 parts_between_commas p utf8 =
     let place : p.at ≡ p.at + 0 + 0 = omega arith in
-    let P : ℕ → Type 0 = λ n. Stand p n p.at [] (comma_pieces p) in
-    after_comma p p.at (comma_pieces p) (subst P (add-zero p.at) (pieces_stand p [] [] p.bytes p.at refl place IsUtf8-nil utf8))
+    let P : ℕ → Type 0 = λ n. Stand p n p.at [] (comma_parts p) in
+    after_comma p p.at (comma_parts p) (subst P (add-zero p.at) (pieces_stand p [] [] p.bytes p.at refl place IsUtf8-nil utf8))
 
 -- the names of a part
 parts_named : (whole p : Part) → IsPartOf whole p → All (IsPartOf whole) (names_in p)
 parts_named whole p h =
     let trim_each : (x : Part) → IsPartOf p x → IsPartOf whole (trimmed x) = λ x inner. part_of_part whole x (trimmed x) (part_of_part whole p x h inner) (part_trimmed x inner.utf8) in
-    let kept : All (IsPartOf p) (filter (λ x. not (length x.bytes == 0)) (comma_pieces p)) = All-filter (λ x. not (length x.bytes == 0)) (IsPartOf p) (comma_pieces p) (parts_between_commas p h.utf8) in
-    All-map (IsPartOf whole) trimmed (filter (λ x. not (length x.bytes == 0)) (comma_pieces p)) (All-weaker (IsPartOf p) (λ x. IsPartOf whole (trimmed x)) trim_each _ kept)
+    let kept : All (IsPartOf p) (filter (λ x. not (length x.bytes == 0)) (comma_parts p)) = All-filter (λ x. not (length x.bytes == 0)) (IsPartOf p) (comma_parts p) (parts_between_commas p h.utf8) in
+    All-map (IsPartOf whole) trimmed (filter (λ x. not (length x.bytes == 0)) (comma_parts p)) (All-weaker (IsPartOf p) (λ x. IsPartOf whole (trimmed x)) trim_each _ kept)
 
 -- ---- comments
 
@@ -344,14 +344,14 @@ after_mark z n cut =
     let size = length-drop 2 z in
     (omega (arith, cut.0, size), λ lt high. let at = get_or-drop 2 z n 0 in let low = cut.1 (omega arith) in omega (arith, low (omega arith)))
 
-stands_inside : (whole p : Part) (k : TokKind) → IsPartOf whole p → CanCutMarks k p.bytes → IfSome (inside k p) (IsPartOf whole)
-stands_inside whole p LineComment h cut = part_of_part whole p (part_after 2 p) h (front_dropped p 2 h.utf8 cut)
+stands_inside : (whole p : Part) (k : TokKind) → IsPartOf whole p → CanCutDelimiters k p.bytes → IfSome (inside k p) (IsPartOf whole)
+stands_inside whole p LineComment h cut = part_of_part whole p (part_after 2 p) h (prefix_dropped p 2 h.utf8 cut)
 stands_inside whole p BlockComment h cut =
     let (long, first, last) = cut in
-    let rest = front_dropped p 2 h.utf8 first in
+    let rest = prefix_dropped p 2 h.utf8 first in
     let place : length p.bytes - 2 ≡ 2 + (length p.bytes - 4) = omega arith in
     let at : IsCharBoundary p.bytes (2 + (length p.bytes - 4)) = subst (λ (n : ℕ). IsCharBoundary p.bytes n) place last in
-    part_of_part whole (part_after 2 p) (part_before (length p.bytes - 4) (part_after 2 p)) (part_of_part whole p (part_after 2 p) h rest) (part_in_front (part_after 2 p) (length p.bytes - 4) rest.utf8 (after_mark p.bytes (length p.bytes - 4) at))
+    part_of_part whole (part_after 2 p) (part_before (length p.bytes - 4) (part_after 2 p)) (part_of_part whole p (part_after 2 p) h rest) (part_in_prefix (part_after 2 p) (length p.bytes - 4) rest.utf8 (after_mark p.bytes (length p.bytes - 4) at))
 stands_inside whole p _ h cut = tt
 
 stands_body : (whole : Part) (o : Option Part) → IfSome o (IsPartOf whole) → IfSome (option_and_then (λ p. Some (body_of p)) o) (IsPartOf whole)
@@ -362,22 +362,22 @@ stands_body whole (Some p) h =
     let third = part_trimmed_end (part_before_dashes (trimmed p)) second.utf8 in
     part_of_part whole p (body_of p) h (part_of_part p (trimmed p) (body_of p) first (part_of_part (trimmed p) (part_before_dashes (trimmed p)) (body_of p) second third))
 
-abbrev StandsAt : Part → Part × IgnoreKind → Type 0
-StandsAt whole c = IsPartOf whole c.0
+abbrev LiesAt : Part → Part × IgnoreKind → Type 0
+LiesAt whole c = IsPartOf whole c.0
 
-begun : (whole body : Part) → IsPartOf whole body → IfSome (ignore_in body) (StandsAt whole)
+begun : (whole body : Part) → IsPartOf whole body → IfSome (ignore_in body) (LiesAt whole)
 begun whole body h = by_file (starts_with nat_eq body.bytes file_text) refl
   where
-    by_line : (b : Bool) → starts_with nat_eq body.bytes line_text ≡ b → IfSome (if b then Some (part_after (length line_text) body, Line) else None) (StandsAt whole)
-    by_line true e = part_of_part whole body (part_after (length line_text) body) h (front_dropped body (length line_text) h.utf8 (prefix_cut body.bytes line_text 12 h.utf8 e refl (lit< tt)))
+    by_line : (b : Bool) → starts_with nat_eq body.bytes line_text ≡ b → IfSome (if b then Some (part_after (length line_text) body, Line) else None) (LiesAt whole)
+    by_line true e = part_of_part whole body (part_after (length line_text) body) h (prefix_dropped body (length line_text) h.utf8 (prefix_cut body.bytes line_text 12 h.utf8 e refl (lit< tt)))
     by_line false e = tt
 
     by_file : (b : Bool) → starts_with nat_eq body.bytes file_text ≡ b
-        → IfSome (if b then Some (part_after (length file_text) body, File) else (if starts_with nat_eq body.bytes line_text then Some (part_after (length line_text) body, Line) else None)) (StandsAt whole)
-    by_file true e = part_of_part whole body (part_after (length file_text) body) h (front_dropped body (length file_text) h.utf8 (prefix_cut body.bytes file_text 17 h.utf8 e refl (lit< tt)))
+        → IfSome (if b then Some (part_after (length file_text) body, File) else (if starts_with nat_eq body.bytes line_text then Some (part_after (length line_text) body, Line) else None)) (LiesAt whole)
+    by_file true e = part_of_part whole body (part_after (length file_text) body) h (prefix_dropped body (length file_text) h.utf8 (prefix_cut body.bytes file_text 17 h.utf8 e refl (lit< tt)))
     by_file false e = by_line (starts_with nat_eq body.bytes line_text) refl
 
-stands_ignored : (whole : Part) (o : Option Part) → IfSome o (IsPartOf whole) → IfSome (option_and_then ignore_in o) (StandsAt whole)
+stands_ignored : (whole : Part) (o : Option Part) → IfSome o (IsPartOf whole) → IfSome (option_and_then ignore_in o) (LiesAt whole)
 stands_ignored whole None h = tt
 stands_ignored whole (Some body) h = begun whole body h
 
@@ -386,11 +386,11 @@ pub body_stands : (tree : Tree) (i : ℕ) → IsTree tree → IsUtf8 tree.text �
 body_stands tree i is utf8 within =
     let tok : Tok = token_at tree.toks i in
     let here = token_stands tree i is utf8 within in
-    let marks : CanCutMarks tok.kind (text_of tree.text tok) = marks_of tree i (text_of tree.text tok) is within here.utf8 refl in
+    let marks : CanCutDelimiters tok.kind (text_of tree.text tok) = delimiters_of tree i (text_of tree.text tok) is within here.utf8 refl in
     stands_body (all_of tree.text) (inside tok.kind (token_part tree.text tok)) (stands_inside (all_of tree.text) (token_part tree.text tok) tok.kind here marks)
 
 -- an ignore comment is in its text
-comment_stands : (tree : Tree) (i : ℕ) → IsTree tree → IsUtf8 tree.text → i < length tree.toks → IfSome (ignore_in_token tree.text (token_at tree.toks i)) (StandsAt (all_of tree.text))
+comment_stands : (tree : Tree) (i : ℕ) → IsTree tree → IsUtf8 tree.text → i < length tree.toks → IfSome (ignore_in_token tree.text (token_at tree.toks i)) (LiesAt (all_of tree.text))
 comment_stands tree i is utf8 within = stands_ignored (all_of tree.text) (comment_body tree.text (token_at tree.toks i)) (body_stands tree i is utf8 within)
 
 kept_all : {Y : Type 0} (P : Y → Type 0) (o : Option Y) (ys : List Y) → IfSome o P → All P ys → All P (cons_option o ys)
@@ -402,9 +402,9 @@ filter_map_all f P [] h = All-nil P
 filter_map_all f P (x ∷ xs) h =
     kept_all P (f x) (filter_map f xs) (All-head (λ y. IfSome (f y) P) x xs h) (filter_map_all f P xs (All-tail (λ y. IfSome (f y) P) x xs h))
 
-comments_stand : (tree : Tree) → IsTree tree → IsUtf8 tree.text → All (StandsAt (all_of tree.text)) (ignore_comments tree.text tree.toks)
+comments_stand : (tree : Tree) → IsTree tree → IsUtf8 tree.text → All (LiesAt (all_of tree.text)) (ignore_comments tree.text tree.toks)
 comments_stand tree is utf8 =
-    filter_map_all (ignore_in_token tree.text) (StandsAt (all_of tree.text)) tree.toks (All-from_get_or (λ tok. IfSome (ignore_in_token tree.text tok) (StandsAt (all_of tree.text))) tree.toks no_token (λ i within. comment_stands tree i is utf8 within))
+    filter_map_all (ignore_in_token tree.text) (LiesAt (all_of tree.text)) tree.toks (All-from_get_or (λ tok. IfSome (ignore_in_token tree.text tok) (LiesAt (all_of tree.text))) tree.toks no_token (λ i within. comment_stands tree i is utf8 within))
 
 -- ---- the names of a text
 
@@ -456,19 +456,19 @@ unknown_stands t (p ∷ ps) h =
     one None = All-cons (IsReported t) _ [] (place_of t p (All-head (IsPartOf (all_of t)) p ps h)) (All-nil (IsReported t))
     one (Some r) = All-nil (IsReported t)
 
-pieces_known : (t : Text) (number count : ℕ) (cs : List (Part × IgnoreKind)) → number + length cs ≤ count → All (StandsAt (all_of t)) cs → All (IsKnown t count) (all_said number cs).pieces
+pieces_known : (t : Text) (number count : ℕ) (cs : List (Part × IgnoreKind)) → number + length cs ≤ count → All (LiesAt (all_of t)) cs → All (IsKnown t count) (all_said number cs).pieces
 pieces_known t number count [] le h = All-nil (IsKnown t count)
 pieces_known t number count (c ∷ cs) le h =
     All-append (IsKnown t count) (flat_map (known_name number) (names_in c.0)) (all_said (number + 1) cs).pieces
-    (known_stands t number count (names_in c.0) (omega arith) (parts_named (all_of t) c.0 (All-head (StandsAt (all_of t)) c cs h)))
-    (pieces_known t (number + 1) count cs (omega arith) (All-tail (StandsAt (all_of t)) c cs h))
+    (known_stands t number count (names_in c.0) (omega arith) (parts_named (all_of t) c.0 (All-head (LiesAt (all_of t)) c cs h)))
+    (pieces_known t (number + 1) count cs (omega arith) (All-tail (LiesAt (all_of t)) c cs h))
 
-names_reported : (t : Text) (number : ℕ) (cs : List (Part × IgnoreKind)) → All (StandsAt (all_of t)) cs → All (IsReported t) (all_said number cs).reports
+names_reported : (t : Text) (number : ℕ) (cs : List (Part × IgnoreKind)) → All (LiesAt (all_of t)) cs → All (IsReported t) (all_said number cs).reports
 names_reported t number [] h = All-nil (IsReported t)
 names_reported t number (c ∷ cs) h =
     All-append (IsReported t) (flat_map unknown_name (names_in c.0)) (all_said (number + 1) cs).reports
-    (unknown_stands t (names_in c.0) (parts_named (all_of t) c.0 (All-head (StandsAt (all_of t)) c cs h)))
-    (names_reported t (number + 1) cs (All-tail (StandsAt (all_of t)) c cs h))
+    (unknown_stands t (names_in c.0) (parts_named (all_of t) c.0 (All-head (LiesAt (all_of t)) c cs h)))
+    (names_reported t (number + 1) cs (All-tail (LiesAt (all_of t)) c cs h))
 
 ignores_said : (number : ℕ) (cs : List (Part × IgnoreKind)) → length (all_said number cs).ignores ≡ length cs
 ignores_said number [] = refl
@@ -481,8 +481,8 @@ all_known tree is utf8 =
     let count : length (found_in tree).ignores ≡ length cs = ignores_said 0 cs in
     pieces_known tree.text 0 (length (found_in tree).ignores) cs (omega arith) (comments_stand tree is utf8)
 
-pub names_stand_in : (tree : Tree) → IsTree tree → IsUtf8 tree.text → NamesStand tree
-names_stand_in tree is utf8 = record {
+pub names_lie_in : (tree : Tree) → IsTree tree → IsUtf8 tree.text → NamesLie tree
+names_lie_in tree is utf8 = record {
   unknown = names_reported tree.text 0 (ignore_comments tree.text tree.toks) (comments_stand tree is utf8);
   known = All-weaker (IsKnown tree.text (length (found_in tree).ignores)) (λ piece. IsPlace tree.text piece.range) (λ piece h. h.place) (found_in tree).pieces (all_known tree is utf8);
 }

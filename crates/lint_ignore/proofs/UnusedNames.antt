@@ -6,7 +6,8 @@ use Rattle.std.specs.Prelude.{filter}
 use Rattle.sql_token.specs.Token.{Text}
 use Rattle.sql_tree.specs.Statement.{Tree}
 use Rattle.lint_base.specs.declared.violation.Violation.{Violation}
-use Rattle.lint_base.specs.Grown.{GrownBy, grown_by_all, grown_by_first}
+use Rattle.lint_base.specs.Grown.{GrownBy}
+use Rattle.lint_base.specs.GrownLaws.{grown_by_all, grown_by_first}
 use Rattle.lint_base.specs.RuleSets.{Rules}
 use Rattle.lint_ignore.specs.declared.ignore.Ignore.{Ignore}
 use Rattle.lint_ignore.specs.declared.ignore.IgnorePiece.{IgnorePiece}
@@ -49,10 +50,10 @@ pub among_names : (tree : Tree) (text : Text) (ignores : List Ignore) (all : Lis
     → unused_among text ignores all enabled pieces ≡ unused_names tree all rules
 among_names tree text ignores all enabled rules pieces t g p c = λ i. unused_among (t i) (g i) all (c i) (p i)
 
--- the names so far are a front of all
-pub front_reported : (text : Text) (ignores : List Ignore) (all : List Violation) (enabled : Rules) (pieces : List IgnorePiece) (i : ℕ) (old now new table : List Violation)
+-- the names so far are a prefix of all
+pub prefix_reported : (text : Text) (ignores : List Ignore) (all : List Violation) (enabled : Rules) (pieces : List IgnorePiece) (i : ℕ) (old now new table : List Violation)
     → now ≡ old ++ unused_among text ignores all enabled (take i pieces) → new ≡ now → unused_among text ignores all enabled pieces ≡ table → GrownBy old new table
-front_reported text ignores all enabled pieces i old now new table before same is =
+prefix_reported text ignores all enabled pieces i old now new table before same is =
     let upto : List Violation = unused_among text ignores all enabled (take i pieces) in
     let later : List Violation = unused_among text ignores all enabled (drop i pieces) in
     let whole : upto ++ later ≡ table = sym (among-append text ignores all enabled (take i pieces) (drop i pieces)) ∙ (ap (λ (ps : List IgnorePiece). unused_among text ignores all enabled ps) (take-append-drop i pieces) ∙ is) in

@@ -80,10 +80,10 @@ has_disable_comment tree = list_any (is_disable_comment tree.text) tree.toks
 -- ---- where a comment is cut
 
 -- a text of this kind may be cut after its first mark, and before its last one if it has one
-abbrev pub CanCutMarks : TokKind → List ℕ → Type 0
-CanCutMarks LineComment z = IsCharBoundary z 2
-CanCutMarks BlockComment z = (4 ≤ length z) × IsCharBoundary z 2 × IsCharBoundary z (length z - 2)
-CanCutMarks _ z = Unit {0}
+abbrev pub CanCutDelimiters : TokKind → List ℕ → Type 0
+CanCutDelimiters LineComment z = IsCharBoundary z 2
+CanCutDelimiters BlockComment z = (4 ≤ length z) × IsCharBoundary z 2 × IsCharBoundary z (length z - 2)
+CanCutDelimiters _ z = Unit {0}
 
 -- The token of this number is an ignore comment of this kind: this is the rest, and this its range.
 pub record IsIgnore (tree : Tree) (i : ℕ) (bytes : List ℕ) (range : Range) (kind : IgnoreKind) : Type 0 where

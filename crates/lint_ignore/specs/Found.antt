@@ -32,7 +32,7 @@ lists_of found = record { reports = found.reports; ignores = found.ignores.items
 abbrev pub followed_by : Lists → Lists → Lists
 followed_by a b = record { reports = a.reports ++ b.reports; ignores = a.ignores ++ b.ignores; pieces = a.pieces ++ b.pieces }
 
--- each list grew by a front of the one of the table
+-- each list grew by a prefix of the one of the table
 pub record HasGrown (old new table : Lists) : Type 0 where
   pub reports : GrownBy old.reports new.reports table.reports
   pub ignores : GrownBy old.ignores new.ignores table.ignores

@@ -3,12 +3,12 @@ use Rattle.std.specs.Prelude.{ℕ, not, ◌==◌, List, [], ◌∷◌, ◌++◌,
 use Rattle.lint_base.specs.declared.rule.Rule.{Rule}
 use Rattle.lint_base.specs.declared.rule.Rule.TheVariants as rule
 use Rattle.lint_base.specs.declared.violation.Violation.{Violation}
+use Rattle.lint_base.specs.RuleChoice.{with_expansion}
 use Rattle.lint_base.specs.RuleNames.{rule_named}
 use Rattle.lint_base.specs.RuleSets.{rules_in}
-use Rattle.lint_base.specs.Rules.{expansion_of}
 use Rattle.lint_base.specs.Violations.{violation}
 use Rattle.lint_ignore.specs.declared.ignore.IgnorePiece.{IgnorePiece}
-use Rattle.lint_ignore.specs.Part.{Part, range_of, trimmed, comma_pieces}
+use Rattle.lint_ignore.specs.Part.{Part, range_of, trimmed, comma_parts}
 
 -- the pieces that are not empty, each trimmed: a piece of white space alone stays, as an empty name
 abbrev pub names_of : List Part → List Part
@@ -16,17 +16,13 @@ names_of pieces = map trimmed (filter (λ p. not (length p.bytes == 0)) pieces)
 
 -- the names in what follows the prefix of an ignore comment
 abbrev pub names_in : Part → List Part
-names_in rest = names_of (comma_pieces rest)
-
--- a rule and what it stands for
-abbrev pub rule_and_expansion : Rule → List Rule
-rule_and_expansion r = r ∷ expansion_of r
+names_in rest = names_of (comma_parts rest)
 
 -- ---- what a name says, by the rule that it names
 
 abbrev pub rules_by : Option Rule → List Rule
 rules_by None = []
-rules_by (Some r) = rule_and_expansion r
+rules_by (Some r) = with_expansion r
 
 abbrev pub unknown_message : List ℕ → List ℕ
 unknown_message name = codes "unknown name `" ++ name ++ codes "`"
@@ -37,7 +33,7 @@ unknown_by (Some r) name = []
 
 abbrev pub known_by : Option Rule → ℕ → Part → List IgnorePiece
 known_by None ignore name = []
-known_by (Some r) ignore name = record { range = range_of name; rules = rules_in (rule_and_expansion r); ignore = ignore } ∷ []
+known_by (Some r) ignore name = record { range = range_of name; rules = rules_in (with_expansion r); ignore = ignore } ∷ []
 
 -- ---- what a name says
 

@@ -41,20 +41,20 @@ abbrev pub part_before_dashes : Part → Part
 part_before_dashes p = record { at = p.at; bytes = before_dashes p.bytes }
 
 -- the first piece begins one byte earlier, with b
-abbrev pub with_front : ℕ → ℕ → List Part → List Part
-with_front at b [] = []
-with_front at b (p ∷ ps) = record { at = at; bytes = b ∷ p.bytes } ∷ ps
+abbrev pub with_prefix : ℕ → ℕ → List Part → List Part
+with_prefix at b [] = []
+with_prefix at b (p ∷ ps) = record { at = at; bytes = b ∷ p.bytes } ∷ ps
 
 -- the pieces between the commas of some bytes, the first of which is at `at`
-abbrev pub pieces_from : ℕ → List ℕ → List Part
-pieces_from at [] = record { at = at; bytes = [] } ∷ []
-pieces_from at (b ∷ bs) =
-    (if b == 44 then record { at = at; bytes = [] } ∷ pieces_from (at + 1) bs else with_front at b (pieces_from (at + 1) bs))
+abbrev pub parts_from : ℕ → List ℕ → List Part
+parts_from at [] = record { at = at; bytes = [] } ∷ []
+parts_from at (b ∷ bs) =
+    (if b == 44 then record { at = at; bytes = [] } ∷ parts_from (at + 1) bs else with_prefix at b (parts_from (at + 1) bs))
 
-abbrev pub comma_pieces : Part → List Part
-comma_pieces p = pieces_from p.at p.bytes
+abbrev pub comma_parts : Part → List Part
+comma_parts p = parts_from p.at p.bytes
 
 -- the pieces of what is left, if anything is
-abbrev pub pieces_left : Option Kept → List Part
-pieces_left None = []
-pieces_left (Some kept) = comma_pieces (part_of kept)
+abbrev pub parts_left : Option Kept → List Part
+parts_left None = []
+parts_left (Some kept) = comma_parts (part_of kept)

@@ -13,9 +13,9 @@ pub record IsPlace (text : Text) (range : Range) : Type 0 where
   pub end : IsCharBoundary text range.end
 
 -- Each name in the ignore comments of a UTF-8 text is in the text, whether it is known or not.
-pub record NamesStand (tree : Tree) : Type 0 where
+pub record NamesLie (tree : Tree) : Type 0 where
   pub unknown : All (λ v. IsPlace tree.text v.text_range) (found_in tree).reports
   pub known : All (λ piece. IsPlace tree.text piece.range) (found_in tree).pieces
 
-abbrev pub NamesStandInTexts : Type 0
-NamesStandInTexts = (tree : Tree) → IsTree tree → IsUtf8 tree.text → NamesStand tree
+abbrev pub NamesLieInTexts : Type 0
+NamesLieInTexts = (tree : Tree) → IsTree tree → IsUtf8 tree.text → NamesLie tree

@@ -1,6 +1,6 @@
 //! Comments that speak to the linter.
 ghost use Rattle.std.specs.Prelude.{◌≡◌, ◌<◌, ◌+◌, ◌^◌, All, false, length, MatchOption, Some, None};
-ghost use Rattle.lint_ignore.specs.Comment.{BeginsNoBody, CanCutMarks, IsIgnore, comment_body, has_disable_comment, ignore_in, ignore_of, inside, is_disable_comment, token_part};
+ghost use Rattle.lint_ignore.specs.Comment.{BeginsNoBody, CanCutDelimiters, IsIgnore, comment_body, has_disable_comment, ignore_in, ignore_of, inside, is_disable_comment, token_part};
 ghost use Rattle.lint_ignore.specs.Part.{part_of, range_of};
 ghost use Rattle.sql_tree.specs.Range.{token_at};
 
@@ -22,7 +22,7 @@ const DISABLE_TEXT: &str = "squawk-disable-assume-in-transaction";
 
 // What a comment says between its marks.
 fn inside<'t>(kind: TokKind, token: Part<'t>) -> Option<Part<'t>>
-    requires { CanCutMarks kind token.text.now }
+    requires { CanCutDelimiters kind token.text.now }
     ensures { MatchOption result (inside kind (part_of token.entry) ≡ None) (λ p. inside kind (part_of token.entry) ≡ Some (part_of p)) }
 {
     let text = token.text;
@@ -51,7 +51,7 @@ fn kind_at(p: &Parse, i: usize) -> TokKind
 fn token_part<'t>(p: &Parse<'t>, i: usize) -> Part<'t>
     requires { i < length p.now.toks }
     ensures part { part_of result ≡ token_part p.now.text (token_at p.now.toks i) }
-    ensures marks { CanCutMarks (token_at p.now.toks i).kind result.text.now }
+    ensures marks { CanCutDelimiters (token_at p.now.toks i).kind result.text.now }
 {
     let at = p.tokens()[i].start;
     Part {

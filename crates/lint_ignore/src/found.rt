@@ -21,9 +21,10 @@ pub struct Found {
 
 ghost use Rattle.std.specs.Prelude.{◌≡◌, ◌∷◌, [], fold, IfOk, length, OnErr, OnOk};
 ghost use Rattle.std.specs.List.{flat_map};
+ghost use Rattle.lint_base.specs.RuleChoice.{with_expansion};
 ghost use Rattle.lint_base.specs.RuleNames.{rule_named};
 ghost use Rattle.lint_base.specs.RuleSets.{rules_in, with_rule};
-ghost use Rattle.lint_ignore.specs.Names.{names_in, names_of, rule_and_expansion, rules_of_name, unknown_message};
+ghost use Rattle.lint_ignore.specs.Names.{names_in, names_of, rules_of_name, unknown_message};
 ghost use Rattle.lint_ignore.specs.Part.{part_of};
 ghost use Rattle.lint_ignore.specs.Found.{HasGrown, followed_by, found_from, lists_of, named, nothing, rules_named, said};
 
@@ -40,22 +41,12 @@ impl Found {
     }
 }
 
-// Puts a rule and what it stands for into a set.
-fn insert_rule(set: &mut RuleSet, rule: Rule)
-    ensures { set.new ≡ fold with_rule set.old (rule_and_expansion rule) }
-{
-    set.insert(rule);
-    for other in rule.expands_to() {
-        set.insert(*other);
-    }
-}
-
 // A rule and what it stands for.
 fn rule_and_expansion(rule: Rule) -> RuleSet
-    ensures { result ≡ rules_in (rule_and_expansion rule) }
+    ensures { result ≡ rules_in (with_expansion rule) }
 {
     let mut set = RuleSet::empty();
-    insert_rule(&mut set, rule);
+    set.insert_with_expansion(rule);
     set
 }
 
@@ -116,14 +107,14 @@ fn read_piece(
         return Ok(());
     }
     if let Some(rule) = read_name(alloc, piece.trimmed(), ignore, found)? {
-        insert_rule(names, rule);
+        names.insert_with_expansion(rule);
     }
     Ok(())
 }
 
 // Keeps the names in what follows the prefix of an ignore comment, and answers the rules that they
-// name. After the error, which comes when memory runs out, each list has grown by a front of what it was
-// to grow by.
+// name. After the error, which comes when memory runs out, each list has been extended by a prefix of what it
+// would receive.
 fn read_names(
     alloc: Global,
     rest: Part<'_>,
@@ -145,7 +136,7 @@ fn read_names(
 }
 
 // Keeps an ignore comment whose body goes on with `rest`. After the error, which comes when memory runs out,
-// each list has grown by a front of what it was to grow by.
+// each list has been extended by a prefix of what it would receive.
 fn add_ignore(
     alloc: Global,
     rest: Part<'_>,
@@ -170,8 +161,8 @@ fn add_ignore(
 /// Finds the ignore comments of a text, in order, and adds them, the names in them that name a
 /// rule, and reports of those that name none, to what is found already.
 ///
-/// The error comes when memory runs out; then each list is the old one followed by a front of what it was to
-/// grow by.
+/// The error comes when memory runs out; then each list is the old one followed by a prefix of what it would
+/// receive.
 pub fn find_ignores(alloc: Global, p: &Parse, found: &mut Found) -> Result<(), NoMemory>
     ensures ok { OnOk result (lists_of found.new ≡ followed_by (lists_of found.old) (found_from (length found.old.ignores.items) p.now)) }
     ensures err { OnErr result (HasGrown (lists_of found.old) (lists_of found.new) (found_from (length found.old.ignores.items) p.now)) }

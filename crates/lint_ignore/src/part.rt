@@ -15,7 +15,7 @@ impl<'t> Part<'t> {
     ghost use Rattle.std.specs.Prelude.{◌≡◌, ◌∷◌, IfSome, MatchOption};
     ghost use Rattle.std.specs.List.{starts_with};
     ghost use Rattle.std.specs.Prelude.{nat_eq, false, true};
-    ghost use Rattle.lint_ignore.specs.Part.{part_of, part_after, trimmed, trimmed_end, part_before_dashes, range_of, comma_pieces, pieces_left};
+    ghost use Rattle.lint_ignore.specs.Part.{part_of, part_after, trimmed, trimmed_end, part_before_dashes, range_of, comma_parts, parts_left};
 
     /// Its place in the text.
     pub(crate) fn range(self) -> TextRange
@@ -70,7 +70,7 @@ impl<'t> Part<'t> {
 
     /// The piece before the first comma, and what follows that comma if there is one.
     pub(crate) fn split_comma(self) -> (Part<'t>, Option<Part<'t>>)
-        ensures pieces { comma_pieces (part_of self.entry) ≡ part_of result.0 ∷ pieces_left result.1 }
+        ensures pieces { comma_parts (part_of self.entry) ≡ part_of result.0 ∷ parts_left result.1 }
         ensures shorter { IfSome result.1 (λ rest. length rest.text.now < length self.entry.text.now) }
     {
         if let Some((piece, rest)) = self.text.split_once(',') {

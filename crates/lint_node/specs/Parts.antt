@@ -1,5 +1,5 @@
 -- The parts of a statement that rules look at.
-use Rattle.std.specs.Prelude.{Bool, false, List, [], if◌then◌else◌, Option, Some, None}
+use Rattle.std.specs.Prelude.{Bool, false, not, ◌&&◌, List, [], if◌then◌else◌, Option, Some, None}
 use Rattle.std.specs.List.{list_any}
 use Rattle.sql_tree.specs.declared.kinds.ActionKind.{ActionKind}
 use Rattle.sql_tree.specs.declared.kinds.ActionKind.TheVariants as action
@@ -35,6 +35,15 @@ new_constraints a = if same_action a.kind action.AddColumn then constraints_by a
 -- the column that an ADD COLUMN adds (PostgreSQL manual, ALTER TABLE)
 abbrev pub added_column : Action → Option Column
 added_column a = if same_action a.kind action.AddColumn then a.column else None
+
+-- the constraint that an ADD of a constraint adds (PostgreSQL manual, ALTER TABLE, "ADD table_constraint")
+abbrev pub added_constraint : Action → Option Constraint
+added_constraint a = if same_action a.kind action.AddConstraint then a.constraint else None
+
+-- The table is scanned when the constraint is added: it is neither NOT VALID nor by USING INDEX.
+abbrev pub is_checked : Option Constraint → Bool
+is_checked None = false
+is_checked (Some c) = not c.not_valid && not c.by_index
 
 -- the actions of an ALTER TABLE; those of any other ALTER do not count
 abbrev pub table_actions : Stmt → List Action

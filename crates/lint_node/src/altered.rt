@@ -21,7 +21,8 @@ pub fn table_actions(s: &Stmt) -> &[Action]
     }
 }
 
-fn path_in(body: &Body) -> Option<Span>
+/// The path of the object that an ALTER statement alters; none of any other statement.
+pub fn path_in(body: &Body) -> Option<Span>
     ensures { result ≡ path_in body.now }
 {
     match body {

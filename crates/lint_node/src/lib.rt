@@ -12,12 +12,12 @@ mod plain;
 mod same;
 mod types;
 
-pub use altered::{altered_path, table_actions};
+pub use altered::{altered_path, path_in, table_actions};
 pub use parts::{
-    actions_of, added_column, created_elements, has_action, new_constraints, replaces,
-    table_elements,
+    actions_of, added_column, added_constraint, created_elements, has_action, is_checked,
+    new_constraints, replaces, table_elements,
 };
-pub use plain::{is_plain_detach, is_plain_drop, is_plain_reindex};
+pub use plain::{is_plain_detach, is_plain_drop, is_plain_reindex, is_system};
 pub use same::{same_action, same_constraint, same_kind, same_piece, same_type};
 pub use types::{
     ColumnTypes, added_type, column_types, element_type, has_arguments, is_of_kind,

@@ -49,6 +49,27 @@ pub fn added_column(a: &Action) -> Option<&Column>
     }
 }
 
+/// The constraint that an ADD of a constraint adds; none of any other action.
+pub fn added_constraint(a: &Action) -> Option<&Constraint>
+    ensures { option_copied result ≡ spec.added_constraint a.now }
+{
+    if same_action(a.kind, ActionKind::AddConstraint) {
+        a.constraint.as_ref()
+    } else {
+        None
+    }
+}
+
+/// Whether the table is scanned when this constraint is added.
+pub fn is_checked(constraint: Option<&Constraint>) -> bool
+    ensures { result ≡ spec.is_checked (option_copied constraint.entry) }
+{
+    match constraint {
+        Some(constraint) => !constraint.not_valid && !constraint.by_index,
+        None => false,
+    }
+}
+
 /// The constraints of the column that an ADD COLUMN adds; none of any other action.
 pub fn new_constraints(a: &Action) -> &[Constraint]
     ensures { result.now ≡ new_constraints a.now }

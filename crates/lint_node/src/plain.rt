@@ -22,7 +22,8 @@ pub fn is_plain_drop(s: &Stmt) -> bool
     same_kind(s.kind, StmtKind::DropIndex) && drops_plainly(&s.body)
 }
 
-fn is_system(target: ReindexTarget) -> bool
+/// Whether a REINDEX is of the system catalogs, which can't be done CONCURRENTLY.
+pub fn is_system(target: ReindexTarget) -> bool
     ensures { result ≡ spec.is_system target }
 {
     matches!(target, ReindexTarget::System)

@@ -6,7 +6,7 @@ use Rattle.std.specs.List.{flat_map}
 use Rattle.std.specs.Option.{option_map, option_to_list}
 use Rattle.sql_tree.specs.declared.nodes.Stmt.{Stmt}
 use Rattle.sql_tree.specs.Statement.{Tree}
-use Rattle.lint_transaction.specs.Earlier.{any_between, pieces_below}
+use Rattle.lint_transaction.specs.Earlier.{any_between, concat_below}
 use Rattle.lint_transaction.specs.Transaction.{stmt_at}
 use Rattle.lint_transaction.proofs.EarlierLaws.{any_between-next, any_between-suc}
 use Rattle.lint_pass.specs.declared.blocks.Block.{Block}
@@ -15,25 +15,25 @@ use Rattle.lint_pass.specs.Blocks.{begins_at, ends_at, bounds_at, stamps_at, lea
 use Rattle.lint_pass.specs.BlockWalk.{opening_at, openings, stamped, opening_after, block_from, block_by}
 use Rattle.lint_pass.specs.Pieces.{no_piece}
 
-pieces_same : {A : Type 0} (f g : ℕ → List A) (n : ℕ) → ((k : ℕ) → k < n → f k ≡ g k) → pieces_below f n ≡ pieces_below g n
+pieces_same : {A : Type 0} (f g : ℕ → List A) (n : ℕ) → ((k : ℕ) → k < n → f k ≡ g k) → concat_below f n ≡ concat_below g n
 pieces_same f g zero h = refl
 pieces_same f g (suc n) h =
     let front = pieces_same f g n (λ k l. h k (omega arith)) in let last = h n (omega arith) in λ i. front i ++ last i
 
-map-pieces : {A B : Type 0} (h : A → B) (f : ℕ → List A) (n : ℕ) → map h (pieces_below f n) ≡ pieces_below (λ k. map h (f k)) n
+map-pieces : {A B : Type 0} (h : A → B) (f : ℕ → List A) (n : ℕ) → map h (concat_below f n) ≡ concat_below (λ k. map h (f k)) n
 map-pieces h f zero = refl
-map-pieces h f (suc n) = map-append h (pieces_below f n) (f n) ∙ ap (λ xs. xs ++ map h (f n)) (map-pieces h f n)
+map-pieces h f (suc n) = map-append h (concat_below f n) (f n) ∙ ap (λ xs. xs ++ map h (f n)) (map-pieces h f n)
 
-flat_map-pieces : {A B : Type 0} (h : A → List B) (f : ℕ → List A) (n : ℕ) → flat_map h (pieces_below f n) ≡ pieces_below (λ k. flat_map h (f k)) n
+flat_map-pieces : {A B : Type 0} (h : A → List B) (f : ℕ → List A) (n : ℕ) → flat_map h (concat_below f n) ≡ concat_below (λ k. flat_map h (f k)) n
 flat_map-pieces h f zero = refl
-flat_map-pieces h f (suc n) = flat_map-append h (pieces_below f n) (f n) ∙ ap (λ xs. xs ++ flat_map h (f n)) (flat_map-pieces h f n)
+flat_map-pieces h f (suc n) = flat_map-append h (concat_below f n) (f n) ∙ ap (λ xs. xs ++ flat_map h (f n)) (flat_map-pieces h f n)
 
 -- pieces that are all empty under a test
-pieces_unless : {A : Type 0} (b : Bool) (f : ℕ → List A) (n : ℕ) → pieces_below (λ k. cond b [] (f k)) n ≡ cond b [] (pieces_below f n)
+pieces_unless : {A : Type 0} (b : Bool) (f : ℕ → List A) (n : ℕ) → concat_below (λ k. cond b [] (f k)) n ≡ cond b [] (concat_below f n)
 pieces_unless true f n = no_piece n
 pieces_unless false f n = refl
 
-pieces_where : {A : Type 0} (b : Bool) (f : ℕ → List A) (n : ℕ) → pieces_below (λ k. cond b (f k) []) n ≡ cond b (pieces_below f n) []
+pieces_where : {A : Type 0} (b : Bool) (f : ℕ → List A) (n : ℕ) → concat_below (λ k. cond b (f k) []) n ≡ cond b (concat_below f n) []
 pieces_where true f n = refl
 pieces_where false f n = no_piece n
 
@@ -66,7 +66,7 @@ opening_begins tree i =
 openings-suc : (tree : Tree) (i : ℕ) → openings tree (suc i) ≡ cond (bounds_at tree i) [] (map (stamped (stamps_at tree i)) (openings tree i)) ++ cond (begins_at tree i) (record { begin = i; is_stamped = false } ∷ []) []
 openings-suc tree i =
     let h = stamped (stamps_at tree i) in
-    let before : pieces_below (opening_at tree (suc i)) i ≡ cond (bounds_at tree i) [] (map h (openings tree i)) =
+    let before : concat_below (opening_at tree (suc i)) i ≡ cond (bounds_at tree i) [] (map h (openings tree i)) =
     pieces_same (opening_at tree (suc i)) (λ b. cond (bounds_at tree i) [] (map h (opening_at tree i b))) i (opening_goes_on tree i)
     ∙ pieces_unless (bounds_at tree i) (λ b. map h (opening_at tree i b)) i
     ∙ ap (cond (bounds_at tree i) []) (sym (map-pieces h (opening_at tree i) i))
@@ -116,14 +116,14 @@ block_to-openings tree e =
     ∙ ap (λ xs. cond (ends_at tree e) xs []) (sym (flat_map-pieces (block_from e) (opening_at tree e) e))
 
 -- the blocks that are found up to one more statement
-pub found_next : (tree : Tree) (i : ℕ) (s : Stmt) (o : Option Opening) (old new : List Block) → s ≡ stmt_at tree i → new ≡ old ++ block_by s i o → option_to_list o ≡ openings tree i → old ≡ pieces_below (block_to tree) i → new ≡ pieces_below (block_to tree) (i + 1)
+pub found_next : (tree : Tree) (i : ℕ) (s : Stmt) (o : Option Opening) (old new : List Block) → s ≡ stmt_at tree i → new ≡ old ++ block_by s i o → option_to_list o ≡ openings tree i → old ≡ concat_below (block_to tree) i → new ≡ concat_below (block_to tree) (i + 1)
 found_next tree i s o old new e n h f =
     let piece : block_by s i o ≡ block_to tree i =
     ap (λ (x : Stmt). block_by x i o) e
     ∙ ap (λ xs. cond (ends_at tree i) (flat_map (block_from i) xs) []) h
     ∙ sym (block_to-openings tree i)
     in
-    let now : new ≡ pieces_below (block_to tree) (suc i) = n ∙ (λ k. f k ++ piece k) in
+    let now : new ≡ concat_below (block_to tree) (suc i) = n ∙ (λ k. f k ++ piece k) in
     rw add-one now
 
 -- the same, as a loop says it: its cursor's tree, text and number are those of the walk
@@ -132,7 +132,7 @@ opening_walked tree here p i n next s old new at_tree of_tree number more stmt a
     subst (λ (k : ℕ). option_to_list new ≡ openings tree k) (sym more)
     (opening_next tree i s old new (stmt ∙ ap (λ x. stmt_at x i) at_tree) (after ∙ (λ k. opening_after (of_tree k) s (number k) old)) h)
 
-pub found_walked : (tree here : Tree) (i n next : ℕ) (s : Stmt) (o : Option Opening) (old new : List Block) → here ≡ tree → n ≡ i → next ≡ i + 1 → s ≡ stmt_at here i → new ≡ old ++ block_by s n o → option_to_list o ≡ openings tree i → old ≡ pieces_below (block_to tree) i → new ≡ pieces_below (block_to tree) next
+pub found_walked : (tree here : Tree) (i n next : ℕ) (s : Stmt) (o : Option Opening) (old new : List Block) → here ≡ tree → n ≡ i → next ≡ i + 1 → s ≡ stmt_at here i → new ≡ old ++ block_by s n o → option_to_list o ≡ openings tree i → old ≡ concat_below (block_to tree) i → new ≡ concat_below (block_to tree) next
 found_walked tree here i n next s o old new at_tree number more stmt pushed h f =
-    subst (λ (k : ℕ). new ≡ pieces_below (block_to tree) k) (sym more)
+    subst (λ (k : ℕ). new ≡ concat_below (block_to tree) k) (sym more)
     (found_next tree i s o old new (stmt ∙ ap (λ x. stmt_at x i) at_tree) (pushed ∙ (λ k. old ++ block_by s (number k) o)) h f)

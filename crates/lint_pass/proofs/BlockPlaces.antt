@@ -7,7 +7,7 @@ use Rattle.std.proofs.lemmas.List.Folds.{list_any-append}
 use Rattle.std.specs.List.{list_any}
 use Rattle.std.specs.Prelude.{nat_le}
 use Rattle.sql_tree.specs.Statement.{Tree}
-use Rattle.lint_transaction.specs.Earlier.{any_below, any_between, pieces_below}
+use Rattle.lint_transaction.specs.Earlier.{any_below, any_between, concat_below}
 use Rattle.lint_pass.specs.declared.blocks.Block.{Block}
 use Rattle.lint_pass.specs.Blocks.{begins_at, ends_at, bounds_at, stamps_at, leads_to, block_of, block_to}
 use Rattle.lint_pass.specs.BlockPlace.{covers, starts_by}
@@ -46,7 +46,7 @@ no_block tree e b h = ap (λ x. cond {A = List Block} (ends_at tree e && (x && a
     by true = refl
     by false = refl
 
-none_below : (tree : Tree) (e m n : ℕ) → n ≤ m → m < e → begins_at tree m ≡ true → pieces_below (block_of tree e) n ≡ []
+none_below : (tree : Tree) (e m n : ℕ) → n ≤ m → m < e → begins_at tree m ≡ true → concat_below (block_of tree e) n ≡ []
 none_below tree e m zero l g h = refl
 none_below tree e m (suc n) l g h = λ i. none_below tree e m n (omega arith) g h i ++ no_block tree e n (not_led tree n m e (omega arith) g h) i
 
@@ -54,7 +54,7 @@ none_below tree e m (suc n) l g h = λ i. none_below tree e m n (omega arith) g 
 abbrev pub IsBlock : Tree → ℕ → List Block → Type 0
 IsBlock tree e xs = (xs ≡ []) ⊎ ((b : Block) × (xs ≡ b ∷ []) × (b.last ≡ e) × (b.first < e) × (begins_at tree b.first ≡ true))
 
-one_below : (tree : Tree) (e n : ℕ) → n ≤ e → IsBlock tree e (pieces_below (block_of tree e) n)
+one_below : (tree : Tree) (e n : ℕ) → n ≤ e → IsBlock tree e (concat_below (block_of tree e) n)
 one_below tree e zero l = inl refl
 one_below tree e (suc n) l =
     by (one_below tree e n (omega arith)) (ends_at tree e) (begins_at tree n) refl (any_between (bounds_at tree) n e) (any_between (stamps_at tree) n e)
@@ -62,13 +62,13 @@ one_below tree e (suc n) l =
     block : Block
     block = record { first = n; last = e }
 
-    some : begins_at tree n ≡ true → (xs : List Block) → pieces_below (block_of tree e) n ++ block ∷ [] ≡ xs → xs ≡ block ∷ []
+    some : begins_at tree n ≡ true → (xs : List Block) → concat_below (block_of tree e) n ++ block ∷ [] ≡ xs → xs ≡ block ∷ []
     some h xs q = sym q ∙ ap (λ ys. ys ++ block ∷ []) (none_below tree e n n (omega arith) l h)
 
-    nothing : IsBlock tree e (pieces_below (block_of tree e) n) → IsBlock tree e (pieces_below (block_of tree e) n ++ [])
-    nothing h = subst (IsBlock tree e) (sym (append-nil (pieces_below (block_of tree e) n))) h
+    nothing : IsBlock tree e (concat_below (block_of tree e) n) → IsBlock tree e (concat_below (block_of tree e) n ++ [])
+    nothing h = subst (IsBlock tree e) (sym (append-nil (concat_below (block_of tree e) n))) h
 
-    by : IsBlock tree e (pieces_below (block_of tree e) n) → (end begin : Bool) → begin ≡ begins_at tree n → (bound stamp : Bool) → IsBlock tree e (pieces_below (block_of tree e) n ++ cond (end && ((begin && not bound) && stamp)) (block ∷ []) [])
+    by : IsBlock tree e (concat_below (block_of tree e) n) → (end begin : Bool) → begin ≡ begins_at tree n → (bound stamp : Bool) → IsBlock tree e (concat_below (block_of tree e) n ++ cond (end && ((begin && not bound) && stamp)) (block ∷ []) [])
     by h true true q false true = inr (block, some (sym q) _ refl, refl, l, sym q)
     by h true true q false false = nothing h
     by h true true q true stamp = nothing h
@@ -84,10 +84,10 @@ pub rest : {A : Type 0} → (ℕ → List A) → ℕ → ℕ → List A
 rest f j zero = []
 rest f j (suc k) = f j ++ rest f (suc j) k
 
-split : {A : Type 0} (f : ℕ → List A) (j k n : ℕ) → n ≡ j + k → pieces_below f n ≡ pieces_below f j ++ rest f j k
+split : {A : Type 0} (f : ℕ → List A) (j k n : ℕ) → n ≡ j + k → concat_below f n ≡ concat_below f j ++ rest f j k
 unfolding rest
-split f j zero n e = let same : n ≡ j = omega arith in ap (pieces_below f) same ∙ sym (append-nil (pieces_below f j))
-split f j (suc k) n e = split f (suc j) k n (omega arith) ∙ append_assoc (pieces_below f j) (f j) (rest f (suc j) k)
+split f j zero n e = let same : n ≡ j = omega arith in ap (concat_below f) same ∙ sym (append-nil (concat_below f j))
+split f j (suc k) n e = split f (suc j) k n (omega arith) ∙ append_assoc (concat_below f j) (f j) (rest f (suc j) k)
 
 -- after a BEGIN that comes after statement i no block covers it
 uncovered_one : (tree : Tree) (i m e b : ℕ) → i < m → m < e → begins_at tree m ≡ true → list_any (covers i) (block_of tree e b) ≡ false
@@ -109,9 +109,9 @@ uncovered_one tree i m e b l g h = by (nat_lt b m) refl
         ∙ ap (λ y. (ends_at tree e && (leads_to tree b e && any_between (stamps_at tree) b e)) && ((y && nat_le i e) || false)) (le-false b i lt)
         ∙ far (ends_at tree e && (leads_to tree b e && any_between (stamps_at tree) b e)) (nat_le i e)
 
-uncovered_pieces : {A : Type 0} (p : A → Bool) (f : ℕ → List A) (n : ℕ) → ((b : ℕ) → list_any p (f b) ≡ false) → list_any p (pieces_below f n) ≡ false
+uncovered_pieces : {A : Type 0} (p : A → Bool) (f : ℕ → List A) (n : ℕ) → ((b : ℕ) → list_any p (f b) ≡ false) → list_any p (concat_below f n) ≡ false
 uncovered_pieces p f zero h = refl
-uncovered_pieces p f (suc n) h = list_any-append p (pieces_below f n) (f n) ∙ (λ i. uncovered_pieces p f n h i || h n i)
+uncovered_pieces p f (suc n) h = list_any-append p (concat_below f n) (f n) ∙ (λ i. uncovered_pieces p f n h i || h n i)
 
 uncovered_rest : (tree : Tree) (i m j k : ℕ) → i < m → m < j → begins_at tree m ≡ true → list_any (covers i) (rest (block_to tree) j k) ≡ false
 unfolding rest
@@ -138,10 +138,10 @@ covered_rest tree i j (suc k) l = by (covered_rest tree i (suc j) k (omega arith
     by later xs (inr (b, e, q, lt, h)) = subst (λ ys. list_any (covers i) (ys ++ after) ≡ starts_by i (ys ++ after)) (sym e) (first b q lt h (nat_le b.first i) refl)
 
 -- blocks that have ended cover no later statement
-ended_cover : (tree : Tree) (i n : ℕ) → n ≤ i → list_any (covers i) (pieces_below (block_to tree) n) ≡ false
+ended_cover : (tree : Tree) (i n : ℕ) → n ≤ i → list_any (covers i) (concat_below (block_to tree) n) ≡ false
 ended_cover tree i zero l = refl
 ended_cover tree i (suc n) l =
-    list_any-append (covers i) (pieces_below (block_to tree) n) (block_to tree n)
+    list_any-append (covers i) (concat_below (block_to tree) n) (block_to tree n)
     ∙ (λ x. ended_cover tree i n (omega arith) x || by (block_to tree n) (one_block tree n) x)
   where
     none : (x : Bool) → ((x && false) || false) ≡ false
@@ -153,10 +153,10 @@ ended_cover tree i (suc n) l =
     by xs (inr (b, e, q, lt, h)) = ap (list_any (covers i)) e ∙ ap (λ y. (nat_le b.first i && y) || false) (le-false i b.last (omega arith)) ∙ none (nat_le b.first i)
 
 -- A statement lies in a block where the first block that has not ended begins by it.
-pub in_block_by_next : (tree : Tree) (i n : ℕ) → i ≤ n → list_any (covers i) (pieces_below (block_to tree) n) ≡ starts_by i (rest (block_to tree) i (n - i))
+pub in_block_by_next : (tree : Tree) (i n : ℕ) → i ≤ n → list_any (covers i) (concat_below (block_to tree) n) ≡ starts_by i (rest (block_to tree) i (n - i))
 in_block_by_next tree i n l =
     ap (list_any (covers i)) (split (block_to tree) i (n - i) n (omega arith))
-    ∙ list_any-append (covers i) (pieces_below (block_to tree) i) (rest (block_to tree) i (n - i))
+    ∙ list_any-append (covers i) (concat_below (block_to tree) i) (rest (block_to tree) i (n - i))
     ∙ (λ x. ended_cover tree i i (omega arith) x || covered_rest tree i i (n - i) (omega arith) x)
 
 -- ---- the number of the next block
@@ -181,22 +181,22 @@ rest_head tree j (suc k) = by (rest_head tree (suc j) k) (block_to tree j) (one_
     by h xs (inl e) = subst (λ ys. HasHead j (ys ++ after)) (sym e) (later h)
     by h xs (inr (b, e, q, lt, g)) = inr (b, after, ap (λ ys. ys ++ after) e, omega arith)
 
-module _ (tree : Tree) (i n next : ℕ) (bs : List Block) (d : Block) (within : i < n) (bs_is : bs ≡ pieces_below (block_to tree) n) (next_is : next ≡ length (pieces_below (block_to tree) i)) where
+module _ (tree : Tree) (i n next : ℕ) (bs : List Block) (d : Block) (within : i < n) (bs_is : bs ≡ concat_below (block_to tree) n) (next_is : next ≡ length (concat_below (block_to tree) i)) where
   left : List Block
   left = rest (block_to tree) i (n - i)
 
-  parts : bs ≡ pieces_below (block_to tree) i ++ left
+  parts : bs ≡ concat_below (block_to tree) i ++ left
   unfolding left
   parts = bs_is ∙ split (block_to tree) i (n - i) n (omega arith)
 
   count : length bs ≡ next + length left
-  count = ap length parts ∙ length-append (pieces_below (block_to tree) i) left ∙ ap (λ m. m + length left) (sym next_is)
+  count = ap length parts ∙ length-append (concat_below (block_to tree) i) left ∙ ap (λ m. m + length left) (sym next_is)
 
-  place : next ≡ length (pieces_below (block_to tree) i) + 0
+  place : next ≡ length (concat_below (block_to tree) i) + 0
   place = omega (arith, next_is)
 
   at_next : (b : Block) (cs : List Block) → left ≡ b ∷ cs → get_or bs next d ≡ b
-  at_next b cs e = (λ x. get_or (parts x) (place x) d) ∙ get_or-append-add (pieces_below (block_to tree) i) left 0 d ∙ ap (λ ys. get_or ys 0 d) e
+  at_next b cs e = (λ x. get_or (parts x) (place x) d) ∙ get_or-append-add (concat_below (block_to tree) i) left 0 d ∙ ap (λ ys. get_or ys 0 d) e
 
   -- statement i lies in a block where there is a next block that begins by it
   pub in_next : next < length bs → list_any (covers i) bs ≡ nat_le (get_or bs next d).first i
@@ -220,27 +220,27 @@ module _ (tree : Tree) (i n next : ℕ) (bs : List Block) (d : Block) (within : 
   unfolding left rest
   left_is = let e : n - i ≡ suc (n - suc i) = omega arith in ap (rest (block_to tree) i) e
 
-  ended_count : length (pieces_below (block_to tree) (i + 1)) ≡ next + length (block_to tree i)
-  ended_count = rw add-one (length-append (pieces_below (block_to tree) i) (block_to tree i) ∙ ap (λ m. m + length (block_to tree i)) (sym next_is))
+  ended_count : length (concat_below (block_to tree) (i + 1)) ≡ next + length (block_to tree i)
+  ended_count = rw add-one (length-append (concat_below (block_to tree) i) (block_to tree i) ∙ ap (λ m. m + length (block_to tree i)) (sym next_is))
 
   -- the next block ends with statement i, or none does
-  pub next_ends : next < length bs → (get_or bs next d).last ≡ i → next + 1 ≡ length (pieces_below (block_to tree) (i + 1))
+  pub next_ends : next < length bs → (get_or bs next d).last ≡ i → next + 1 ≡ length (concat_below (block_to tree) (i + 1))
   next_ends l e = by (one_block tree i) (rest_head tree (suc i) (n - suc i))
     where
       after : List Block
       after = rest (block_to tree) (suc i) (n - suc i)
 
-      by : IsBlock tree i (block_to tree i) → HasHead (suc i) after → next + 1 ≡ length (pieces_below (block_to tree) (i + 1))
+      by : IsBlock tree i (block_to tree i) → HasHead (suc i) after → next + 1 ≡ length (concat_below (block_to tree) (i + 1))
       by (inr (b, is, q, lt, g)) h = let one : length (block_to tree i) ≡ 1 = ap length is in omega (arith, ended_count)
       by (inl none) (inl empty) =
           let no_left : length left ≡ 0 = ap length (left_is ∙ (λ x. none x ++ empty x)) in absurd (omega (arith, count))
       by (inl none) (inr (b, cs, is, j)) =
           let same : (get_or bs next d).last ≡ b.last = ap (λ (x : Block). x.last) (at_next b cs (left_is ∙ (λ x. none x ++ is x))) in absurd (omega arith)
 
-  pub next_stays : ((next < length bs) → (get_or bs next d).last ≡ i → ⊥) → next ≡ length (pieces_below (block_to tree) (i + 1))
+  pub next_stays : ((next < length bs) → (get_or bs next d).last ≡ i → ⊥) → next ≡ length (concat_below (block_to tree) (i + 1))
   next_stays far = by (one_block tree i)
     where
-      by : IsBlock tree i (block_to tree i) → next ≡ length (pieces_below (block_to tree) (i + 1))
+      by : IsBlock tree i (block_to tree i) → next ≡ length (concat_below (block_to tree) (i + 1))
       by (inl none) = let empty : length (block_to tree i) ≡ 0 = ap length none in omega (arith, ended_count)
       by (inr (b, is, q, lt, g)) =
           let after = rest (block_to tree) (suc i) (n - suc i) in

@@ -10,7 +10,7 @@ use Rattle.lint_base.specs.declared.violation.Violation.{Violation}
 use Rattle.lint_base.specs.Rules.{all_rules, number_of}
 use Rattle.lint_base.specs.RuleSets.{Rules, has}
 use Rattle.lint_base.proofs.RuleSets.{rule_at-number_of}
-use Rattle.lint_transaction.specs.Earlier.{pieces_below}
+use Rattle.lint_transaction.specs.Earlier.{concat_below}
 use Rattle.lint_pass.specs.Enabled.{some_enabled}
 use Rattle.lint_pass.specs.Laws.{IsOf}
 
@@ -30,31 +30,31 @@ silent_table mine rules (v ∷ vs) off coded =
     absurd (cc)
 
 -- a list that joins two and is empty joins two that are
-front_is_empty : {A : Type 0} (xs ys : List A) → xs ++ ys ≡ [] → xs ≡ []
-front_is_empty [] ys h = refl
-front_is_empty (x ∷ xs) ys h = absurd (cc)
+prefix_is_empty : {A : Type 0} (xs ys : List A) → xs ++ ys ≡ [] → xs ≡ []
+prefix_is_empty [] ys h = refl
+prefix_is_empty (x ∷ xs) ys h = absurd (cc)
 
 rest_is_empty : {A : Type 0} (xs ys : List A) → xs ++ ys ≡ [] → ys ≡ []
 rest_is_empty [] ys h = h
 rest_is_empty (x ∷ xs) ys h = absurd (cc)
 
 -- each piece of an empty table is empty
-empty_piece : {A : Type 0} (piece : ℕ → List A) (n i : ℕ) → i < n → pieces_below piece n ≡ [] → piece i ≡ []
+empty_piece : {A : Type 0} (piece : ℕ → List A) (n i : ℕ) → i < n → concat_below piece n ≡ [] → piece i ≡ []
 empty_piece piece zero i within h = absurd (omega arith)
 empty_piece piece (suc n) i within h =
     elim (cases_lt i n) [
-      | inl l ↦ empty_piece piece n i l (front_is_empty (pieces_below piece n) (piece n) h)
-      | inr l ↦ let e : i ≡ n = omega arith in rw e (rest_is_empty (pieces_below piece n) (piece n) h)
+      | inl l ↦ empty_piece piece n i l (prefix_is_empty (concat_below piece n) (piece n) h)
+      | inr l ↦ let e : i ≡ n = omega arith in rw e (rest_is_empty (concat_below piece n) (piece n) h)
     ]
 
 -- a pass none of whose rules is enabled has no piece
 pub silent_piece : (mine rules : Rules) (piece : ℕ → List Violation) (tail table : List Violation) (n i : ℕ) → some_enabled mine rules ≡ false
-    → All (IsOf mine rules) table → pieces_below piece n ++ tail ≡ table → i < n → piece i ≡ []
+    → All (IsOf mine rules) table → concat_below piece n ++ tail ≡ table → i < n → piece i ≡ []
 silent_piece mine rules piece tail table n i off coded whole within =
-    empty_piece piece n i within (front_is_empty (pieces_below piece n) tail (whole ∙ silent_table mine rules table off coded))
+    empty_piece piece n i within (prefix_is_empty (concat_below piece n) tail (whole ∙ silent_table mine rules table off coded))
 
 -- nor a tail
 pub silent_tail : (mine rules : Rules) (piece : ℕ → List Violation) (tail table : List Violation) (n : ℕ) → some_enabled mine rules ≡ false
-    → All (IsOf mine rules) table → pieces_below piece n ++ tail ≡ table → tail ≡ []
+    → All (IsOf mine rules) table → concat_below piece n ++ tail ≡ table → tail ≡ []
 silent_tail mine rules piece tail table n off coded whole =
-    rest_is_empty (pieces_below piece n) tail (whole ∙ silent_table mine rules table off coded)
+    rest_is_empty (concat_below piece n) tail (whole ∙ silent_table mine rules table off coded)

@@ -7,8 +7,8 @@ use Rattle.sql_tree.specs.Range.{span_range_of, stmt_range_of}
 use Rattle.sql_tree.specs.Statement.{Tree}
 use Rattle.lint_pass.specs.declared.nodes.Node.{Node}
 use Rattle.lint_pass.specs.Bans.{BanRow, ban_report, bans_on, by_row, by_rows, fits, fits_statement, on_row, on_rows}
-use Rattle.lint_pass.specs.Laws.{HasCode, IsRead, StandsIn}
-use Rattle.lint_pass.specs.NodeWalk.{walked_all}
+use Rattle.lint_pass.specs.Laws.{HasCode, IsRead, IsPlacedIn}
+use Rattle.lint_pass.specs.NodeWalkLaws.{walked_all}
 use Rattle.lint_pass.specs.PlaceLaws.{span_place}
 use Rattle.lint_pass.specs.RuleLaws.{flat_all, one_all, where_all}
 
@@ -29,5 +29,5 @@ bans_all P code rows tree s h = walked_all P (on_rows code rows) (by_rows code r
 pub bans_coded : (code : Rule) (rows : List BanRow) (tree : Tree) (s : Stmt) → All (HasCode code) (bans_on code rows tree s)
 bans_coded code rows tree s = bans_all (HasCode code) code rows tree s (λ _ _ _ _. refl)
 
-pub bans_placed : (code : Rule) (rows : List BanRow) (tree : Tree) (s : Stmt) → IsRead tree → All (StandsIn tree) (bans_on code rows tree s)
-bans_placed code rows tree s read = bans_all (StandsIn tree) code rows tree s (λ m n first last. record { range = span_place tree read first last; edits = tt })
+pub bans_placed : (code : Rule) (rows : List BanRow) (tree : Tree) (s : Stmt) → IsRead tree → All (IsPlacedIn tree) (bans_on code rows tree s)
+bans_placed code rows tree s read = bans_all (IsPlacedIn tree) code rows tree s (λ m n first last. record { range = span_place tree read first last; edits = tt })

@@ -4,7 +4,7 @@ use Rattle.std.specs.List.{list_any}
 use Rattle.sql_tree.specs.Statement.{Tree}
 use Rattle.lint_pass.specs.declared.blocks.Block.{Block}
 use Rattle.lint_pass.specs.Blocks.{blocks_of, block_to}
-use Rattle.lint_transaction.specs.Earlier.{pieces_below}
+use Rattle.lint_transaction.specs.Earlier.{concat_below}
 
 -- statement i lies in the block
 abbrev pub covers : ℕ → Block → Bool
@@ -15,7 +15,7 @@ in_block tree i = list_any (covers i) (blocks_of tree)
 
 -- the blocks that end before statement i
 abbrev pub ended_before : Tree → ℕ → List Block
-ended_before tree i = pieces_below (block_to tree) i
+ended_before tree i = concat_below (block_to tree) i
 
 -- the first block begins before statement i, or with it
 abbrev pub starts_by : ℕ → List Block → Bool

@@ -4,7 +4,7 @@ use Rattle.std.specs.List.{flat_map}
 use Rattle.std.specs.Option.{option_map, option_to_list}
 use Rattle.sql_tree.specs.declared.nodes.Stmt.{Stmt}
 use Rattle.sql_tree.specs.Statement.{Tree}
-use Rattle.lint_transaction.specs.Earlier.{any_between, pieces_below}
+use Rattle.lint_transaction.specs.Earlier.{any_between, concat_below}
 use Rattle.lint_transaction.specs.Transaction.{is_begin_kind}
 use Rattle.lint_pass.specs.declared.blocks.Block.{Block}
 use Rattle.lint_pass.specs.declared.blocks.Opening.{Opening}
@@ -16,7 +16,7 @@ opening_at tree i b =
 
 -- the BEGIN that leads to statement i, if there is one
 abbrev pub openings : Tree → ℕ → List Opening
-openings tree i = pieces_below (opening_at tree i) i
+openings tree i = concat_below (opening_at tree i) i
 
 abbrev pub stamped : Bool → Opening → Opening
 stamped stamp o = record o { is_stamped = o.is_stamped || stamp }

@@ -9,7 +9,7 @@ use Rattle.sql_tree.specs.declared.nodes.Body.{Body}
 use Rattle.sql_tree.specs.declared.nodes.Body.TheVariants as body
 use Rattle.sql_tree.specs.declared.nodes.Stmt.{Stmt}
 use Rattle.sql_tree.specs.Statement.{Tree}
-use Rattle.lint_transaction.specs.Earlier.{any_between, pieces_below}
+use Rattle.lint_transaction.specs.Earlier.{any_between, concat_below}
 use Rattle.lint_transaction.specs.Names.{name_at}
 use Rattle.lint_transaction.specs.Transaction.{is_begin_kind, stmt_at}
 use Rattle.lint_pass.specs.declared.blocks.Block.{Block}
@@ -64,8 +64,8 @@ block_of tree e b =
 
 -- the block that ends with statement e, if there is one
 abbrev pub block_to : Tree → ℕ → List Block
-block_to tree e = pieces_below (block_of tree e) e
+block_to tree e = concat_below (block_of tree e) e
 
 -- the blocks of a tree, by place
 abbrev pub blocks_of : Tree → List Block
-blocks_of tree = pieces_below (block_to tree) (length tree.stmts)
+blocks_of tree = concat_below (block_to tree) (length tree.stmts)

@@ -31,7 +31,7 @@ pub record AreEdits (text : List ℕ) (edits : List Edit) : Type 0 where
   pub apart : AreApart edits
 
 -- its range is a place of the text, and so are the edits of its fix
-pub record StandsIn (tree : Tree) (v : Violation) : Type 0 where
+pub record IsPlacedIn (tree : Tree) (v : Violation) : Type 0 where
   pub range : IsPlace tree.text v.text_range
   pub edits : IfSome v.fix (λ f. AreEdits tree.text f.edits)
 

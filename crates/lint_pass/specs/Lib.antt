@@ -9,13 +9,16 @@ pub mod Fixes
 pub mod FixLaws
 pub mod Laws
 pub mod NodeWalk
+pub mod NodeWalkLaws
 pub mod PairLaws
 pub mod Pieces
 pub mod PlaceLaws
 pub mod Ruled
 pub mod RuledLaws
 pub mod RuleLaws
+pub mod RuleTables
 pub mod Walk
 pub mod Ranges
 pub mod Rows
 pub mod Those
+pub mod ThoseLaws

@@ -1,25 +1,27 @@
 -- How the reports of two passes come one after the other.
-use Rattle.std.specs.Prelude.{◌≡◌, Bool, true, false, ◌||◌, All, List, ◌++◌, refl}
+use Rattle.std.specs.Prelude.{◌≡◌, ℕ, zero, suc, Bool, true, false, ◌||◌, All, List, ◌++◌, refl}
 use Rattle.std.proofs.Common.{sym, ◌∙◌, ap, subst, append_assoc}
 use Rattle.std.proofs.lemmas.List.Elements.{All-append, All-weaker, filter-append}
-use Rattle.lint_base.specs.Grown.{GrownBy, grown_by_first, grown_by_second}
+use Rattle.lint_base.specs.Grown.{GrownBy}
+use Rattle.lint_base.specs.GrownLaws.{grown_by_first, grown_by_second}
 use Rattle.lint_base.specs.declared.rule.Rule.{Rule}
 use Rattle.lint_base.specs.declared.violation.Violation.{Violation}
 use Rattle.lint_base.specs.RuleNames.{same_rule}
 use Rattle.lint_base.specs.RuleSets.{Rules, has, both_rules}
 use Rattle.lint_base.proofs.RuleSets.{has-both_rules}
+use Rattle.lint_transaction.specs.Earlier.{concat_below}
 use Rattle.lint_pass.specs.Laws.{IsOf, reports_by}
 
 pub pair_whole : {A : Type 0} (pieces tail table second : List A) → pieces ++ tail ≡ table → pieces ++ (tail ++ second) ≡ table ++ second
 pair_whole pieces tail table second e = sym (append_assoc pieces tail second) ∙ ap (λ xs. xs ++ second) e
 
--- the first's tail whole, and then a front of the second's kept pieces
+-- the first's tail whole, and then a prefix of the second's kept pieces
 pub pair_kept : {A : Type 0} (old mid new tail kept pieces rest table : List A) → mid ≡ old ++ tail → GrownBy mid new kept → kept ≡ pieces → pieces ++ rest ≡ table → GrownBy old new (tail ++ table)
 pair_kept old mid new tail kept pieces rest table m h k w =
     let front : GrownBy mid new (pieces ++ rest) = grown_by_first mid new pieces rest (subst (λ xs. GrownBy mid new xs) k h) in
     grown_by_second old mid new tail table m (subst (λ xs. GrownBy mid new xs) w front)
 
--- the first's tail and the second's kept pieces whole, and then a front of the second's tail
+-- the first's tail and the second's kept pieces whole, and then a prefix of the second's tail
 pub pair_rest : {A : Type 0} (old mid late new tail kept pieces rest table : List A) → mid ≡ old ++ tail → late ≡ mid ++ kept → GrownBy late new rest → kept ≡ pieces → pieces ++ rest ≡ table → GrownBy old new (tail ++ table)
 pair_rest old mid late new tail kept pieces rest table m l h k w =
     let e : late ≡ mid ++ pieces = l ∙ ap (λ xs. mid ++ xs) k in
@@ -54,3 +56,8 @@ pair_coded a b r first second h k =
 -- two lists one after the other
 pub pair_apart : (q : Rule) (a b c d : List Violation) → reports_by q a ≡ reports_by q b → reports_by q c ≡ reports_by q d → reports_by q (a ++ c) ≡ reports_by q (b ++ d)
 pair_apart q a b c d first second = filter-append (λ x. same_rule q x.code) a c ∙ ((λ i. first i ++ second i) ∙ sym (filter-append (λ x. same_rule q x.code) b d))
+
+-- the pieces below a number
+pub pieces_apart : (q : Rule) (f g : ℕ → List Violation) (n : ℕ) → ((i : ℕ) → reports_by q (f i) ≡ reports_by q (g i)) → reports_by q (concat_below f n) ≡ reports_by q (concat_below g n)
+pieces_apart q f g zero h = refl
+pieces_apart q f g (suc n) h = pair_apart q (concat_below f n) (concat_below g n) (f n) (g n) (pieces_apart q f g n h) (h n)

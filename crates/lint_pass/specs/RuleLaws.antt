@@ -1,4 +1,4 @@
--- The reports of a pass of one rule.
+-- What holds of the reports of a pass of one rule.
 use Rattle.std.specs.Prelude.{◌≡◌, ℕ, zero, suc, Bool, true, false, All, List, [], ◌∷◌, refl, if◌then◌else◌}
 use Rattle.std.proofs.Common.{sym, ◌∙◌, subst, inl, inr, rules}
 use Rattle.std.proofs.lemmas.Bool.{cases_Bool}
@@ -11,22 +11,15 @@ use Rattle.lint_base.specs.declared.violation.Violation.{Violation}
 use Rattle.lint_base.specs.RuleNames.{same_rule}
 use Rattle.lint_base.specs.RuleSets.{Rules, has, no_rules, with_rule}
 use Rattle.lint_base.proofs.RuleSets.{has-with_rule_same}
-use Rattle.lint_transaction.specs.Earlier.{pieces_below}
+use Rattle.lint_transaction.specs.Earlier.{concat_below}
 use Rattle.lint_pass.specs.Laws.{IsOf, HasCode, reports_by}
-
--- the reports on a statement, where the rule is enabled
-abbrev pub piece_of : Rule → (ℕ → List Violation) → Rules → ℕ → List Violation
-piece_of code reports rules i = if has rules code then reports i else []
-
--- statement by statement
-abbrev pub table_of : Rule → (ℕ → List Violation) → Rules → ℕ → List Violation
-table_of code reports rules n = pieces_below (piece_of code reports rules) n
+use Rattle.lint_pass.specs.RuleTables.{enabled_reports, table_of, where_of}
 
 -- ---- what holds of each
 
-pub pieces_all : {X : Type 0} (P : X → Type 0) (f : ℕ → List X) (n : ℕ) → ((i : ℕ) → All P (f i)) → All P (pieces_below f n)
+pub pieces_all : {X : Type 0} (P : X → Type 0) (f : ℕ → List X) (n : ℕ) → ((i : ℕ) → All P (f i)) → All P (concat_below f n)
 pieces_all P f zero h = All-nil P
-pieces_all P f (suc n) h = All-append P (pieces_below f n) (f n) (pieces_all P f n h) (h n)
+pieces_all P f (suc n) h = All-append P (concat_below f n) (f n) (pieces_all P f n h) (h n)
 
 pub where_all : {X : Type 0} (P : X → Type 0) (b : Bool) (xs : List X) → (b ≡ true → All P xs) → All P (if b then xs else [])
 where_all P true xs h = h refl
@@ -54,12 +47,12 @@ coded_is code r e v h =
 
 pub rule_coded : (code : Rule) (f : ℕ → List Violation) (r : Rules) (n : ℕ) → ((i : ℕ) → All (HasCode code) (f i)) → All (IsOf (with_rule no_rules code) r) (table_of code f r n)
 rule_coded code f r n h =
-    pieces_all (IsOf (with_rule no_rules code) r) (piece_of code f r) n
+    pieces_all (IsOf (with_rule no_rules code) r) (enabled_reports code f r) n
     (λ i. where_all (IsOf (with_rule no_rules code) r) (has r code) (f i)
     (λ e. All-weaker (HasCode code) (IsOf (with_rule no_rules code) r) (coded_is code r e) (f i) (h i)))
 
 pub rule_all : (P : Violation → Type 0) (code : Rule) (f : ℕ → List Violation) (r : Rules) (n : ℕ) → ((i : ℕ) → All P (f i)) → All P (table_of code f r n)
-rule_all P code f r n h = pieces_all P (piece_of code f r) n (λ i. where_all P (has r code) (f i) (λ _. h i))
+rule_all P code f r n h = pieces_all P (enabled_reports code f r) n (λ i. where_all P (has r code) (f i) (λ _. h i))
 
 pub same_is : (q r : Rule) → same_rule q r ≡ true → q ≡ r
 unfolding same_rule
@@ -78,16 +71,13 @@ rule_apart code f n q some others same h =
     elim (cases_Bool (same_rule q code)) [
       | inl is ↦
           let agree : has some code ≡ has others code = subst (λ c. has some c ≡ has others c) (same_is q code is) same in
-          λ i. reports_by q (pieces_below (λ k. if agree i then f k else []) n)
+          λ i. reports_by q (concat_below (λ k. if agree i then f k else []) n)
       | inr other ↦
           none_by q code (table_of code f some n) other (rule_all (HasCode code) code f some n h)
           ∙ sym (none_by q code (table_of code f others n) other (rule_all (HasCode code) code f others n h))
     ]
 
 -- ---- reports after the last statement
-
-abbrev pub where_of : Rule → List Violation → Rules → List Violation
-where_of code xs rules = if has rules code then xs else []
 
 pub where_coded : (code : Rule) (xs : List Violation) (r : Rules) → All (HasCode code) xs → All (IsOf (with_rule no_rules code) r) (where_of code xs r)
 where_coded code xs r h =

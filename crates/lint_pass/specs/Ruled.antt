@@ -1,5 +1,5 @@
 -- What is reported wherever it is, by rows that each name their rule.
-use Rattle.std.specs.Prelude.{ℕ, Bool, true, ◌&&◌, List, [], ◌∷◌, length, if◌then◌else◌}
+use Rattle.std.specs.Prelude.{◌≡◌, ℕ, Bool, true, ◌&&◌, List, [], ◌∷◌, length, if◌then◌else◌}
 use Rattle.std.specs.Borrow.{Bor}
 use Rattle.std.specs.List.{flat_map, list_any}
 use Rattle.text_pos.specs.Range.{Range}
@@ -7,7 +7,7 @@ use Rattle.lint_base.specs.declared.rule.Rule.{Rule}
 use Rattle.lint_base.specs.declared.violation.Violation.{Violation}
 use Rattle.lint_base.specs.RuleSets.{Rules, has}
 use Rattle.lint_base.specs.Violations.{violation}
-use Rattle.lint_transaction.specs.Earlier.{pieces_below}
+use Rattle.lint_transaction.specs.Earlier.{concat_below}
 use Rattle.lint_transaction.specs.Transaction.{stmt_at}
 use Rattle.sql_tree.specs.declared.kinds.StmtKind.{StmtKind}
 use Rattle.sql_tree.specs.declared.nodes.Stmt.{Stmt}
@@ -51,9 +51,13 @@ ruled_at rows tree rules i = ruled_on rows tree rules (stmt_at tree i)
 
 -- statement by statement
 abbrev pub ruled_table : List RuledRow → Tree → Rules → List Violation
-ruled_table rows tree rules = pieces_below (ruled_at rows tree rules) (length tree.stmts)
+ruled_table rows tree rules = concat_below (ruled_at rows tree rules) (length tree.stmts)
 
--- the rule of each row is in the set
+-- the rule of a row is in the set
+abbrev pub IsOwned : Rules → RuledRow → Type 0
+IsOwned own r = has own r.0 ≡ true
+
+-- whether the rule of each row is in the set
 abbrev pub owns : Rules → List RuledRow → Bool
 owns own [] = true
 owns own (r ∷ rows) = has own r.0 && owns own rows

@@ -1,5 +1,5 @@
 -- What holds of the reports by rows that each name their rule.
-use Rattle.std.specs.Prelude.{◌≡◌, ℕ, zero, suc, Bool, true, false, ◌&&◌, All, List, [], ◌∷◌, length, refl, if◌then◌else◌}
+use Rattle.std.specs.Prelude.{◌≡◌, ℕ, Bool, true, false, ◌&&◌, All, List, [], ◌∷◌, length, refl, if◌then◌else◌}
 use Rattle.std.proofs.Common.{sym, ◌∙◌, subst, inl, inr}
 use Rattle.std.proofs.lemmas.Bool.{cases_Bool}
 use Rattle.std.proofs.lemmas.List.Elements.{All-append, All-cons, All-head, All-nil, All-tail}
@@ -10,7 +10,6 @@ use Rattle.lint_base.specs.declared.violation.Violation.{Violation}
 use Rattle.lint_base.specs.RuleNames.{same_rule}
 use Rattle.lint_base.specs.RuleSets.{Rules, has}
 use Rattle.lint_base.specs.Violations.{violation}
-use Rattle.lint_transaction.specs.Earlier.{pieces_below}
 use Rattle.lint_transaction.specs.Transaction.{stmt_at}
 use Rattle.sql_tree.specs.declared.nodes.Action.{Action}
 use Rattle.sql_tree.specs.declared.nodes.Stmt.{Stmt}
@@ -21,11 +20,12 @@ use Rattle.lint_node.specs.Parts.{new_constraints}
 use Rattle.lint_pass.specs.declared.nodes.Node.{Node}
 use Rattle.lint_pass.specs.declared.nodes.Node.TheVariants as node
 use Rattle.lint_pass.specs.Bans.{fits, fits_statement}
-use Rattle.lint_pass.specs.Laws.{HasCode, IsOf, IsRead, StandsIn, reports_by}
-use Rattle.lint_pass.specs.NodeWalk.{At, at_action, at_constraint, at_parts, at_piece, walked, walked_all}
-use Rattle.lint_pass.specs.PairLaws.{pair_apart}
+use Rattle.lint_pass.specs.Laws.{HasCode, IsOf, IsRead, IsPlacedIn, reports_by}
+use Rattle.lint_pass.specs.NodeWalk.{At, at_action, at_constraint, at_parts, at_piece, walked}
+use Rattle.lint_pass.specs.NodeWalkLaws.{walked_all}
+use Rattle.lint_pass.specs.PairLaws.{pair_apart, pieces_apart}
 use Rattle.lint_pass.specs.PlaceLaws.{span_place}
-use Rattle.lint_pass.specs.Ruled.{RuledRow, by_ruled, by_ruled_rows, on_ruled, on_ruled_rows, owns, ruled_at, ruled_on, ruled_table}
+use Rattle.lint_pass.specs.Ruled.{IsOwned, RuledRow, by_ruled, by_ruled_rows, on_ruled, on_ruled_rows, owns, ruled_at, ruled_on, ruled_table}
 use Rattle.lint_pass.specs.RuleLaws.{none_by, one_all, pieces_all, same_is, where_all}
 
 and_first : (a b : Bool) → (a && b) ≡ true → a ≡ true
@@ -35,9 +35,6 @@ and_first false b h = absurd (cc)
 and_second : (a b : Bool) → (a && b) ≡ true → b ≡ true
 and_second true b h = h
 and_second false b h = absurd (cc)
-
-abbrev IsOwned : Rules → RuledRow → Type 0
-IsOwned own r = has own r.0 ≡ true
 
 owned : (own : Rules) (rows : List RuledRow) → owns own rows ≡ true → All (IsOwned own) rows
 owned own [] h = All-nil (IsOwned own)
@@ -70,20 +67,16 @@ ruled_coded own rows tree rules h =
     pieces_all (IsOf own rules) (ruled_at rows tree rules) (length tree.stmts)
     (λ i. ruled_all (IsOf own rules) (IsOwned own) rows tree rules (stmt_at tree i) (owned own rows h) (λ r o e _ _. record { own = o; enabled = e }))
 
-pub ruled_placed : (own : Rules) (rows : List RuledRow) (tree : Tree) (rules : Rules) → owns own rows ≡ true → IsRead tree → All (StandsIn tree) (ruled_table rows tree rules)
+pub ruled_placed : (own : Rules) (rows : List RuledRow) (tree : Tree) (rules : Rules) → owns own rows ≡ true → IsRead tree → All (IsPlacedIn tree) (ruled_table rows tree rules)
 ruled_placed own rows tree rules h read =
-    pieces_all (StandsIn tree) (ruled_at rows tree rules) (length tree.stmts)
-    (λ i. ruled_all (StandsIn tree) (IsOwned own) rows tree rules (stmt_at tree i) (owned own rows h) (λ r o e first last. record { range = span_place tree read first last; edits = tt }))
+    pieces_all (IsPlacedIn tree) (ruled_at rows tree rules) (length tree.stmts)
+    (λ i. ruled_all (IsPlacedIn tree) (IsOwned own) rows tree rules (stmt_at tree i) (owned own rows h) (λ r o e first last. record { range = span_place tree read first last; edits = tt }))
 
 -- ---- other rules
 
 flat_apart : {X : Type 0} (q : Rule) (f g : X → List Violation) (xs : List X) → ((x : X) → reports_by q (f x) ≡ reports_by q (g x)) → reports_by q (flat_map f xs) ≡ reports_by q (flat_map g xs)
 flat_apart q f g [] h = refl
 flat_apart q f g (x ∷ xs) h = pair_apart q (f x) (g x) (flat_map f xs) (flat_map g xs) (h x) (flat_apart q f g xs h)
-
-pieces_apart : (q : Rule) (f g : ℕ → List Violation) (n : ℕ) → ((i : ℕ) → reports_by q (f i) ≡ reports_by q (g i)) → reports_by q (pieces_below f n) ≡ reports_by q (pieces_below g n)
-pieces_apart q f g zero h = refl
-pieces_apart q f g (suc n) h = pair_apart q (pieces_below f n) (pieces_below g n) (f n) (g n) (pieces_apart q f g n h) (h n)
 
 walked_apart : (q : Rule) (on other_on : Tree → Stmt → List Violation) (at other_at : At) (tree : Tree) (s : Stmt) → reports_by q (on tree s) ≡ reports_by q (other_on tree s)
     → ((n : Node) (range : Range) → reports_by q (at n range) ≡ reports_by q (other_at n range)) → reports_by q (walked on at tree s) ≡ reports_by q (walked other_on other_at tree s)

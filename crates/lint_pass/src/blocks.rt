@@ -35,7 +35,7 @@ struct Opening {
 }
 
 /// Whether the statement is a COMMIT or a ROLLBACK, of any form.
-fn is_end(s: &Stmt) -> bool
+pub fn is_end(s: &Stmt) -> bool
     ensures { result ≡ spec.is_end_kind s.now.kind }
 {
     match s.kind {

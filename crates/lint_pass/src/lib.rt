@@ -25,7 +25,7 @@ mod where_enabled;
 
 pub use bans::{BanPass, BanRows, Spot};
 pub use block_place::{blocks_ended_before, is_in_block};
-pub use blocks::{Block, find_blocks};
+pub use blocks::{Block, find_blocks, is_end};
 pub use cursor::Cursor;
 pub use feed::{drive, walk};
 pub use fixes::{insertion_fix, replacement_fix};

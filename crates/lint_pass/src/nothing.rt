@@ -15,7 +15,7 @@ impl StepPass for NoPass {
     ghost use Rattle.std.specs.Prelude.{[], false, length, refl};
     ghost use Rattle.std.proofs.lemmas.List.Elements.{All-nil};
     ghost use Rattle.lint_base.specs.RuleSets.{no_rules};
-    ghost use Rattle.lint_pass.specs.Laws.{IsOf, StandsIn};
+    ghost use Rattle.lint_pass.specs.Laws.{IsOf, IsPlacedIn};
     ghost use Rattle.lint_pass.specs.Pieces.{no_pieces};
 
     type State = ();
@@ -26,7 +26,7 @@ impl StepPass for NoPass {
 
     ghost wants = { λ _ _. false };
 
-    ghost piece = { λ _ _ _ _ _. [] };
+    ghost reports_at = { λ _ _ _ _ _. [] };
 
     ghost tail = { λ _ _ _ _. [] };
 
@@ -36,7 +36,7 @@ impl StepPass for NoPass {
 
     ghost coded = { λ _ _ r _. All-nil (IsOf no_rules r) };
 
-    ghost placed = { λ _ tree _ _ _. All-nil (StandsIn tree) };
+    ghost placed = { λ _ tree _ _ _. All-nil (IsPlacedIn tree) };
 
     ghost apart = { λ _ _ _ _ _ _ _. refl };
 

@@ -2,7 +2,7 @@
 
 ghost use Rattle.std.specs.Prelude.{◌≡◌, ◌+◌, ◌<◌, ◌++◌, length, OnOk, OnErr, IfOk};
 ghost use Rattle.lint_base.specs.Grown.{GrownBy};
-ghost use Rattle.lint_transaction.specs.Earlier.{pieces_below};
+ghost use Rattle.lint_transaction.specs.Earlier.{concat_below};
 
 use crate::blocks::Block;
 use crate::step::StepPass;
@@ -30,18 +30,18 @@ impl<A: StepPass, B: StepPass> StepPass for Pair<A, B> {
     ghost use Rattle.std.specs.Prelude.{◌||◌};
     ghost use Rattle.std.proofs.lemmas.List.Elements.{All-append};
     ghost use Rattle.lint_base.specs.RuleSets.{both_rules};
-    ghost use Rattle.lint_pass.specs.Laws.{StandsIn};
+    ghost use Rattle.lint_pass.specs.Laws.{IsPlacedIn};
     ghost use Rattle.lint_pass.specs.PairLaws.{pair_whole, pair_coded, pair_apart};
 
     type State = PairState<A::State, B::State>;
 
     ghost own = { λ x. both_rules (A.own x.first) (B.own x.second) };
 
-    ghost at = { λ x state tree r s i. A.at x.first state.first tree r s i × B.at x.second state.second tree r s i × (state.later ≡ pieces_below (B.piece x.second tree r s) i) };
+    ghost at = { λ x state tree r s i. A.at x.first state.first tree r s i × B.at x.second state.second tree r s i × (state.later ≡ concat_below (B.reports_at x.second tree r s) i) };
 
     ghost wants = { λ x r. A.wants x.first r || B.wants x.second r };
 
-    ghost piece = { λ x tree r s i. A.piece x.first tree r s i };
+    ghost reports_at = { λ x tree r s i. A.reports_at x.first tree r s i };
 
     ghost tail = { λ x tree r s. A.tail x.first tree r s ++ B.table x.second tree r s };
 
@@ -51,7 +51,7 @@ impl<A: StepPass, B: StepPass> StepPass for Pair<A, B> {
 
     ghost coded = { λ x tree r s. pair_coded _ _ _ _ _ (A.coded x.first tree r s) (B.coded x.second tree r s) };
 
-    ghost placed = { λ x tree r s h. All-append (StandsIn tree) _ _ (A.placed x.first tree r s h) (B.placed x.second tree r s h) };
+    ghost placed = { λ x tree r s h. All-append (IsPlacedIn tree) _ _ (A.placed x.first tree r s h) (B.placed x.second tree r s h) };
 
     ghost apart = { λ x tree s q some others h. pair_apart q _ _ _ _ (A.apart x.first tree s q some others h) (B.apart x.second tree s q some others h) };
 

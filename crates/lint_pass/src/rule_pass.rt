@@ -20,7 +20,7 @@ pub trait RulePass {
     ghost use Rattle.lint_base.specs.declared.settings.LinterSettings.{LinterSettings};
     ghost use Rattle.lint_base.specs.declared.violation.Violation.{Violation};
     ghost use Rattle.lint_pass.specs.Blocks.{blocks_of};
-    ghost use Rattle.lint_pass.specs.Laws.{HasCode, IsRead, StandsIn};
+    ghost use Rattle.lint_pass.specs.Laws.{HasCode, IsRead, IsPlacedIn};
 
     /// What it remembers of the statements that it was given.
     type Memory: Drop;
@@ -41,7 +41,7 @@ pub trait RulePass {
     ghost coded: { (x : Self) (tree : Tree) (s : LinterSettings) (i : ℕ) → All (HasCode (code x)) (reports x tree s i) };
 
     /// Each report is in the text.
-    ghost placed: { (x : Self) (tree : Tree) (s : LinterSettings) (i : ℕ) → IsRead tree → All (StandsIn tree) (reports x tree s i) };
+    ghost placed: { (x : Self) (tree : Tree) (s : LinterSettings) (i : ℕ) → IsRead tree → All (IsPlacedIn tree) (reports x tree s i) };
 
     /// Its rule.
     fn code(&self) -> Rule
@@ -55,9 +55,9 @@ pub trait RulePass {
     fn begin(&self, alloc: Global, set: &LinterSettings) -> Result<Self::Memory, NoMemory>
         ensures { IfOk result (λ m. (tree : Tree) → IsCleared tree set.now → knows self.now m tree set.now 0) };
 
-    /// Reports on statement `i`, counted from 0, and goes after it. The error comes when memory runs out; then a first part of the
+    /// Reports on statement `i`, counted from 0, and advances past it. The error comes when memory runs out; then a prefix of the
     /// reports has been added, and the memory is of no use any more.
-    fn tell(
+    fn visit(
         &self,
         memory: &mut Self::Memory,
         p: &Parse<'_>,
@@ -81,8 +81,9 @@ impl<T: RulePass> StepPass for T {
     ghost use Rattle.std.specs.Prelude.{◌≡◌, ◌&&◌, true, [], length};
     ghost use Rattle.std.proofs.lemmas.List.{append-nil};
     ghost use Rattle.lint_base.specs.RuleSets.{has, no_rules, with_rule};
-    ghost use Rattle.lint_pass.specs.Laws.{StandsIn};
-    ghost use Rattle.lint_pass.specs.RuleLaws.{piece_of, table_of, rule_all, rule_apart, rule_coded};
+    ghost use Rattle.lint_pass.specs.Laws.{IsPlacedIn};
+    ghost use Rattle.lint_pass.specs.RuleLaws.{rule_all, rule_apart, rule_coded};
+    ghost use Rattle.lint_pass.specs.RuleTables.{enabled_reports, table_of};
 
     type State = T::Memory;
 
@@ -92,7 +93,7 @@ impl<T: RulePass> StepPass for T {
 
     ghost wants = { λ x r. has r (T.code x) && T.wants x };
 
-    ghost piece = { λ x tree r s i. piece_of (T.code x) (T.reports x tree s) r i };
+    ghost reports_at = { λ x tree r s i. enabled_reports (T.code x) (T.reports x tree s) r i };
 
     ghost tail = { λ _ _ _ _. [] };
 
@@ -102,7 +103,7 @@ impl<T: RulePass> StepPass for T {
 
     ghost coded = { λ x tree r s. rule_coded (T.code x) (T.reports x tree s) r (length tree.stmts) (T.coded x tree s) };
 
-    ghost placed = { λ x tree r s h. rule_all (StandsIn tree) (T.code x) (T.reports x tree s) r (length tree.stmts) (λ i. T.placed x tree s i h) };
+    ghost placed = { λ x tree r s h. rule_all (IsPlacedIn tree) (T.code x) (T.reports x tree s) r (length tree.stmts) (λ i. T.placed x tree s i h) };
 
     ghost apart = { λ x tree s q some others h. rule_apart (T.code x) (T.reports x tree s) (length tree.stmts) q some others h (T.coded x tree s) };
 
@@ -134,7 +135,7 @@ impl<T: RulePass> StepPass for T {
         if !rules.contains(RulePass::code(self)) {
             return Ok(());
         }
-        self.tell(state, p, i, s, blocks, set, out)?;
+        self.visit(state, p, i, s, blocks, set, out)?;
         Ok(())
     }
 

@@ -18,7 +18,7 @@ pub trait StatementPass {
     ghost use Rattle.lint_base.specs.declared.rule.Rule.{Rule};
     ghost use Rattle.lint_base.specs.declared.settings.LinterSettings.{LinterSettings};
     ghost use Rattle.lint_base.specs.declared.violation.Violation.{Violation};
-    ghost use Rattle.lint_pass.specs.Laws.{HasCode, IsRead, StandsIn};
+    ghost use Rattle.lint_pass.specs.Laws.{HasCode, IsRead, IsPlacedIn};
 
     /// Its rule.
     ghost code: { Self → Rule };
@@ -30,7 +30,7 @@ pub trait StatementPass {
     ghost coded: { (x : Self) (tree : Tree) (s : LinterSettings) (t : Stmt) → All (HasCode (code x)) (reports x tree s t) };
 
     /// Each report is in the text.
-    ghost placed: { (x : Self) (tree : Tree) (s : LinterSettings) (t : Stmt) → IsRead tree → All (StandsIn tree) (reports x tree s t) };
+    ghost placed: { (x : Self) (tree : Tree) (s : LinterSettings) (t : Stmt) → IsRead tree → All (IsPlacedIn tree) (reports x tree s t) };
 
     /// Its rule.
     fn code(&self) -> Rule
@@ -79,7 +79,7 @@ impl<T: StatementPass> RulePass for T {
         Ok(alloc)
     }
 
-    fn tell(
+    fn visit(
         &self,
         memory: &mut Global,
         p: &Parse<'_>,

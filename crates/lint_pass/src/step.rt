@@ -11,8 +11,8 @@ use sql_tree::{Parse, Stmt};
 use std::alloc::Global;
 use text_pos::NoMemory;
 
-/// A pass that takes one statement after another, so that one walk can feed many. It reports its pieces, one for each
-/// statement, and then its tail.
+/// A pass that takes one statement after another, so that one walk can feed many. It reports on one statement after
+/// another, and then adds its tail.
 ///
 /// A state belongs to one walk: the pass, tree, rules and settings of all its calls are the same. It holds no text of the
 /// tree, which is at hand in each call.
@@ -23,9 +23,9 @@ pub trait StepPass {
     ghost use Rattle.lint_base.specs.declared.rule.Rule.{Rule};
     ghost use Rattle.lint_base.specs.declared.settings.LinterSettings.{LinterSettings};
     ghost use Rattle.lint_base.specs.declared.violation.Violation.{Violation};
-    ghost use Rattle.lint_transaction.specs.Earlier.{pieces_below};
+    ghost use Rattle.lint_transaction.specs.Earlier.{concat_below};
     ghost use Rattle.lint_pass.specs.Blocks.{blocks_of};
-    ghost use Rattle.lint_pass.specs.Laws.{IsOf, IsRead, StandsIn, reports_by};
+    ghost use Rattle.lint_pass.specs.Laws.{IsOf, IsRead, IsPlacedIn, reports_by};
 
     /// The rules that it reports.
     ghost own: { Self → Rules };
@@ -40,7 +40,7 @@ pub trait StepPass {
     ghost wants: { Self → Rules → Bool };
 
     /// The reports on the statement of this number.
-    ghost piece: { Self → Tree → Rules → LinterSettings → ℕ → List Violation };
+    ghost reports_at: { Self → Tree → Rules → LinterSettings → ℕ → List Violation };
 
     /// The reports after the last statement.
     ghost tail: { Self → Tree → Rules → LinterSettings → List Violation };
@@ -48,14 +48,14 @@ pub trait StepPass {
     /// All reports for a tree, rules and settings.
     ghost table: { Self → Tree → Rules → LinterSettings → List Violation };
 
-    /// The pieces in order, and then the tail, are the table.
-    ghost whole: { (x : Self) (tree : Tree) (r : Rules) (s : LinterSettings) → pieces_below (piece x tree r s) (length tree.stmts) ++ tail x tree r s ≡ table x tree r s };
+    /// The reports on the statements in order, and then the tail, are the table.
+    ghost whole: { (x : Self) (tree : Tree) (r : Rules) (s : LinterSettings) → concat_below (reports_at x tree r s) (length tree.stmts) ++ tail x tree r s ≡ table x tree r s };
 
     /// Each report is of a rule of its own that is enabled.
     ghost coded: { (x : Self) (tree : Tree) (r : Rules) (s : LinterSettings) → All (IsOf (own x) r) (table x tree r s) };
 
     /// Each report is in the text.
-    ghost placed: { (x : Self) (tree : Tree) (r : Rules) (s : LinterSettings) → IsRead tree → All (StandsIn tree) (table x tree r s) };
+    ghost placed: { (x : Self) (tree : Tree) (r : Rules) (s : LinterSettings) → IsRead tree → All (IsPlacedIn tree) (table x tree r s) };
 
     /// A rule's reports are the same whichever other rules are enabled.
     ghost apart: { (x : Self) (tree : Tree) (s : LinterSettings) (q : Rule) (some others : Rules) → has some q ≡ has others q → reports_by q (table x tree some s) ≡ reports_by q (table x tree others s) };
@@ -72,8 +72,8 @@ pub trait StepPass {
     fn start(&self, alloc: Global, set: &LinterSettings) -> Result<Self::State, NoMemory>
         ensures { IfOk result (λ state. (tree : Tree) (r : Rules) → IsCleared tree set.now → at self.now state tree r set.now 0) };
 
-    /// Gives the pass statement `i`, counted from 0, with the blocks of the tree, and adds its piece. The error comes when
-    /// memory runs out; then a first part of the piece has been added, and the state is of no use any more.
+    /// Gives the pass statement `i`, counted from 0, with the blocks of the tree, and adds its reports. The error comes when
+    /// memory runs out; then a prefix of them has been added, and the state is of no use any more.
     fn step(
         &self,
         state: &mut Self::State,
@@ -91,8 +91,8 @@ pub trait StepPass {
         requires stmt { s.now ≡ stmt_at p.now i }
         requires blocks { wants self.now rules.now ≡ true → blocks.now ≡ blocks_of p.now }
         ensures state { OnOk result (at self.now state.new p.now rules.now set.now (i + 1)) }
-        ensures ok { OnOk result (out.new ≡ out.old ++ piece self.now p.now rules.now set.now i) }
-        ensures err { OnErr result (GrownBy out.old out.new (piece self.now p.now rules.now set.now i)) };
+        ensures ok { OnOk result (out.new ≡ out.old ++ reports_at self.now p.now rules.now set.now i) }
+        ensures err { OnErr result (GrownBy out.old out.new (reports_at self.now p.now rules.now set.now i)) };
 
     /// Takes the state after the last statement, and adds the tail. The error comes when memory runs out; then a first part of the
     /// tail has been added.

@@ -1,4 +1,4 @@
-//! Passes that are asked only where some rule of theirs is enabled.
+//! Passes that are skipped unless one of their rules is enabled.
 
 ghost use Rattle.std.specs.Prelude.{◌≡◌, ◌+◌, ◌<◌, ◌++◌, length, true, OnOk, OnErr, IfOk};
 ghost use Rattle.lint_base.specs.Grown.{GrownBy};
@@ -11,7 +11,7 @@ use sql_tree::{Parse, Stmt};
 use std::alloc::Global;
 use text_pos::NoMemory;
 
-/// A pass that is asked only where some rule of its own is enabled. It reports what the pass reports. A linter with few rules so
+/// A pass that is skipped unless one of its rules is enabled. It reports what the pass reports. A linter with few rules so
 /// passes over a whole [`crate::Pair`] of passes by one test.
 #[derive(Drop)]
 pub struct WhereEnabled<P> {
@@ -21,7 +21,7 @@ pub struct WhereEnabled<P> {
 impl<P: StepPass> WhereEnabled<P> {
     /// Whether some rule of the pass is enabled.
     #[inline(always)]
-    fn is_asked(&self, rules: &RuleSet) -> bool
+    fn has_enabled_rule(&self, rules: &RuleSet) -> bool
         ensures { result ≡ some_enabled (P.own self.now.pass) rules.now }
     {
         self.pass.rules().intersects(*rules)
@@ -40,7 +40,7 @@ impl<P: StepPass> StepPass for WhereEnabled<P> {
 
     ghost wants = { λ x. P.wants x.pass };
 
-    ghost piece = { λ x. P.piece x.pass };
+    ghost reports_at = { λ x. P.reports_at x.pass };
 
     ghost tail = { λ x. P.tail x.pass };
 
@@ -78,7 +78,7 @@ impl<P: StepPass> StepPass for WhereEnabled<P> {
         set: &LinterSettings,
         out: &mut Reports,
     ) -> Result<(), NoMemory> {
-        if self.is_asked(rules) {
+        if self.has_enabled_rule(rules) {
             self.pass.step(state, p, i, s, blocks, rules, set, out)
         } else {
             Ok(())
@@ -94,7 +94,7 @@ impl<P: StepPass> StepPass for WhereEnabled<P> {
         set: &LinterSettings,
         out: &mut Reports,
     ) -> Result<(), NoMemory> {
-        if !self.is_asked(rules) {
+        if !self.has_enabled_rule(rules) {
             return Ok(());
         }
         self.pass.finish(alloc, state, p, rules, set, out)

@@ -1,5 +1,5 @@
-//! What the passes of a linter are made of: the open transaction and the tables that it created, the locks of statements,
-//! ignore comments, and the machinery of passes. Each is a crate of its own, and all are reached here under one name.
+//! The port's names of what passes are made of: the open transaction and the tables that it created, the locks of statements, ignore
+//! comments, and the machinery of passes. This crate only passes them on, and nothing but tests is built on it.
 #![tactic(auto)]
 
 pub use lint_ignore::{

@@ -4,8 +4,9 @@ use Rattle.std.proofs.lemmas.List.{append-nil, map-append, take_more, take-appen
 use Rattle.std.proofs.lemmas.List.Folds.{list_any-append}
 use Rattle.std.specs.List.{list_any}
 use Rattle.std.specs.Option.{option_or}
-use Rattle.lint_base.specs.Grown.{GrownBy, grown_by_first, grown_by_second}
-use Rattle.lint_transaction.specs.Earlier.{pieces_below}
+use Rattle.lint_base.specs.Grown.{GrownBy}
+use Rattle.lint_base.specs.GrownLaws.{grown_by_first, grown_by_second}
+use Rattle.lint_transaction.specs.Earlier.{concat_below}
 use Rattle.lint_transaction.specs.Events.{each_event, any_event, since_event, last_event}
 
 or_assoc : (a b c : Bool) → (a || (b || c)) ≡ ((a || b) || c)
@@ -110,7 +111,7 @@ module _ {E X A : Type 0} (f : List E → E → List A) (g : X → E) (xs : List
       ∙ sym (each_event-append f es (map g (take (k + 1) xs)) (map g (drop (k + 1) xs)))
       ∙ ap (each_event f es) (sym (map-append g (take (k + 1) xs) (drop (k + 1) xs)) ∙ ap (map g) (take-append-drop (k + 1) xs))
 
-  -- the pieces so far, and then a front of this one, are a front of all
+  -- the pieces so far, and then a prefix of this one, are a prefix of all
   pub pieces_front : (old mid new : List A) → mid ≡ old ++ each_event f es so_far → GrownBy mid new (f (es ++ so_far) (g x)) → GrownBy old new (each_event f es (map g xs))
   pieces_front old mid new m h =
       subst (λ r. GrownBy old new r) all_pieces
@@ -120,6 +121,6 @@ module _ {E X A : Type 0} (f : List E → E → List A) (g : X → E) (xs : List
 -- ---- a history in parts
 
 -- the pieces of the parts are those of the whole
-pub history_whole : {E A : Type 0} (f : List E → E → List A) (h : ℕ → List E) (n : ℕ) → pieces_below (λ i. each_event f (pieces_below h i) (h i)) n ≡ each_event f [] (pieces_below h n)
+pub history_whole : {E A : Type 0} (f : List E → E → List A) (h : ℕ → List E) (n : ℕ) → concat_below (λ i. each_event f (concat_below h i) (h i)) n ≡ each_event f [] (concat_below h n)
 history_whole f h zero = refl
-history_whole f h (suc n) = ap (λ r. r ++ each_event f (pieces_below h n) (h n)) (history_whole f h n) ∙ sym (each_event-append f [] (pieces_below h n) (h n))
+history_whole f h (suc n) = ap (λ r. r ++ each_event f (concat_below h n) (h n)) (history_whole f h n) ∙ sym (each_event-append f [] (concat_below h n) (h n))

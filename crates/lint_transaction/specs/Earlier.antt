@@ -15,6 +15,6 @@ abbrev pub since : (ℕ → Bool) → (ℕ → Bool) → ℕ → Bool
 since mark reset i = any_below (λ j. mark j && not (any_between reset j i)) i
 
 -- the pieces of the numbers below n, in order
-abbrev pub pieces_below : {A : Type 0} → (ℕ → List A) → ℕ → List A
-pieces_below f zero = []
-pieces_below f (suc n) = pieces_below f n ++ f n
+abbrev pub concat_below : {A : Type 0} → (ℕ → List A) → ℕ → List A
+concat_below f zero = []
+concat_below f (suc n) = concat_below f n ++ f n

@@ -91,3 +91,8 @@ creates_at assumed tree path j = creates tree path (stmt_at tree j) && is_open a
 -- The table of this path is new at statement i: an earlier statement of the same open transaction creates it.
 abbrev pub is_new : Bool → Tree → List (List ℕ) → ℕ → Bool
 is_new assumed tree path i = since (creates_at assumed tree path) (ends_at tree) i
+
+-- The table of this path is new at statement i; without a path there is none.
+abbrev pub is_new_table : Bool → Tree → ℕ → Option Span → Bool
+is_new_table assumed tree i None = false
+is_new_table assumed tree i (Some path) = is_new assumed tree (path_cuts tree.text tree.toks path) i

@@ -5,7 +5,7 @@ ghost use Rattle.sql_tree.specs.Path.{path_cuts};
 ghost use Rattle.sql_tree.specs.Statement.{Tree};
 ghost use Rattle.lint_transaction.specs.SpanSet.{has_span};
 ghost use Rattle.lint_transaction.specs.Transaction as spec;
-ghost use Rattle.lint_transaction.specs.Transaction.{creates, is_new, is_open, stmt_at};
+ghost use Rattle.lint_transaction.specs.Transaction.{creates, is_new, is_new_table, is_open, stmt_at};
 ghost use Rattle.lint_transaction.specs.Created.{IsKnown};
 
 use crate::open::OpenTransaction;
@@ -62,6 +62,16 @@ impl CreatedTables {
             → result ≡ is_new assumed p.now (path_cuts p.now.text p.now.toks path) i }
     {
         self.tables.contains(p, path)
+    }
+
+    /// Whether the open transaction created the table that a statement names, if it names one.
+    pub fn has_table(&self, p: &Parse<'_>, path: Option<Span>) -> bool
+        ensures { (assumed : Bool) (i : ℕ) → IsKnown p.now assumed i self.now → result ≡ is_new_table assumed p.now i path }
+    {
+        match path {
+            Some(path) => self.contains(p, path),
+            None => false,
+        }
     }
 
     /// Goes after a statement of the tree. After a refusal, which comes when memory runs out, nothing has changed. It is inlined, since

@@ -21,7 +21,7 @@ mod tables;
 
 pub use created_tables::CreatedTables;
 pub use laws::histories_grow;
-pub use name::name_at;
+pub use name::{is_listed_call, is_one_name, is_same_name, name_at};
 pub use open::OpenTransaction;
 pub use span_key::SpanKey;
 pub use span_map::SpanMap;

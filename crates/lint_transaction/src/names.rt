@@ -2,14 +2,15 @@
 
 ghost use Rattle.std.specs.Prelude.{◌≡◌, ◌+◌, ◌<◌, ◌∷◌, [], length, true, IfSome, IfNone};
 ghost use Rattle.sql_name.specs.Compared.{name_cut};
-ghost use Rattle.sql_tree.specs.Path.{path_cuts, name_cuts, is_name_kind};
+ghost use Rattle.sql_token.specs.Terminal.{is_name_kind};
+ghost use Rattle.sql_tree.specs.Path.{path_cuts, name_cuts};
 ghost use Rattle.sql_tree.specs.Range.{token_at};
 ghost use Rattle.lint_transaction.specs.NamesLeft.{name_given, names_from, names_left};
 ghost use Rattle.lint_transaction.specs.Transaction.{same_path};
 ghost use Rattle.lint_transaction.specs.SpanKey.{hash_of};
 
 use sql_name::Name;
-use sql_token::{Span, TokKind};
+use sql_token::Span;
 use sql_tree::Parse;
 use std::hash::{FoldHasher, Hash, Hasher};
 
@@ -23,16 +24,6 @@ struct Names<'a, 't> {
     end: usize,
 }
 
-/// Whether a token of this kind is a name.
-fn is_name(kind: TokKind) -> bool
-    ensures { result ≡ is_name_kind kind }
-{
-    match kind {
-        TokKind::Word | TokKind::Quoted => true,
-        _ => false,
-    }
-}
-
 /// The number of the first name among the tokens from `next` to before `end`.
 fn name_from(p: &Parse<'_>, next: usize, end: usize) -> Option<usize>
     ensures within { IfSome result (λ i. i < length p.now.toks) }
@@ -42,7 +33,7 @@ fn name_from(p: &Parse<'_>, next: usize, end: usize) -> Option<usize>
 {
     let limit = p.tokens().len().min(end);
     for i in next..limit {
-        if is_name(p.tokens()[i].kind) {
+        if p.tokens()[i].kind.is_name() {
             return Some(i);
         }
     }
@@ -86,7 +77,7 @@ fn is_name_at(p: &Parse<'_>, i: usize) -> bool
     requires { i < length p.now.toks }
     ensures { result ≡ is_name_kind (token_at p.now.toks i).kind }
 {
-    is_name(p.tokens()[i].kind)
+    p.tokens()[i].kind.is_name()
 }
 
 /// Whether two tokens are names that are written alike.

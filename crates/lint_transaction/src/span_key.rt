@@ -2,12 +2,10 @@
 
 ghost use Rattle.std.specs.Prelude.{◌≡◌, fold};
 ghost use Rattle.std.specs.Hash.FoldHasher as folding;
-ghost use Rattle.std.specs.Str.{bytes_eq};
-ghost use Rattle.lint_transaction.specs.Names as given;
 ghost use Rattle.lint_transaction.specs.SpanKey.{key_of, hash_of};
 ghost use Rattle.lint_transaction.specs.Transaction.{same_path};
 
-use crate::name::name_at;
+use crate::name::{is_same_name, name_at};
 use crate::names::{hash_path, is_same_path};
 use sql_token::Span;
 use sql_tree::Parse;
@@ -70,12 +68,4 @@ pub(crate) fn is_same(p: &Parse<'_>, key: SpanKey, a: Span, b: Span) -> bool
             is_same_name(p, a.first, b.first) && is_same_name(p, a.last, b.last)
         }
     }
-}
-
-/// Whether two tokens give the same name. It is not inlined, since most spans are compared as paths.
-#[inline(never)]
-fn is_same_name(p: &Parse<'_>, a: u32, b: u32) -> bool
-    ensures { result ≡ bytes_eq (given.name_at p.now a) (given.name_at p.now b) }
-{
-    name_at(p, a) == name_at(p, b)
 }

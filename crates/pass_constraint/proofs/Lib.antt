@@ -1,2 +1,2 @@
-pub mod NameSearch
 pub mod VolatilityLevels
+pub mod ConstraintLaws

@@ -1,16 +1,15 @@
 -- Expressions that are not volatile, level by level.
-use Rattle.std.proofs.Common.{◌≡◌, ◌∙◌, sym, ap, refl, ℕ, Bool, true, false, ◌&&◌, List, [], ◌∷◌, map, Option}
+use Rattle.std.proofs.Common.{◌≡◌, ◌∙◌, sym, ap, ℕ, Bool, true, false, List, Option}
+use Rattle.std.proofs.lemmas.List.Folds.{list_all-map}
 use Rattle.std.specs.List.{list_all}
+use Rattle.std.specs.Prelude.{codes}
 use Rattle.sql_token.specs.declared.token.Span.{Span}
 use Rattle.sql_tree.specs.declared.nodes.Expr.{Expr, fold-Expr, fold-roll-Expr}
 use Rattle.sql_tree.specs.declared.nodes.Expr.TheVariants as e
 use Rattle.sql_tree.specs.declared.nodes.Expr.TheOpen as layer
 use Rattle.sql_tree.specs.Statement.{Tree}
-use Rattle.pass_constraint.specs.Volatility.{is_current_timestamp, is_listed_call, is_non_volatile_or_const, of_parts}
-
-all_map : {X : Type 0} (p : X → Bool) (xs : List X) → list_all (λ b. b) (map p xs) ≡ list_all p xs
-all_map p [] = refl
-all_map p (x ∷ xs) = ap (λ b. p x && b) (all_map p xs)
+use Rattle.lint_transaction.specs.Names.{is_listed_call, is_one_name}
+use Rattle.pass_constraint.specs.Volatility.{is_non_volatile_or_const, of_parts}
 
 pub literal_level : (names : List (List ℕ)) (tree : Tree) → is_non_volatile_or_const names tree e.Literal ≡ true
 unfolding is_non_volatile_or_const
@@ -28,13 +27,13 @@ pub call_level : (names : List (List ℕ)) (tree : Tree) (name : Option ℕ) (no
 unfolding is_non_volatile_or_const
 call_level names tree name no_args = ap (fold-Expr Bool (of_parts names tree)) (sym (e.rolls-Call name no_args)) ∙ fold-roll-Expr Bool (of_parts names tree) (layer.Call name no_args)
 
-pub name_level : (names : List (List ℕ)) (tree : Tree) (path : Span) → is_non_volatile_or_const names tree (e.Name path) ≡ is_current_timestamp tree path
+pub name_level : (names : List (List ℕ)) (tree : Tree) (path : Span) → is_non_volatile_or_const names tree (e.Name path) ≡ is_one_name tree path (codes "current_timestamp")
 unfolding is_non_volatile_or_const
 name_level names tree path = ap (fold-Expr Bool (of_parts names tree)) (sym (e.rolls-Name path)) ∙ fold-roll-Expr Bool (of_parts names tree) (layer.Name path)
 
 pub bin_level : (names : List (List ℕ)) (tree : Tree) (parts : List Expr) → is_non_volatile_or_const names tree (e.Bin parts) ≡ list_all (is_non_volatile_or_const names tree) parts
 unfolding is_non_volatile_or_const
-bin_level names tree parts = ap (fold-Expr Bool (of_parts names tree)) (sym (e.rolls-Bin parts)) ∙ (fold-roll-Expr Bool (of_parts names tree) (layer.Bin parts) ∙ all_map (is_non_volatile_or_const names tree) parts)
+bin_level names tree parts = ap (fold-Expr Bool (of_parts names tree)) (sym (e.rolls-Bin parts)) ∙ (fold-roll-Expr Bool (of_parts names tree) (layer.Bin parts) ∙ list_all-map (λ b. b) (is_non_volatile_or_const names tree) parts)
 
 pub cast_level : (names : List (List ℕ)) (tree : Tree) (x : Expr) → is_non_volatile_or_const names tree (e.Cast x) ≡ is_non_volatile_or_const names tree x
 unfolding is_non_volatile_or_const

@@ -1,33 +1,25 @@
 -- Which constraints that an ALTER TABLE adds are reported, and with which words (PostgreSQL manual, ALTER TABLE, "ADD
 -- table_constraint", "ADD table_constraint_using_index" and "ADD COLUMN").
-use Rattle.std.specs.Prelude.{ℕ, Bool, true, false, ◌&&◌, not, All, List, [], ◌++◌, codes, Option, Some, None, option_to_list, refl, if◌then◌else◌}
-use Rattle.std.proofs.lemmas.List.Elements.{All-append}
+use Rattle.std.specs.Prelude.{ℕ, Bool, true, false, ◌&&◌, not, List, [], ◌++◌, codes, Some, None, option_to_list, if◌then◌else◌}
 use Rattle.std.specs.List.{flat_map}
-use Rattle.sql_token.specs.declared.token.Span.{Span}
-use Rattle.sql_tree.specs.declared.kinds.ActionKind.TheVariants as action
 use Rattle.sql_tree.specs.declared.kinds.StmtKind.TheVariants as stmt
 use Rattle.sql_tree.specs.declared.nodes.Action.{Action}
-use Rattle.sql_tree.specs.declared.nodes.Body.{Body}
-use Rattle.sql_tree.specs.declared.nodes.Body.TheVariants as body
 use Rattle.sql_tree.specs.declared.nodes.ConKind.{ConKind}
 use Rattle.sql_tree.specs.declared.nodes.ConKind.TheVariants as con
 use Rattle.sql_tree.specs.declared.nodes.Constraint.{Constraint}
 use Rattle.sql_tree.specs.declared.nodes.Stmt.{Stmt}
 use Rattle.sql_tree.specs.Nodes.{actions_in}
-use Rattle.sql_tree.specs.Path.{path_cuts}
 use Rattle.sql_tree.specs.Range.{span_range_of}
 use Rattle.sql_tree.specs.Statement.{Tree}
 use Rattle.lint_base.specs.declared.rule.Rule.{Rule}
 use Rattle.lint_base.specs.declared.rule.Rule.TheVariants as rule
 use Rattle.lint_base.specs.declared.settings.LinterSettings.{LinterSettings}
 use Rattle.lint_base.specs.declared.violation.Violation.{Violation}
-use Rattle.lint_node.specs.Parts.{new_constraints}
-use Rattle.lint_node.specs.Same.{same_action, same_constraint, same_kind}
-use Rattle.lint_transaction.specs.Transaction.{is_new}
-use Rattle.lint_pass.specs.Laws.{HasCode, IsRead, StandsIn}
-use Rattle.lint_pass.specs.PlaceLaws.{span_place}
-use Rattle.lint_pass.specs.RuleLaws.{flat_all, where_all}
-use Rattle.lint_pass.specs.Those.{those, those_all}
+use Rattle.lint_node.specs.Altered.{path_in}
+use Rattle.lint_node.specs.Parts.{added_constraint, new_constraints}
+use Rattle.lint_node.specs.Same.{same_constraint, same_kind}
+use Rattle.lint_transaction.specs.Transaction.{is_new_table}
+use Rattle.lint_pass.specs.Those.{those}
 use Rattle.pass_constraint.specs.declared.constraint_rows.ConstraintRow.{ConstraintRow}
 use Rattle.pass_constraint.specs.declared.constraint_rows.Excuse.{Excuse}
 use Rattle.pass_constraint.specs.declared.constraint_rows.Excuse.TheVariants as excuse
@@ -59,8 +51,8 @@ lent r = record {
 }
 
 -- FOREIGN KEY, but not with NOT VALID, and each REFERENCES of a new column
-abbrev pub foreign_keys : Row
-foreign_keys = record {
+abbrev pub row_of_adding_foreign_key_constraint : Row
+row_of_adding_foreign_key_constraint = record {
   code = rule.AddingForeignKeyConstraint;
   of_table = con.ForeignKey;
   excuse = excuse.NotValid;
@@ -71,8 +63,8 @@ foreign_keys = record {
 }
 
 -- PRIMARY KEY, but not by USING INDEX, and of a new column, both on a table that is not new
-abbrev pub primary_keys : Row
-primary_keys = record {
+abbrev pub row_of_adding_serial_primary_key_field : Row
+row_of_adding_serial_primary_key_field = record {
   code = rule.AddingSerialPrimaryKeyField;
   of_table = con.PrimaryKey;
   excuse = excuse.ByIndex;
@@ -83,8 +75,8 @@ primary_keys = record {
 }
 
 -- UNIQUE, but not by USING INDEX, and each one of a new column
-abbrev pub uniques : Row
-uniques = record {
+abbrev pub row_of_disallowed_unique_constraint : Row
+row_of_disallowed_unique_constraint = record {
   code = rule.DisallowedUniqueConstraint;
   of_table = con.Unique;
   excuse = excuse.ByIndex;
@@ -97,13 +89,13 @@ uniques = record {
 -- ---- which constraints are reported
 
 -- the constraint has the mark that excuses it
-abbrev pub has_mark : Excuse → Constraint → Bool
-has_mark excuse.NotValid c = c.not_valid
-has_mark excuse.ByIndex c = c.by_index
+abbrev pub is_excused_by : Excuse → Constraint → Bool
+is_excused_by excuse.NotValid c = c.not_valid
+is_excused_by excuse.ByIndex c = c.by_index
 
 -- as a constraint that is added to a table, which is new or not
 abbrev pub is_of_table : Row → Bool → Constraint → Bool
-is_of_table row new c = same_constraint c.kind row.of_table && not (has_mark row.excuse c) && not new
+is_of_table row new c = same_constraint c.kind row.of_table && not (is_excused_by row.excuse c) && not new
 
 -- As a constraint of a column that is added to a table, which is new or not. Its marks excuse nothing.
 abbrev pub is_of_column : Row → Bool → Constraint → Bool
@@ -123,7 +115,7 @@ report row tree c = record {
 
 -- the constraint that an ADD of a constraint adds
 abbrev pub added : Action → List Constraint
-added a = if same_action a.kind action.AddConstraint then option_to_list a.constraint else []
+added a = option_to_list (added_constraint a)
 
 abbrev pub on_table : Row → Bool → Tree → List Constraint → List Violation
 on_table row new tree constraints = those (is_of_table row new) (report row tree) constraints
@@ -134,47 +126,9 @@ on_column row new tree constraints = those (is_of_column row new) (report row tr
 abbrev pub on_action : Row → Bool → Tree → Action → List Violation
 on_action row new tree a = on_table row new tree (added a) ++ on_column row new tree (new_constraints a)
 
--- the path of the table that an ALTER TABLE alters
-abbrev pub altered_table : Body → Option Span
-altered_table (body.Alter path actions) = path
-altered_table _ = None
-
-abbrev pub is_new_table : LinterSettings → Tree → ℕ → Option Span → Bool
-is_new_table settings tree i None = false
-is_new_table settings tree i (Some path) = is_new settings.assume_in_transaction tree (path_cuts tree.text tree.toks path) i
-
 -- the constraints that s, which is statement i, adds
 abbrev pub added_by : Row → LinterSettings → Tree → ℕ → Stmt → List Violation
 added_by row settings tree i s =
     if same_kind s.kind stmt.AlterTable
-    then flat_map (on_action row (is_new_table settings tree i (altered_table s.body)) tree) (actions_in s.body)
+    then flat_map (on_action row (is_new_table settings.assume_in_transaction tree i (path_in s.body)) tree) (actions_in s.body)
     else []
-
--- ---- laws
-
-report_coded : (row : Row) (tree : Tree) (c : Constraint) → HasCode row.code (report row tree c)
-unfolding report
-report_coded row tree c = refl
-
-report_placed : (row : Row) (tree : Tree) (c : Constraint) → IsRead tree → StandsIn tree (report row tree c)
-unfolding report
-report_placed row tree c read = record { range = span_place tree read c.first c.last; edits = tt }
-
-added_all : (P : Violation → Type 0) (row : Row) (settings : LinterSettings) (tree : Tree) (i : ℕ) (s : Stmt) → ((c : Constraint) → P (report row tree c)) → All P (added_by row settings tree i s)
-added_all P row settings tree i s h =
-    where_all P (same_kind s.kind stmt.AlterTable) (flat_map (on_action row new tree) (actions_in s.body)) (λ _. flat_all P (on_action row new tree) (actions_in s.body) of_action)
-  where
-    new : Bool
-    new = is_new_table settings tree i (altered_table s.body)
-
-    of_action : (a : Action) → All P (on_action row new tree a)
-    of_action a =
-        All-append P (on_table row new tree (added a)) (on_column row new tree (new_constraints a))
-        (those_all P (is_of_table row new) (report row tree) (added a) h)
-        (those_all P (is_of_column row new) (report row tree) (new_constraints a) h)
-
-pub added_coded : (row : Row) (settings : LinterSettings) (tree : Tree) (i : ℕ) (s : Stmt) → All (HasCode row.code) (added_by row settings tree i s)
-added_coded row settings tree i s = added_all (HasCode row.code) row settings tree i s (report_coded row tree)
-
-pub added_placed : (row : Row) (settings : LinterSettings) (tree : Tree) (i : ℕ) (s : Stmt) → IsRead tree → All (StandsIn tree) (added_by row settings tree i s)
-added_placed row settings tree i s read = added_all (StandsIn tree) row settings tree i s (λ c. report_placed row tree c read)

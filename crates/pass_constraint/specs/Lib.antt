@@ -1,4 +1,10 @@
 pub mod AddedConstraints
-pub mod FieldWithDefault
-pub mod RequiredField
+pub mod AddedConstraintsLaws
+pub mod AddingFieldWithDefault
+pub mod AddingFieldWithDefaultLaws
+pub mod AddingRequiredField
+pub mod AddingRequiredFieldLaws
 pub mod Volatility
+pub mod ConstraintWalk
+pub mod ConstraintReports
+pub mod ConstraintMissingNotValid

@@ -74,19 +74,19 @@ const UNIQUES: ConstraintRow = ConstraintRow {
 };
 
 fn foreign_keys() -> &'static ConstraintRow
-    ensures { lent result.now ≡ spec.foreign_keys }
+    ensures { lent result.now ≡ spec.row_of_adding_foreign_key_constraint }
 {
     &FOREIGN_KEYS
 }
 
 fn primary_keys() -> &'static ConstraintRow
-    ensures { lent result.now ≡ spec.primary_keys }
+    ensures { lent result.now ≡ spec.row_of_adding_serial_primary_key_field }
 {
     &PRIMARY_KEYS
 }
 
 fn uniques() -> &'static ConstraintRow
-    ensures { lent result.now ≡ spec.uniques }
+    ensures { lent result.now ≡ spec.row_of_disallowed_unique_constraint }
 {
     &UNIQUES
 }
@@ -97,7 +97,8 @@ impl RulePass for AddingForeignKeyConstraint {
     ghost use Rattle.lint_transaction.specs.Created.{IsKnown};
     ghost use Rattle.lint_transaction.specs.Transaction.{stmt_at};
     ghost use Rattle.pass_constraint.specs.AddedConstraints as spec;
-    ghost use Rattle.pass_constraint.specs.AddedConstraints.{added_by, added_coded, added_placed};
+    ghost use Rattle.pass_constraint.specs.AddedConstraints.{added_by};
+    ghost use Rattle.pass_constraint.specs.AddedConstraintsLaws.{added_coded, added_placed};
 
     type Memory = CreatedTables;
 
@@ -107,11 +108,11 @@ impl RulePass for AddingForeignKeyConstraint {
 
     ghost wants = { λ _. false };
 
-    ghost reports = { λ _ tree set i. added_by spec.foreign_keys set tree i (stmt_at tree i) };
+    ghost reports = { λ _ tree set i. added_by spec.row_of_adding_foreign_key_constraint set tree i (stmt_at tree i) };
 
-    ghost coded = { λ _ tree set i. added_coded spec.foreign_keys set tree i (stmt_at tree i) };
+    ghost coded = { λ _ tree set i. added_coded spec.row_of_adding_foreign_key_constraint set tree i (stmt_at tree i) };
 
-    ghost placed = { λ _ tree set i. added_placed spec.foreign_keys set tree i (stmt_at tree i) };
+    ghost placed = { λ _ tree set i. added_placed spec.row_of_adding_foreign_key_constraint set tree i (stmt_at tree i) };
 
     fn code(&self) -> Rule {
         Rule::AddingForeignKeyConstraint
@@ -125,7 +126,7 @@ impl RulePass for AddingForeignKeyConstraint {
         Ok(CreatedTables::new(alloc, set.assume_in_transaction))
     }
 
-    fn tell(
+    fn visit(
         &self,
         created: &mut CreatedTables,
         p: &Parse<'_>,
@@ -147,7 +148,8 @@ impl RulePass for AddingPrimaryKeyConstraint {
     ghost use Rattle.lint_transaction.specs.Created.{IsKnown};
     ghost use Rattle.lint_transaction.specs.Transaction.{stmt_at};
     ghost use Rattle.pass_constraint.specs.AddedConstraints as spec;
-    ghost use Rattle.pass_constraint.specs.AddedConstraints.{added_by, added_coded, added_placed};
+    ghost use Rattle.pass_constraint.specs.AddedConstraints.{added_by};
+    ghost use Rattle.pass_constraint.specs.AddedConstraintsLaws.{added_coded, added_placed};
 
     type Memory = CreatedTables;
 
@@ -157,11 +159,11 @@ impl RulePass for AddingPrimaryKeyConstraint {
 
     ghost wants = { λ _. false };
 
-    ghost reports = { λ _ tree set i. added_by spec.primary_keys set tree i (stmt_at tree i) };
+    ghost reports = { λ _ tree set i. added_by spec.row_of_adding_serial_primary_key_field set tree i (stmt_at tree i) };
 
-    ghost coded = { λ _ tree set i. added_coded spec.primary_keys set tree i (stmt_at tree i) };
+    ghost coded = { λ _ tree set i. added_coded spec.row_of_adding_serial_primary_key_field set tree i (stmt_at tree i) };
 
-    ghost placed = { λ _ tree set i. added_placed spec.primary_keys set tree i (stmt_at tree i) };
+    ghost placed = { λ _ tree set i. added_placed spec.row_of_adding_serial_primary_key_field set tree i (stmt_at tree i) };
 
     fn code(&self) -> Rule {
         Rule::AddingSerialPrimaryKeyField
@@ -175,7 +177,7 @@ impl RulePass for AddingPrimaryKeyConstraint {
         Ok(CreatedTables::new(alloc, set.assume_in_transaction))
     }
 
-    fn tell(
+    fn visit(
         &self,
         created: &mut CreatedTables,
         p: &Parse<'_>,
@@ -197,7 +199,8 @@ impl RulePass for DisallowUniqueConstraint {
     ghost use Rattle.lint_transaction.specs.Created.{IsKnown};
     ghost use Rattle.lint_transaction.specs.Transaction.{stmt_at};
     ghost use Rattle.pass_constraint.specs.AddedConstraints as spec;
-    ghost use Rattle.pass_constraint.specs.AddedConstraints.{added_by, added_coded, added_placed};
+    ghost use Rattle.pass_constraint.specs.AddedConstraints.{added_by};
+    ghost use Rattle.pass_constraint.specs.AddedConstraintsLaws.{added_coded, added_placed};
 
     type Memory = CreatedTables;
 
@@ -207,11 +210,11 @@ impl RulePass for DisallowUniqueConstraint {
 
     ghost wants = { λ _. false };
 
-    ghost reports = { λ _ tree set i. added_by spec.uniques set tree i (stmt_at tree i) };
+    ghost reports = { λ _ tree set i. added_by spec.row_of_disallowed_unique_constraint set tree i (stmt_at tree i) };
 
-    ghost coded = { λ _ tree set i. added_coded spec.uniques set tree i (stmt_at tree i) };
+    ghost coded = { λ _ tree set i. added_coded spec.row_of_disallowed_unique_constraint set tree i (stmt_at tree i) };
 
-    ghost placed = { λ _ tree set i. added_placed spec.uniques set tree i (stmt_at tree i) };
+    ghost placed = { λ _ tree set i. added_placed spec.row_of_disallowed_unique_constraint set tree i (stmt_at tree i) };
 
     fn code(&self) -> Rule {
         Rule::DisallowedUniqueConstraint
@@ -225,7 +228,7 @@ impl RulePass for DisallowUniqueConstraint {
         Ok(CreatedTables::new(alloc, set.assume_in_transaction))
     }
 
-    fn tell(
+    fn visit(
         &self,
         created: &mut CreatedTables,
         p: &Parse<'_>,

@@ -3,8 +3,8 @@
 ghost use Rattle.std.specs.Prelude.{◌≡◌, ◌++◌, OnOk, OnErr};
 ghost use Rattle.std.specs.List.{flat_map};
 ghost use Rattle.lint_base.specs.Grown.{GrownBy};
-ghost use Rattle.pass_constraint.specs.FieldWithDefault as spec;
-ghost use Rattle.pass_constraint.specs.FieldWithDefault.{on_action, on_constraint, on_default};
+ghost use Rattle.pass_constraint.specs.AddingFieldWithDefault as spec;
+ghost use Rattle.pass_constraint.specs.AddingFieldWithDefault.{on_action, on_constraint, on_default};
 
 use crate::volatility::is_non_volatile_or_const;
 use lint_base::{LinterSettings, Reports, Rule, Text, Violation};
@@ -73,7 +73,7 @@ fn value_span(c: &Constraint) -> Span
     }
 }
 
-#[tactic(auto, unfolding(crate::specs::FieldWithDefault::default_report))]
+#[tactic(auto, unfolding(crate::specs::AddingFieldWithDefault::default_report))]
 fn default_report(p: &Parse<'_>, span: Span) -> Violation
     ensures { result ≡ spec.default_report p.now span }
 {
@@ -87,7 +87,7 @@ fn default_report(p: &Parse<'_>, span: Span) -> Violation
     }
 }
 
-#[tactic(auto, unfolding(crate::specs::FieldWithDefault::generated_report))]
+#[tactic(auto, unfolding(crate::specs::AddingFieldWithDefault::generated_report))]
 fn generated_report(p: &Parse<'_>, c: &Constraint) -> Violation
     ensures { result ≡ spec.generated_report p.now c.now }
 {
@@ -184,11 +184,12 @@ fn report_actions(
 
 impl StatementPass for AddingFieldWithDefault {
     ghost use Rattle.lint_base.specs.declared.rule.Rule.TheVariants as rule;
-    ghost use Rattle.pass_constraint.specs.FieldWithDefault.{fields_coded, fields_placed, fields_with_default};
+    ghost use Rattle.pass_constraint.specs.AddingFieldWithDefault.{reports_of_adding_field_with_default};
+    ghost use Rattle.pass_constraint.specs.AddingFieldWithDefaultLaws.{fields_coded, fields_placed};
 
     ghost code = { λ _. rule.AddingFieldWithDefault };
 
-    ghost reports = { λ _ tree set s. fields_with_default set tree s };
+    ghost reports = { λ _ tree set s. reports_of_adding_field_with_default set tree s };
 
     ghost coded = { λ _ tree set s. fields_coded set tree s };
 

@@ -3,8 +3,8 @@
 ghost use Rattle.std.specs.Prelude.{◌≡◌, ◌++◌, OnOk, OnErr};
 ghost use Rattle.lint_base.specs.Grown.{GrownBy};
 ghost use Rattle.lint_pass.specs.Those.{that, those};
-ghost use Rattle.pass_constraint.specs.RequiredField as spec;
-ghost use Rattle.pass_constraint.specs.RequiredField.{is_required};
+ghost use Rattle.pass_constraint.specs.AddingRequiredField as spec;
+ghost use Rattle.pass_constraint.specs.AddingRequiredField.{is_required};
 
 use lint_base::{LinterSettings, Reports, Rule, Text, Violation};
 use lint_node::{actions_of, new_constraints, same_constraint, same_kind};
@@ -44,7 +44,7 @@ fn are_required(constraints: &[Constraint]) -> bool
 }
 
 /// The report of an action that adds such a column.
-#[tactic(auto, unfolding(crate::specs::RequiredField::report))]
+#[tactic(auto, unfolding(crate::specs::AddingRequiredField::report))]
 fn report(p: &Parse<'_>, a: &Action) -> Violation
     ensures { result ≡ spec.report p.now a.now }
 {
@@ -83,11 +83,12 @@ fn report_actions(p: &Parse<'_>, actions: &[Action], out: &mut Reports) -> Resul
 
 impl StatementPass for AddingRequiredField {
     ghost use Rattle.lint_base.specs.declared.rule.Rule.TheVariants as rule;
-    ghost use Rattle.pass_constraint.specs.RequiredField.{required_fields, required_coded, required_placed};
+    ghost use Rattle.pass_constraint.specs.AddingRequiredField.{reports_of_adding_required_field};
+    ghost use Rattle.pass_constraint.specs.AddingRequiredFieldLaws.{required_coded, required_placed};
 
     ghost code = { λ _. rule.AddingRequiredField };
 
-    ghost reports = { λ _ tree _ s. required_fields tree s };
+    ghost reports = { λ _ tree _ s. reports_of_adding_required_field tree s };
 
     ghost coded = { λ _ tree _ s. required_coded tree s };
 

@@ -10,10 +10,11 @@ ghost use Rattle.pass_constraint.specs.AddedConstraints as spec;
 ghost use Rattle.pass_constraint.specs.AddedConstraints.{added, added_by, is_of_column, is_of_table, lent, on_action, on_column, on_table};
 
 use lint_base::{LinterSettings, Reports, Rule, Text, Violation};
-use lint_node::{actions_of, new_constraints, same_action, same_constraint, same_kind};
+use lint_node::{
+    actions_of, added_constraint, new_constraints, path_in, same_constraint, same_kind,
+};
 use lint_transaction::CreatedTables;
-use sql_token::Span;
-use sql_tree::{Action, ActionKind, Body, ConKind, Constraint, Parse, Stmt, StmtKind};
+use sql_tree::{Action, ConKind, Constraint, Parse, Stmt, StmtKind};
 use text_pos::NoMemory;
 
 /// What excuses a constraint that is added to a table.
@@ -42,8 +43,8 @@ pub(crate) struct ConstraintRow {
 }
 
 /// Whether a constraint has the mark that excuses it.
-fn has_mark(excuse: Excuse, c: &Constraint) -> bool
-    ensures { result ≡ spec.has_mark excuse c.now }
+fn is_excused_by(excuse: Excuse, c: &Constraint) -> bool
+    ensures { result ≡ spec.is_excused_by excuse c.now }
 {
     match excuse {
         Excuse::NotValid => c.not_valid,
@@ -77,7 +78,7 @@ fn report_of_table(
     ensures ok { OnOk result (out.new ≡ out.old ++ that (is_of_table (lent row.now) is_new) (spec.report (lent row.now) p.now) c.now) }
     ensures err { OnErr result (out.new ≡ out.old) }
 {
-    if same_constraint(c.kind, row.of_table) && !has_mark(row.excuse, c) && !is_new {
+    if same_constraint(c.kind, row.of_table) && !is_excused_by(row.excuse, c) && !is_new {
         out.push(report(row, p, c))
     } else {
         Ok(())
@@ -95,10 +96,7 @@ fn report_added(
     ensures ok { OnOk result (out.new ≡ out.old ++ on_table (lent row.now) is_new p.now (added a.now)) }
     ensures err { OnErr result (out.new ≡ out.old) }
 {
-    if !same_action(a.kind, ActionKind::AddConstraint) {
-        return Ok(());
-    }
-    match &a.constraint {
+    match added_constraint(a) {
         Some(c) => report_of_table(row, is_new, p, c, out),
         None => Ok(()),
     }
@@ -172,27 +170,6 @@ fn report_actions(
     Ok(())
 }
 
-/// The path of the table that an ALTER statement alters.
-fn altered_table(s: &Stmt) -> Option<Span>
-    ensures { result ≡ spec.altered_table s.now.body }
-{
-    match &s.body {
-        Body::Alter { path, .. } => *path,
-        _ => None,
-    }
-}
-
-/// Whether the open transaction created the table of this path.
-fn is_new(created: &CreatedTables, p: &Parse<'_>, path: Option<Span>) -> bool
-    ensures { (settings : LinterSettings) (i : ℕ) → IsKnown p.now settings.assume_in_transaction i created.now
-        → result ≡ spec.is_new_table settings p.now i path }
-{
-    match path {
-        Some(path) => created.contains(p, path),
-        None => false,
-    }
-}
-
 /// Reports the constraints that a statement adds, where the row is of them.
 pub(crate) fn report_statement(
     row: &ConstraintRow,
@@ -209,6 +186,6 @@ pub(crate) fn report_statement(
     if !same_kind(s.kind, StmtKind::AlterTable) {
         return Ok(());
     }
-    let is_on_new = is_new(created, p, altered_table(s));
+    let is_on_new = created.has_table(p, path_in(&s.body));
     report_actions(row, is_on_new, p, actions_of(s), out)
 }

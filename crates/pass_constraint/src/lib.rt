@@ -6,6 +6,7 @@
 mod added_constraints;
 mod adding_field_with_default;
 mod adding_required_field;
+mod constraint_missing_not_valid;
 mod constraint_rows;
 mod volatility;
 
@@ -14,4 +15,5 @@ pub use added_constraints::{
 };
 pub use adding_field_with_default::AddingFieldWithDefault;
 pub use adding_required_field::AddingRequiredField;
+pub use constraint_missing_not_valid::{ConstraintMissingNotValid, ConstraintMissingNotValidState};
 pub use volatility::is_non_volatile_or_const;

@@ -1,2 +1,5 @@
 pub mod Objects
 pub mod Parts
+pub mod BanTruncateCascade
+pub mod BanTruncateCascadeLaws
+pub mod Others

@@ -24,11 +24,11 @@ const BAN_DROP_DATABASE: [(Spot, &str, &str); 1] = [(
 
 impl BanPass for BanDropDatabase {
     ghost use Rattle.lint_base.specs.declared.rule.Rule.TheVariants as rule;
-    ghost use Rattle.pass_drop.specs.Objects.{drop_database};
+    ghost use Rattle.pass_drop.specs.Objects.{rows_of_ban_drop_database};
 
     ghost code = { λ _. rule.BanDropDatabase };
 
-    ghost rows = { λ _. drop_database };
+    ghost rows = { λ _. rows_of_ban_drop_database };
 
     fn code(&self) -> Rule {
         Rule::BanDropDatabase
@@ -63,11 +63,11 @@ const BAN_DROP_TABLE: [(Spot, &str, &str); 2] = [
 
 impl BanPass for BanDropTable {
     ghost use Rattle.lint_base.specs.declared.rule.Rule.TheVariants as rule;
-    ghost use Rattle.pass_drop.specs.Objects.{drop_table};
+    ghost use Rattle.pass_drop.specs.Objects.{rows_of_ban_drop_table};
 
     ghost code = { λ _. rule.BanDropTable };
 
-    ghost rows = { λ _. drop_table };
+    ghost rows = { λ _. rows_of_ban_drop_table };
 
     fn code(&self) -> Rule {
         Rule::BanDropTable
@@ -101,11 +101,11 @@ const BAN_DROP_VIEW: [(Spot, &str, &str); 2] = [
 
 impl BanPass for BanDropView {
     ghost use Rattle.lint_base.specs.declared.rule.Rule.TheVariants as rule;
-    ghost use Rattle.pass_drop.specs.Objects.{drop_view};
+    ghost use Rattle.pass_drop.specs.Objects.{rows_of_ban_drop_view};
 
     ghost code = { λ _. rule.BanDropView };
 
-    ghost rows = { λ _. drop_view };
+    ghost rows = { λ _. rows_of_ban_drop_view };
 
     fn code(&self) -> Rule {
         Rule::BanDropView
@@ -149,11 +149,11 @@ const BAN_DROP_FUNCTION: [(Spot, &str, &str); 4] = [
 
 impl BanPass for BanDropFunction {
     ghost use Rattle.lint_base.specs.declared.rule.Rule.TheVariants as rule;
-    ghost use Rattle.pass_drop.specs.Objects.{drop_function};
+    ghost use Rattle.pass_drop.specs.Objects.{rows_of_ban_drop_function};
 
     ghost code = { λ _. rule.BanDropFunction };
 
-    ghost rows = { λ _. drop_function };
+    ghost rows = { λ _. rows_of_ban_drop_function };
 
     fn code(&self) -> Rule {
         Rule::BanDropFunction
@@ -203,11 +203,11 @@ const BAN_DROP_TYPE: [(Spot, &str, &str); 5] = [
 
 impl BanPass for BanDropType {
     ghost use Rattle.lint_base.specs.declared.rule.Rule.TheVariants as rule;
-    ghost use Rattle.pass_drop.specs.Objects.{drop_type};
+    ghost use Rattle.pass_drop.specs.Objects.{rows_of_ban_drop_type};
 
     ghost code = { λ _. rule.BanDropType };
 
-    ghost rows = { λ _. drop_type };
+    ghost rows = { λ _. rows_of_ban_drop_type };
 
     fn code(&self) -> Rule {
         Rule::BanDropType
@@ -234,11 +234,11 @@ const BAN_DROP_TRIGGER: [(Spot, &str, &str); 1] = [(
 
 impl BanPass for BanDropTrigger {
     ghost use Rattle.lint_base.specs.declared.rule.Rule.TheVariants as rule;
-    ghost use Rattle.pass_drop.specs.Objects.{drop_trigger};
+    ghost use Rattle.pass_drop.specs.Objects.{rows_of_ban_drop_trigger};
 
     ghost code = { λ _. rule.BanDropTrigger };
 
-    ghost rows = { λ _. drop_trigger };
+    ghost rows = { λ _. rows_of_ban_drop_trigger };
 
     fn code(&self) -> Rule {
         Rule::BanDropTrigger
@@ -266,11 +266,11 @@ const BAN_DROP_SCHEMA: [(Spot, &str, &str); 1] = [(
 
 impl BanPass for BanDropSchema {
     ghost use Rattle.lint_base.specs.declared.rule.Rule.TheVariants as rule;
-    ghost use Rattle.pass_drop.specs.Objects.{drop_schema};
+    ghost use Rattle.pass_drop.specs.Objects.{rows_of_ban_drop_schema};
 
     ghost code = { λ _. rule.BanDropSchema };
 
-    ghost rows = { λ _. drop_schema };
+    ghost rows = { λ _. rows_of_ban_drop_schema };
 
     fn code(&self) -> Rule {
         Rule::BanDropSchema
@@ -297,11 +297,11 @@ const BAN_DROP_SEQUENCE: [(Spot, &str, &str); 1] = [(
 
 impl BanPass for BanDropSequence {
     ghost use Rattle.lint_base.specs.declared.rule.Rule.TheVariants as rule;
-    ghost use Rattle.pass_drop.specs.Objects.{drop_sequence};
+    ghost use Rattle.pass_drop.specs.Objects.{rows_of_ban_drop_sequence};
 
     ghost code = { λ _. rule.BanDropSequence };
 
-    ghost rows = { λ _. drop_sequence };
+    ghost rows = { λ _. rows_of_ban_drop_sequence };
 
     fn code(&self) -> Rule {
         Rule::BanDropSequence
@@ -328,11 +328,11 @@ const BAN_DROP_DOMAIN: [(Spot, &str, &str); 1] = [(
 
 impl BanPass for BanDropDomain {
     ghost use Rattle.lint_base.specs.declared.rule.Rule.TheVariants as rule;
-    ghost use Rattle.pass_drop.specs.Objects.{drop_domain};
+    ghost use Rattle.pass_drop.specs.Objects.{rows_of_ban_drop_domain};
 
     ghost code = { λ _. rule.BanDropDomain };
 
-    ghost rows = { λ _. drop_domain };
+    ghost rows = { λ _. rows_of_ban_drop_domain };
 
     fn code(&self) -> Rule {
         Rule::BanDropDomain

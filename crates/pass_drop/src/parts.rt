@@ -36,11 +36,11 @@ const BAN_DROP_COLUMN: [(Spot, &str, &str); 3] = [
 
 impl BanPass for BanDropColumn {
     ghost use Rattle.lint_base.specs.declared.rule.Rule.TheVariants as rule;
-    ghost use Rattle.pass_drop.specs.Parts.{drop_column};
+    ghost use Rattle.pass_drop.specs.Parts.{rows_of_ban_drop_column};
 
     ghost code = { λ _. rule.BanDropColumn };
 
-    ghost rows = { λ _. drop_column };
+    ghost rows = { λ _. rows_of_ban_drop_column };
 
     fn code(&self) -> Rule {
         Rule::BanDropColumn
@@ -79,11 +79,11 @@ const BAN_DROP_NOT_NULL: [(Spot, &str, &str); 3] = [
 
 impl BanPass for BanDropNotNull {
     ghost use Rattle.lint_base.specs.declared.rule.Rule.TheVariants as rule;
-    ghost use Rattle.pass_drop.specs.Parts.{drop_not_null};
+    ghost use Rattle.pass_drop.specs.Parts.{rows_of_ban_drop_not_null};
 
     ghost code = { λ _. rule.BanDropNotNull };
 
-    ghost rows = { λ _. drop_not_null };
+    ghost rows = { λ _. rows_of_ban_drop_not_null };
 
     fn code(&self) -> Rule {
         Rule::BanDropNotNull
@@ -127,11 +127,11 @@ const BAN_DROP_DEFAULT: [(Spot, &str, &str); 4] = [
 
 impl BanPass for BanDropDefault {
     ghost use Rattle.lint_base.specs.declared.rule.Rule.TheVariants as rule;
-    ghost use Rattle.pass_drop.specs.Parts.{drop_default};
+    ghost use Rattle.pass_drop.specs.Parts.{rows_of_ban_drop_default};
 
     ghost code = { λ _. rule.BanDropDefault };
 
-    ghost rows = { λ _. drop_default };
+    ghost rows = { λ _. rows_of_ban_drop_default };
 
     fn code(&self) -> Rule {
         Rule::BanDropDefault
@@ -181,11 +181,11 @@ const BAN_DROP_CONSTRAINT: [(Spot, &str, &str); 5] = [
 
 impl BanPass for BanDropConstraint {
     ghost use Rattle.lint_base.specs.declared.rule.Rule.TheVariants as rule;
-    ghost use Rattle.pass_drop.specs.Parts.{drop_constraint};
+    ghost use Rattle.pass_drop.specs.Parts.{rows_of_ban_drop_constraint};
 
     ghost code = { λ _. rule.BanDropConstraint };
 
-    ghost rows = { λ _. drop_constraint };
+    ghost rows = { λ _. rows_of_ban_drop_constraint };
 
     fn code(&self) -> Rule {
         Rule::BanDropConstraint
@@ -212,11 +212,11 @@ const BAN_DROP_GENERATED_EXPRESSION: [(Spot, &str, &str); 1] = [(
 
 impl BanPass for BanDropGeneratedExpression {
     ghost use Rattle.lint_base.specs.declared.rule.Rule.TheVariants as rule;
-    ghost use Rattle.pass_drop.specs.Parts.{drop_generated_expression};
+    ghost use Rattle.pass_drop.specs.Parts.{rows_of_ban_drop_generated_expression};
 
     ghost code = { λ _. rule.BanDropGeneratedExpression };
 
-    ghost rows = { λ _. drop_generated_expression };
+    ghost rows = { λ _. rows_of_ban_drop_generated_expression };
 
     fn code(&self) -> Rule {
         Rule::BanDropGeneratedExpression

@@ -6,15 +6,15 @@ use pass_constraint::{
     AddingFieldWithDefault, AddingForeignKeyConstraint, AddingPrimaryKeyConstraint,
     AddingRequiredField,
 };
+use pass_data_type::BanCharField;
 use pass_drop::BanDropDatabase;
 use pass_history::AddingNotNullField;
 use pass_session::BanConcurrentIndexCreationInTransaction;
-use pass_type::BanCharField;
 use sql_tree::{Parse, Stmt};
 use std::alloc::Global;
 use text_pos::NoMemory;
 
-/// Its members, in order, asked only where some rule of theirs is enabled.
+/// The members, in order. They are skipped unless one of their rules is enabled.
 type Members = WhereEnabled<
     Pair<
         Pair<
@@ -76,7 +76,7 @@ impl StepPass for Group1 {
 
     ghost wants = { λ _. ⟦<Members as StepPass>⟧.wants MEMBERS };
 
-    ghost piece = { λ _. ⟦<Members as StepPass>⟧.piece MEMBERS };
+    ghost reports_at = { λ _. ⟦<Members as StepPass>⟧.reports_at MEMBERS };
 
     ghost tail = { λ _. ⟦<Members as StepPass>⟧.tail MEMBERS };
 

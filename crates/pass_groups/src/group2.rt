@@ -2,10 +2,9 @@
 
 use lint_base::{LinterSettings, Reports, RuleSet};
 use lint_pass::{Block, Pair, StepPass, WhereEnabled};
-use pass_constraint::DisallowUniqueConstraint;
+use pass_constraint::{ConstraintMissingNotValid, DisallowUniqueConstraint};
+use pass_data_type::{ChangingColumnType, PreferBigintOverInt, PreferBigintOverSmallint};
 use pass_drop::{BanDropColumn, BanDropNotNull, BanDropTable};
-use pass_lock::ConstraintMissingNotValid;
-use pass_type::{ChangingColumnType, PreferBigintOverInt, PreferBigintOverSmallint};
 use sql_tree::{Parse, Stmt};
 use std::alloc::Global;
 use text_pos::NoMemory;
@@ -43,7 +42,7 @@ pub const AFTER_CONSTRAINTS: AfterConstraints = Pair {
     second: PreferBigintOverSmallint,
 };
 
-/// Its members, in order, asked only where some rule of theirs is enabled.
+/// The members, in order. They are skipped unless one of their rules is enabled.
 type Members = WhereEnabled<
     Pair<BeforeConstraints, Pair<ConstraintMissingNotValid, AfterConstraints>>,
 >;
@@ -81,7 +80,7 @@ impl StepPass for Group2 {
 
     ghost wants = { λ _. ⟦<Members as StepPass>⟧.wants MEMBERS };
 
-    ghost piece = { λ _. ⟦<Members as StepPass>⟧.piece MEMBERS };
+    ghost reports_at = { λ _. ⟦<Members as StepPass>⟧.reports_at MEMBERS };
 
     ghost tail = { λ _. ⟦<Members as StepPass>⟧.tail MEMBERS };
 

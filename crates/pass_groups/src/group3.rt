@@ -2,11 +2,11 @@
 
 use lint_base::{LinterSettings, Reports, RuleSet};
 use lint_pass::{Block, Pair, StepPass, WhereEnabled};
-use pass_compat::{RenamingColumn, RenamingTable};
+use pass_client::{RenamingColumn, RenamingTable};
+use pass_concurrent::RequireConcurrentIndexCreation;
+use pass_data_type::{PreferIdentity, PreferTextField, PreferTimestamptz};
 use pass_history::PreferRobustStmts;
-use pass_lock::RequireConcurrentIndexCreation;
 use pass_session::PreferRepack;
-use pass_type::{PreferIdentity, PreferTextField, PreferTimestamptz};
 use sql_tree::{Parse, Stmt};
 use std::alloc::Global;
 use text_pos::NoMemory;
@@ -38,7 +38,7 @@ pub const BEFORE_BUILDS: BeforeBuilds = Pair {
     },
 };
 
-/// Its members, in order, asked only where some rule of theirs is enabled.
+/// The members, in order. They are skipped unless one of their rules is enabled.
 type Members = WhereEnabled<Pair<BeforeBuilds, RequireConcurrentIndexCreation>>;
 
 const MEMBERS: Members = WhereEnabled {
@@ -70,7 +70,7 @@ impl StepPass for Group3 {
 
     ghost wants = { λ _. ⟦<Members as StepPass>⟧.wants MEMBERS };
 
-    ghost piece = { λ _. ⟦<Members as StepPass>⟧.piece MEMBERS };
+    ghost reports_at = { λ _. ⟦<Members as StepPass>⟧.reports_at MEMBERS };
 
     ghost tail = { λ _. ⟦<Members as StepPass>⟧.tail MEMBERS };
 

@@ -2,15 +2,16 @@
 
 use lint_base::{LinterSettings, Reports, RuleSet};
 use lint_pass::{Block, Pair, StepPass, WhereEnabled};
-use pass_compat::{BanAlterDomainWithAddConstraint, BanCreateDomainWithConstraint};
-use pass_lock::{BanTruncateCascade, RequireConcurrentIndexDeletion};
+use pass_client::{BanAlterDomainWithAddConstraint, BanCreateDomainWithConstraint};
+use pass_concurrent::RequireConcurrentIndexDeletion;
+use pass_data_type::RequireEnumValueOrdering;
+use pass_drop::BanTruncateCascade;
 use pass_session::{BanUncommittedTransaction, RequireTimeoutSettings, TransactionNesting};
-use pass_type::RequireEnumValueOrdering;
 use sql_tree::{Parse, Stmt};
 use std::alloc::Global;
 use text_pos::NoMemory;
 
-/// Its members, in order, asked only where some rule of theirs is enabled.
+/// The members, in order. They are skipped unless one of their rules is enabled.
 type Members = WhereEnabled<
     Pair<
         Pair<
@@ -72,7 +73,7 @@ impl StepPass for Group4 {
 
     ghost wants = { λ _. ⟦<Members as StepPass>⟧.wants MEMBERS };
 
-    ghost piece = { λ _. ⟦<Members as StepPass>⟧.piece MEMBERS };
+    ghost reports_at = { λ _. ⟦<Members as StepPass>⟧.reports_at MEMBERS };
 
     ghost tail = { λ _. ⟦<Members as StepPass>⟧.tail MEMBERS };
 

@@ -2,7 +2,7 @@
 
 use lint_base::{LinterSettings, Reports, RuleSet};
 use lint_pass::{Block, Pair, StepPass, WhereEnabled};
-use pass_compat::RenamingObject;
+use pass_client::RenamingObject;
 use pass_drop::{
     BanDropConstraint, BanDropDefault, BanDropDomain, BanDropGeneratedExpression, BanDropSchema,
     BanDropSequence, BanDropTrigger,
@@ -11,7 +11,7 @@ use sql_tree::{Parse, Stmt};
 use std::alloc::Global;
 use text_pos::NoMemory;
 
-/// Its members, in order, asked only where some rule of theirs is enabled.
+/// The members, in order. They are skipped unless one of their rules is enabled.
 type Members = WhereEnabled<
     Pair<
         Pair<Pair<BanDropDefault, BanDropTrigger>, Pair<BanDropSchema, BanDropSequence>>,
@@ -69,7 +69,7 @@ impl StepPass for Group6 {
 
     ghost wants = { λ _. ⟦<Members as StepPass>⟧.wants MEMBERS };
 
-    ghost piece = { λ _. ⟦<Members as StepPass>⟧.piece MEMBERS };
+    ghost reports_at = { λ _. ⟦<Members as StepPass>⟧.reports_at MEMBERS };
 
     ghost tail = { λ _. ⟦<Members as StepPass>⟧.tail MEMBERS };
 

@@ -2,15 +2,16 @@
 
 use lint_base::{LinterSettings, Reports, RuleSet};
 use lint_pass::{Block, Pair, StepPass, WhereEnabled};
-use pass_compat::{
-    BanAlterGeneratedExpression, BanAlterIdentity, BanDisableTrigger, BanDropExtension,
-    BanDropIndex, BanReplicaIdentity, BanSetDefault, BanSetSchema,
+use pass_client::{
+    BanAlterGeneratedExpression, BanAlterIdentity, BanDisableTrigger, BanReplicaIdentity,
+    BanSetDefault, BanSetSchema,
 };
+use pass_drop::{BanDropExtension, BanDropIndex};
 use sql_tree::{Parse, Stmt};
 use std::alloc::Global;
 use text_pos::NoMemory;
 
-/// Its members, in order, asked only where some rule of theirs is enabled.
+/// The members, in order. They are skipped unless one of their rules is enabled.
 type Members = WhereEnabled<
     Pair<
         Pair<
@@ -68,7 +69,7 @@ impl StepPass for Group7 {
 
     ghost wants = { λ _. ⟦<Members as StepPass>⟧.wants MEMBERS };
 
-    ghost piece = { λ _. ⟦<Members as StepPass>⟧.piece MEMBERS };
+    ghost reports_at = { λ _. ⟦<Members as StepPass>⟧.reports_at MEMBERS };
 
     ghost tail = { λ _. ⟦<Members as StepPass>⟧.tail MEMBERS };
 

@@ -2,13 +2,14 @@
 
 use lint_base::{LinterSettings, Reports, RuleSet};
 use lint_pass::{Block, Pair, StepPass, WhereEnabled};
-use pass_compat::{BanDropPolicy, BanReplaceViewFunction, BanRevoke, SecurityCompatibility};
+use pass_client::{BanReplaceViewFunction, BanRevoke, SecurityCompatibility};
+use pass_drop::BanDropPolicy;
 use pass_object::ExistingObjectCompatibility;
 use sql_tree::{Parse, Stmt};
 use std::alloc::Global;
 use text_pos::NoMemory;
 
-/// Its members, in order, asked only where some rule of theirs is enabled.
+/// The members, in order. They are skipped unless one of their rules is enabled.
 type Members = WhereEnabled<
     Pair<
         Pair<Pair<BanDropPolicy, BanRevoke>, Pair<BanReplaceViewFunction, SecurityCompatibility>>,
@@ -54,7 +55,7 @@ impl StepPass for Group8 {
 
     ghost wants = { λ _. ⟦<Members as StepPass>⟧.wants MEMBERS };
 
-    ghost piece = { λ _. ⟦<Members as StepPass>⟧.piece MEMBERS };
+    ghost reports_at = { λ _. ⟦<Members as StepPass>⟧.reports_at MEMBERS };
 
     ghost tail = { λ _. ⟦<Members as StepPass>⟧.tail MEMBERS };
 

@@ -2,6 +2,10 @@
 //!
 //! `specs/OwnTable.antt` says what they report. A group runs its members, and [`OwnPasses`] the groups, by the law of
 //! passes alone.
+//!
+//! A group is a unit struct, so that its name is also its value. Its `impl StepPass` hands each call on to its members, and is
+//! written out eight times: the gate refuses an `impl` that a macro of the repository writes, and one `impl` for all types of some
+//! trait would overlap that for the passes of one rule.
 #![tactic(auto)]
 
 mod group1;

@@ -14,7 +14,7 @@ use sql_tree::{Parse, Stmt};
 use std::alloc::Global;
 use text_pos::NoMemory;
 
-/// Two groups, asked only where some rule of theirs is enabled.
+/// Two groups, which are skipped unless one of their rules is enabled.
 type Two<First, Second> = WhereEnabled<Pair<First, Second>>;
 
 /// The groups, in order.
@@ -76,7 +76,7 @@ impl StepPass for OwnPasses {
 
     ghost wants = { λ _. ⟦<Groups as StepPass>⟧.wants GROUPS };
 
-    ghost piece = { λ _. ⟦<Groups as StepPass>⟧.piece GROUPS };
+    ghost reports_at = { λ _. ⟦<Groups as StepPass>⟧.reports_at GROUPS };
 
     ghost tail = { λ _. ⟦<Groups as StepPass>⟧.tail GROUPS };
 

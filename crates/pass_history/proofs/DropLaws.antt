@@ -6,7 +6,8 @@ use Rattle.sql_tree.specs.declared.nodes.Action.{Action}
 use Rattle.sql_token.specs.declared.token.Span.{Span}
 use Rattle.sql_tree.specs.Statement.{Tree}
 use Rattle.lint_node.specs.Altered.{Altered, altered}
-use Rattle.pass_history.specs.Constraints.{added_name, dropped_name, is_name}
+use Rattle.lint_transaction.specs.Names.{is_name}
+use Rattle.pass_history.specs.Constraints.{added_name, dropped_name}
 use Rattle.pass_history.specs.Dropped.{IsDropping, known_drop, after_add, after_drop, drops, adds, was_dropped, is_gone}
 use Rattle.lint_transaction.specs.Events.{since_event}
 use Rattle.lint_transaction.specs.SpanMap.{Values}

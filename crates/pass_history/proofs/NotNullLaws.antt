@@ -10,8 +10,8 @@ use Rattle.lint_node.specs.Altered.{Altered, altered}
 use Rattle.lint_transaction.specs.Events.{last_event}
 use Rattle.lint_transaction.proofs.EventLaws.{any_event-next, last_event-next}
 use Rattle.pass_history.specs.Constraints.{validated_name}
-use Rattle.pass_history.specs.NotNull.{check_of, checks, is_named, excuses_by, excuses, last_check, altered_column, action_reports, report_on}
-use Rattle.pass_history.specs.NotNullWalk.{IsKnowing, Knows, known_check, has_excuse, with_check}
+use Rattle.pass_history.specs.AddingNotNullField.{check_of, checks, is_named, excuses_by, excuses, last_check, altered_column, action_reports, report_on}
+use Rattle.pass_history.specs.AddingNotNullFieldWalk.{IsKnowing, Knows, known_check, has_excuse, with_check}
 use Rattle.pass_history.specs.declared.excused_columns.ExcusedColumns.{ExcusedColumns}
 use Rattle.pass_history.specs.declared.not_null_checks.NotNullCheck.{NotNullCheck}
 

@@ -9,7 +9,7 @@ use Rattle.lint_transaction.specs.Transaction.{begins, ends, chains, stmt_at}
 use Rattle.lint_transaction.proofs.TrackingLaws.{open_next_stmt}
 use Rattle.pass_history.specs.Dropped.{IsDropping}
 use Rattle.pass_history.specs.History.{altered_below}
-use Rattle.pass_history.specs.RobustWalk.{IsRobustAt}
+use Rattle.pass_history.specs.PreferRobustStmtsWalk.{IsRobustAt}
 use Rattle.pass_history.specs.declared.prefer_robust_stmts.PreferRobustStmtsMemory.{PreferRobustStmtsMemory}
 
 -- one more statement

@@ -1,23 +1,16 @@
 -- The constraints that an action of an ALTER TABLE names (PostgreSQL manual, ALTER TABLE, "ADD table_constraint",
 -- "VALIDATE CONSTRAINT" and "DROP CONSTRAINT").
-use Rattle.std.specs.Prelude.{ℕ, Bool, false, List, Option, Some, None, if◌then◌else◌}
+use Rattle.std.specs.Prelude.{ℕ, Option, None, if◌then◌else◌}
 use Rattle.std.specs.Option.{option_and_then, option_map}
-use Rattle.std.specs.Str.{bytes_eq}
 use Rattle.sql_token.specs.declared.token.Span.{Span}
 use Rattle.sql_tree.specs.declared.kinds.ActionKind.TheVariants as action
 use Rattle.sql_tree.specs.declared.nodes.Action.{Action}
-use Rattle.sql_tree.specs.declared.nodes.Constraint.{Constraint}
-use Rattle.sql_tree.specs.Statement.{Tree}
+use Rattle.lint_node.specs.Parts.{added_constraint}
 use Rattle.lint_node.specs.Same.{same_action}
-use Rattle.lint_transaction.specs.Names.{name_at}
-
--- the constraint that an ADD of a constraint adds
-abbrev pub added : Action → Option Constraint
-added a = if same_action a.kind action.AddConstraint then a.constraint else None
 
 -- the name of the constraint that an action adds
 abbrev pub added_name : Action → Option ℕ
-added_name a = option_and_then (λ k. k.name) (added a)
+added_name a = option_and_then (λ k. k.name) (added_constraint a)
 
 -- the name of the constraint that an action drops
 abbrev pub dropped_name : Action → Option ℕ
@@ -29,8 +22,3 @@ last_name path = path.last
 -- the name of the constraint that an action validates
 abbrev pub validated_name : Action → Option ℕ
 validated_name a = if same_action a.kind action.ValidateConstraint then option_map last_name a.path else None
-
--- the token of this number gives the name
-abbrev pub is_name : Tree → List ℕ → Option ℕ → Bool
-is_name tree name None = false
-is_name tree name (Some number) = bytes_eq name (name_at tree number)

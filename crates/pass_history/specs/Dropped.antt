@@ -5,9 +5,10 @@ use Rattle.std.specs.Option.{option_map}
 use Rattle.sql_tree.specs.Statement.{Tree}
 use Rattle.lint_node.specs.Altered.{Altered}
 use Rattle.lint_transaction.specs.Events.{since_event}
+use Rattle.lint_transaction.specs.Names.{is_name}
 use Rattle.lint_transaction.specs.SpanMap.{Values, get_span}
 use Rattle.lint_transaction.specs.declared.span_key.SpanKey.TheVariants as by
-use Rattle.pass_history.specs.Constraints.{added_name, dropped_name, is_name}
+use Rattle.pass_history.specs.Constraints.{added_name, dropped_name}
 
 abbrev pub drops : Tree → List ℕ → Altered → Bool
 drops tree name e = is_name tree name (dropped_name e.action)

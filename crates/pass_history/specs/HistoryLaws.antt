@@ -6,7 +6,7 @@ use Rattle.lint_base.specs.declared.settings.LinterSettings.{LinterSettings}
 use Rattle.lint_base.specs.RuleSets.{Rules, has}
 use Rattle.lint_transaction.specs.Events.{each_event}
 use Rattle.pass_history.specs.History.{altered_below}
-use Rattle.pass_history.specs.NotNull.{report_on, reports_of_adding_not_null_field, uses_checks}
+use Rattle.pass_history.specs.AddingNotNullField.{report_on, reports_of_adding_not_null_field, uses_checks}
 
 abbrev pub NotNullByHistory : Type 0
 NotNullByHistory =

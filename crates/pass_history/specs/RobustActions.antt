@@ -11,7 +11,7 @@ use Rattle.lint_node.specs.Same.{same_action}
 use Rattle.lint_transaction.specs.Names.{name_at}
 use Rattle.pass_history.specs.Constraints.{added_name, validated_name}
 use Rattle.pass_history.specs.Dropped.{is_gone, was_dropped}
-use Rattle.pass_history.specs.Robust.{after_word, exists_title, missing_exists, missing_not_exists, no_transaction, not_exists_title, unless}
+use Rattle.pass_history.specs.PreferRobustStmts.{after_word, exists_title, missing_exists, missing_not_exists, no_transaction, not_exists_title, unless}
 
 abbrev pub action_range : Tree → Action → Range
 action_range tree a = span_range_of tree.toks a.first a.last

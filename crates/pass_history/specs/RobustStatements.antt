@@ -15,9 +15,9 @@ use Rattle.lint_base.specs.RuleSets.{Rules}
 use Rattle.lint_node.specs.Same.{same_kind}
 use Rattle.lint_transaction.specs.Events.{each_event}
 use Rattle.lint_transaction.specs.Transaction.{stmt_at}
-use Rattle.lint_pass.specs.RuleLaws.{table_of}
+use Rattle.lint_pass.specs.RuleTables.{table_of}
 use Rattle.pass_history.specs.History.{altered_at, altered_below}
-use Rattle.pass_history.specs.Robust.{after_word, before_word, exists_title, is_robust, missing_exists, missing_not_exists, not_exists_title, unless}
+use Rattle.pass_history.specs.PreferRobustStmts.{after_word, before_word, exists_title, is_robust, missing_exists, missing_not_exists, not_exists_title, unless}
 use Rattle.pass_history.specs.RobustActions.{report_on}
 
 -- an index build, by the name of the index

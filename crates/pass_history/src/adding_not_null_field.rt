@@ -5,9 +5,9 @@ ghost use Rattle.lint_base.specs.Grown.{GrownBy};
 ghost use Rattle.lint_node.specs.Altered.{Altered, altered, altered_by};
 ghost use Rattle.lint_transaction.specs.Events.{each_event};
 ghost use Rattle.lint_pass.specs.Those.{that, those};
-ghost use Rattle.pass_history.specs.NotNull as spec;
-ghost use Rattle.pass_history.specs.NotNull.{action_reports, report_on, sets_not_null};
-ghost use Rattle.pass_history.specs.NotNullWalk.{Knows, IsKeyed, has_excuse};
+ghost use Rattle.pass_history.specs.AddingNotNullField as spec;
+ghost use Rattle.pass_history.specs.AddingNotNullField.{action_reports, report_on, sets_not_null};
+ghost use Rattle.pass_history.specs.AddingNotNullFieldWalk.{Knows, IsKeyed, has_excuse};
 
 use crate::excused_columns::ExcusedColumns;
 use lint_base::{LinterSettings, Reports, Rule, Text, Violation};
@@ -45,7 +45,7 @@ fn altered_column(a: &Action) -> Option<u32>
     }
 }
 
-#[tactic(auto, unfolding(crate::specs::NotNull::report))]
+#[tactic(auto, unfolding(crate::specs::AddingNotNullField::report))]
 fn report(p: &Parse<'_>, piece: &Piece) -> Violation
     ensures { result ≡ spec.report p.now piece.now }
 {
@@ -104,7 +104,7 @@ fn report_action(
     }
 }
 
-/// Reports on an action, and goes after it.
+/// Reports on an action, and advances past it.
 fn watch_action(
     known: &mut ExcusedColumns,
     p: &Parse<'_>,
@@ -127,7 +127,7 @@ fn watch_action(
     }
 }
 
-/// Reports on the actions of a statement, and goes after them.
+/// Reports on the actions of a statement, and advances past them.
 fn watch_actions(
     known: &mut ExcusedColumns,
     p: &Parse<'_>,
@@ -148,7 +148,7 @@ fn watch_actions(
     Ok(())
 }
 
-/// Reports on a statement, and goes after it.
+/// Reports on a statement, and advances past it.
 fn watch(
     known: &mut ExcusedColumns,
     p: &Parse<'_>,
@@ -179,9 +179,9 @@ impl RulePass for AddingNotNullField {
     ghost use Rattle.std.specs.Prelude.{false};
     ghost use Rattle.lint_base.specs.declared.rule.Rule.TheVariants as rule;
     ghost use Rattle.pass_history.specs.History.{altered_below};
-    ghost use Rattle.pass_history.specs.NotNull.{not_null_of, uses_checks};
-    ghost use Rattle.pass_history.specs.NotNullReports.{not_null_coded, not_null_placed};
-    ghost use Rattle.pass_history.specs.NotNullWalk.{IsWatching};
+    ghost use Rattle.pass_history.specs.AddingNotNullField.{not_null_of, uses_checks};
+    ghost use Rattle.pass_history.specs.AddingNotNullFieldReports.{not_null_coded, not_null_placed};
+    ghost use Rattle.pass_history.specs.AddingNotNullFieldWalk.{IsWatching};
 
     type Memory = ExcusedColumns;
 
@@ -209,7 +209,7 @@ impl RulePass for AddingNotNullField {
         Ok(ExcusedColumns::new(alloc))
     }
 
-    fn tell(
+    fn visit(
         &self,
         known: &mut ExcusedColumns,
         p: &Parse<'_>,

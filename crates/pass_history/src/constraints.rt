@@ -1,28 +1,17 @@
 //! The constraints that an action names.
 
-ghost use Rattle.std.specs.Prelude.{◌≡◌, option_copied};
+ghost use Rattle.std.specs.Prelude.{◌≡◌};
 ghost use Rattle.pass_history.specs.Constraints as spec;
 
-use lint_node::same_action;
+use lint_node::{added_constraint, same_action};
 use sql_token::Span;
-use sql_tree::{Action, ActionKind, Constraint};
-
-/// The constraint that an ADD of a constraint adds.
-pub(crate) fn added(a: &Action) -> Option<&Constraint>
-    ensures { option_copied result ≡ spec.added a.now }
-{
-    if same_action(a.kind, ActionKind::AddConstraint) {
-        a.constraint.as_ref()
-    } else {
-        None
-    }
-}
+use sql_tree::{Action, ActionKind};
 
 /// The number of the name of the constraint that an action adds.
 pub(crate) fn added_name(a: &Action) -> Option<u32>
     ensures { result ≡ spec.added_name a.now }
 {
-    match added(a) {
+    match added_constraint(a) {
         Some(constraint) => constraint.name,
         None => None,
     }

@@ -5,12 +5,12 @@ ghost use Rattle.std.specs.Str.{bytes_eq};
 ghost use Rattle.sql_tree.specs.Statement.{Tree};
 ghost use Rattle.lint_node.specs.Altered.{Altered, altered};
 ghost use Rattle.lint_transaction.specs.Names as given;
-ghost use Rattle.pass_history.specs.NotNull.{excuses_by};
-ghost use Rattle.pass_history.specs.NotNullWalk.{IsKeyed, IsKnowing, known_check, has_excuse, check_on, with_check};
+ghost use Rattle.pass_history.specs.AddingNotNullField.{excuses_by};
+ghost use Rattle.pass_history.specs.AddingNotNullFieldWalk.{IsKeyed, IsKnowing, known_check, has_excuse, check_on, with_check};
 
 use crate::constraints::{one_token, validated_name};
 use crate::not_null_checks::{NotNullCheck, check_of};
-use lint_transaction::{SpanKey, SpanMap, SpanSet, name_at};
+use lint_transaction::{SpanKey, SpanMap, SpanSet, is_same_name};
 use sql_token::Span;
 use sql_tree::{Action, Parse};
 use std::alloc::Global;
@@ -26,13 +26,6 @@ pub struct ExcusedColumns {
     tables: SpanSet,
     /// A table and a column of it.
     columns: SpanSet,
-}
-
-/// Whether two tokens give the same name.
-fn is_same_name(p: &Parse<'_>, a: u32, b: u32) -> bool
-    ensures { result ≡ bytes_eq (given.name_at p.now a) (given.name_at p.now b) }
-{
-    name_at(p, a) == name_at(p, b)
 }
 
 /// A table's last name and a column's name, to be looked up by both.

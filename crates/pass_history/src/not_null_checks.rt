@@ -1,10 +1,9 @@
 //! Constraints that say that a column has no null.
 
 ghost use Rattle.std.specs.Prelude.{◌≡◌};
-ghost use Rattle.pass_history.specs.NotNull as spec;
+ghost use Rattle.pass_history.specs.AddingNotNullField as spec;
 
-use crate::constraints::added;
-use lint_node::same_constraint;
+use lint_node::{added_constraint, same_constraint};
 use sql_tree::{Action, ConKind, Constraint, Expr};
 
 /// What a CHECK that was added as not valid says, that a column of a table has no null: the numbers of the names of the
@@ -17,7 +16,7 @@ pub struct NotNullCheck {
 }
 
 /// The name that an expression is, without a schema or a table.
-#[tactic(auto, unfolding(crate::specs::NotNull::lone_name))]
+#[tactic(auto, unfolding(crate::specs::AddingNotNullField::lone_name))]
 fn lone_name(e: &Expr) -> Option<u32>
     ensures { result ≡ spec.lone_name e.now }
 {
@@ -28,7 +27,7 @@ fn lone_name(e: &Expr) -> Option<u32>
 }
 
 /// The column of the condition COLUMN IS NOT NULL.
-#[tactic(auto, unfolding(crate::specs::NotNull::not_null_column))]
+#[tactic(auto, unfolding(crate::specs::AddingNotNullField::not_null_column))]
 fn not_null_column(e: &Expr) -> Option<u32>
     ensures { result ≡ spec.not_null_column e.now }
 {
@@ -65,7 +64,7 @@ fn check_by(table: u32, k: &Constraint) -> Option<NotNullCheck>
 pub(crate) fn check_of(table: u32, a: &Action) -> Option<NotNullCheck>
     ensures { result ≡ spec.check_of table a.now }
 {
-    match added(a) {
+    match added_constraint(a) {
         Some(constraint) => check_by(table, constraint),
         None => None,
     }

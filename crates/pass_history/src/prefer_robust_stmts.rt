@@ -8,10 +8,10 @@ ghost use Rattle.lint_pass.specs.Blocks.{blocks_of};
 ghost use Rattle.lint_transaction.specs.Events.{each_event};
 ghost use Rattle.lint_transaction.specs.Transaction as track;
 ghost use Rattle.pass_history.specs.Dropped.{IsDropping};
-ghost use Rattle.pass_history.specs.Robust.{is_robust};
+ghost use Rattle.pass_history.specs.PreferRobustStmts.{is_robust};
 ghost use Rattle.pass_history.specs.RobustActions.{report_on};
 ghost use Rattle.pass_history.specs.RobustStatements.{statement_reports};
-ghost use Rattle.pass_history.specs.RobustWalk.{IsRobustAt};
+ghost use Rattle.pass_history.specs.PreferRobustStmtsWalk.{IsRobustAt};
 
 use crate::dropped_constraints::DroppedConstraints;
 use crate::robust_actions::watch_alterations;
@@ -98,9 +98,9 @@ impl PreferRobustStmtsMemory {
 impl RulePass for PreferRobustStmts {
     ghost use Rattle.std.specs.Prelude.{true};
     ghost use Rattle.lint_base.specs.declared.rule.Rule.TheVariants as rule;
-    ghost use Rattle.pass_history.specs.RobustReports.{robust_coded, robust_placed};
+    ghost use Rattle.pass_history.specs.RobustStatementsLaws.{robust_coded, robust_placed};
     ghost use Rattle.pass_history.specs.RobustStatements.{robust_of};
-    ghost use Rattle.pass_history.specs.RobustWalk.{IsRobustAt};
+    ghost use Rattle.pass_history.specs.PreferRobustStmtsWalk.{IsRobustAt};
 
     type Memory = PreferRobustStmtsMemory;
 
@@ -137,7 +137,7 @@ impl RulePass for PreferRobustStmts {
         })
     }
 
-    fn tell(
+    fn visit(
         &self,
         memory: &mut PreferRobustStmtsMemory,
         p: &Parse<'_>,

@@ -5,7 +5,7 @@ ghost use Rattle.lint_base.specs.Grown.{GrownBy};
 ghost use Rattle.lint_node.specs.Altered.{Altered, altered, altered_by};
 ghost use Rattle.lint_transaction.specs.Events.{each_event};
 ghost use Rattle.pass_history.specs.Dropped.{IsDropping};
-ghost use Rattle.pass_history.specs.Robust.{unless};
+ghost use Rattle.pass_history.specs.PreferRobustStmts.{unless};
 ghost use Rattle.pass_history.specs.RobustActions as spec;
 ghost use Rattle.pass_history.specs.RobustActions.{action_reports, report_on, reports_unless};
 
@@ -145,7 +145,7 @@ fn report_unless(
     report_action(alloc, p, excused, a, out)
 }
 
-/// Reports on an action, and goes after it.
+/// Reports on an action, and advances past it.
 fn watch_action(
     dropped: &mut DroppedConstraints,
     alloc: Global,
@@ -163,7 +163,7 @@ fn watch_action(
     dropped.update(p, table, a)
 }
 
-/// Reports on the actions of a statement, and goes after them.
+/// Reports on the actions of a statement, and advances past them.
 fn watch_actions(
     dropped: &mut DroppedConstraints,
     alloc: Global,
@@ -183,7 +183,7 @@ fn watch_actions(
     Ok(())
 }
 
-/// Reports on what a statement alters, and goes after it.
+/// Reports on what a statement alters, and advances past it.
 pub(crate) fn watch_alterations(
     dropped: &mut DroppedConstraints,
     alloc: Global,

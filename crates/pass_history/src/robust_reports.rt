@@ -1,7 +1,7 @@
 //! The reports of statements that can't be run again, and their fixes.
 
 ghost use Rattle.std.specs.Prelude.{◌≡◌, IfOk};
-ghost use Rattle.pass_history.specs.Robust as spec;
+ghost use Rattle.pass_history.specs.PreferRobustStmts as spec;
 
 use lint_base::{Fix, Rule, Text, Violation};
 use lint_pass::insertion_fix;
@@ -35,21 +35,21 @@ fn robust_report(message: Text, text_range: TextRange, fix: Option<Fix>) -> Viol
     }
 }
 
-#[tactic(auto, unfolding(crate::specs::Robust::missing_exists))]
+#[tactic(auto, unfolding(crate::specs::PreferRobustStmts::missing_exists))]
 pub(crate) fn missing_exists(range: TextRange, fix: Option<Fix>) -> Violation
     ensures { result ≡ spec.missing_exists range fix }
 {
     robust_report(Text::plain(NO_EXISTS), range, fix)
 }
 
-#[tactic(auto, unfolding(crate::specs::Robust::missing_not_exists))]
+#[tactic(auto, unfolding(crate::specs::PreferRobustStmts::missing_not_exists))]
 pub(crate) fn missing_not_exists(range: TextRange, fix: Option<Fix>) -> Violation
     ensures { result ≡ spec.missing_not_exists range fix }
 {
     robust_report(Text::plain(NO_NOT_EXISTS), range, fix)
 }
 
-#[tactic(auto, unfolding(crate::specs::Robust::no_transaction))]
+#[tactic(auto, unfolding(crate::specs::PreferRobustStmts::no_transaction))]
 pub(crate) fn no_transaction(range: TextRange) -> Violation
     ensures { result ≡ spec.no_transaction range }
 {
@@ -57,7 +57,7 @@ pub(crate) fn no_transaction(range: TextRange) -> Violation
 }
 
 /// A fix that inserts a text at the end of a word, where the word is written.
-#[tactic(auto, unfolding(crate::specs::Robust::after_word))]
+#[tactic(auto, unfolding(crate::specs::PreferRobustStmts::after_word))]
 pub(crate) fn after_word(
     alloc: Global,
     p: &Parse<'_>,
@@ -77,7 +77,7 @@ pub(crate) fn after_word(
 }
 
 /// A fix that inserts a text at the start of a token, where there is one.
-#[tactic(auto, unfolding(crate::specs::Robust::before_word))]
+#[tactic(auto, unfolding(crate::specs::PreferRobustStmts::before_word))]
 pub(crate) fn before_word(
     alloc: Global,
     p: &Parse<'_>,

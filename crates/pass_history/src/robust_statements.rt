@@ -1,6 +1,9 @@
 //! Statements other than ALTER TABLE that can't be run again.
 
-ghost use Rattle.std.specs.Prelude.{◌≡◌, ◌++◌, ◌∷◌, [], IfOk, OnOk, OnErr};
+ghost use Rattle.std.specs.Prelude.{◌≡◌, ◌++◌, ◌∷◌, [], ◌||◌, not, IfOk, OnOk, OnErr};
+ghost use Rattle.lint_node.specs.Same.{same_kind};
+ghost use Rattle.sql_tree.specs.declared.kinds.StmtKind.TheVariants as stmt;
+ghost use Rattle.pass_history.specs.PreferRobustStmts.{unless};
 ghost use Rattle.pass_history.specs.RobustStatements as spec;
 ghost use Rattle.pass_history.specs.RobustStatements.{index_reports, statement_reports};
 
@@ -11,6 +14,7 @@ use lint_base::{Reports, Text, Violation};
 use lint_node::same_kind;
 use sql_token::Span;
 use sql_tree::{Body, Parse, Stmt, StmtKind};
+use sqlite_items::Items;
 use std::alloc::Global;
 use text_pos::NoMemory;
 
@@ -90,6 +94,45 @@ fn report_index(
     }
 }
 
+/// Reports a new table of a CREATE TABLE.
+fn report_table(
+    alloc: Global,
+    p: &Parse<'_>,
+    s: &Stmt,
+    quiet: bool,
+    word: u32,
+    out: &mut Reports,
+) -> Result<(), NoMemory>
+    ensures ok { OnOk result (out.new ≡ out.old ++ unless (quiet || not (same_kind s.now.kind stmt.CreateTable)) (spec.table_report p.now s.now word)) }
+    ensures err { OnErr result (out.new ≡ out.old) }
+{
+    if quiet || !same_kind(s.kind, StmtKind::CreateTable) {
+        Ok(())
+    } else {
+        out.push(table_report(alloc, p, s, word)?)
+    }
+}
+
+/// Reports a drop.
+fn report_drop(
+    alloc: Global,
+    p: &Parse<'_>,
+    s: &Stmt,
+    quiet: bool,
+    word: u32,
+    paths: &Items<Span>,
+    out: &mut Reports,
+) -> Result<(), NoMemory>
+    ensures ok { OnOk result (out.new ≡ out.old ++ unless quiet (spec.drop_report p.now s.now word paths.now)) }
+    ensures err { OnErr result (out.new ≡ out.old) }
+{
+    if quiet {
+        Ok(())
+    } else {
+        out.push(drop_report(alloc, p, s, word, paths.as_slice())?)
+    }
+}
+
 /// Reports a statement other than ALTER TABLE that can't be run again.
 pub(crate) fn report_statement(
     alloc: Global,
@@ -118,25 +161,15 @@ pub(crate) fn report_statement(
             word,
             ..
         } => {
-            let is_table = same_kind(s.kind, StmtKind::CreateTable);
-            if robust || *guarded || (*temp && *on_commit_drop) || !is_table {
-                Ok(())
-            } else {
-                out.push(table_report(alloc, p, s, *word)?)
-            }
+            let quiet = robust || *guarded || (*temp && *on_commit_drop);
+            report_table(alloc, p, s, quiet, *word, out)
         }
         Body::Drop {
             word,
             guarded,
             paths,
             ..
-        } => {
-            if robust || *guarded {
-                Ok(())
-            } else {
-                out.push(drop_report(alloc, p, s, *word, paths.as_slice())?)
-            }
-        }
+        } => report_drop(alloc, p, s, robust || *guarded, *word, paths, out),
         _ => Ok(()),
     }
 }

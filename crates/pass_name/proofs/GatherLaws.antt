@@ -11,7 +11,7 @@ use Rattle.sql_tree.specs.Statement.{Tree}
 use Rattle.lint_base.specs.declared.violation.Violation.{Violation}
 use Rattle.pass_name.specs.declared.members.ListKind.{ListKind}
 use Rattle.pass_name.specs.declared.members.Member.{Member}
-use Rattle.pass_name.specs.Duplicates.{reports_of_group, reports_of_names}
+use Rattle.pass_name.specs.BanDuplicateColumnAssignments.{reports_of_group, reports_of_names}
 use Rattle.pass_name.specs.Entries.{items_of, entry_seen}
 use Rattle.pass_name.specs.Gathered.{put}
 use Rattle.pass_name.specs.Groups.{are_apart, groups, is_repeated}

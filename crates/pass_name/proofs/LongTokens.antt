@@ -6,13 +6,13 @@ use Rattle.std.proofs.Math.Nat.{min-le_left}
 use Rattle.std.specs.List.{list_any}
 use Rattle.sql_name.proofs.FullText.{length-full_name}
 use Rattle.sql_tree.specs.declared.nodes.Stmt.{Stmt}
-use Rattle.sql_tree.specs.Path.{is_name_kind}
+use Rattle.sql_token.specs.Terminal.{is_name_kind}
 use Rattle.sql_tree.specs.Range.{token_at}
 use Rattle.sql_tree.specs.Statement.{Tree}
 use Rattle.lint_base.specs.declared.violation.Violation.{Violation}
 use Rattle.lint_pass.specs.Those.{those}
 use Rattle.lint_transaction.specs.Names.{name_at}
-use Rattle.pass_name.specs.LongNames.{is_long_at, is_too_long, kind_at, long_names, numbers_from, report, token_numbers}
+use Rattle.pass_name.specs.IdentifierTooLong.{is_long_at, is_too_long, kind_at, reports_of_identifier_too_long, numbers_from, report, token_numbers}
 use Rattle.pass_name.proofs.NameCuts.{numbers_more, numbers_none}
 
 -- a token's text has no more bytes than lie between its places
@@ -46,11 +46,11 @@ no_long_numbers tree (n ∷ ns) h = by (no_long_numbers tree ns) (is_long_at tre
         ∙ ih (sym (ap (λ (b : Bool). b || list_any (is_long_at tree) ns) e) ∙ h)
 
 -- a statement without a token of more than 63 bytes has no report
-no_long_names : (tree : Tree) (s : Stmt) → list_any (is_long_at tree) (token_numbers s) ≡ false → long_names tree s ≡ []
-unfolding long_names
+no_long_names : (tree : Tree) (s : Stmt) → list_any (is_long_at tree) (token_numbers s) ≡ false → reports_of_identifier_too_long tree s ≡ []
+unfolding reports_of_identifier_too_long
 no_long_names tree s h = no_long_numbers tree (token_numbers s) h
 
-pub no_long_reports : (tree : Tree) (s : Stmt) (out : List Violation) → list_any (is_long_at tree) (token_numbers s) ≡ false → out ≡ out ++ long_names tree s
+pub no_long_reports : (tree : Tree) (s : Stmt) (out : List Violation) → list_any (is_long_at tree) (token_numbers s) ≡ false → out ≡ out ++ reports_of_identifier_too_long tree s
 no_long_reports tree s out h = sym (append-nil out) ∙ ap (λ vs. out ++ vs) (sym (no_long_names tree s h))
 
 -- ---- the walk over the numbers

@@ -8,7 +8,7 @@ use Rattle.sql_name.specs.Cut.{IsLongestCut}
 use Rattle.sql_name.specs.Name.{cut_to, full_name}
 use Rattle.sql_name.proofs.Cuts.{cut_to_longest}
 use Rattle.sql_name.proofs.FullText.{length-full_name}
-use Rattle.pass_name.specs.LongNames.{numbers_from}
+use Rattle.pass_name.specs.IdentifierTooLong.{numbers_from}
 
 -- the last boundary within n bytes is where the cut ends
 pub floor_cuts : (n r : ℕ) (s : List ℕ) → IsCharBoundary s 0 → r ≤ n → IsCharBoundary s r → ((i : ℕ) → r < i → i ≤ n → IsCharBoundary s i → ⊥) → slice_range s 0 r ≡ cut_to n s

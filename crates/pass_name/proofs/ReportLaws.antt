@@ -12,7 +12,7 @@ use Rattle.sql_tree.specs.Statement.{Tree}
 use Rattle.lint_base.specs.declared.violation.Violation.{Violation}
 use Rattle.pass_name.specs.declared.members.ListKind.{ListKind}
 use Rattle.pass_name.specs.declared.members.Member.{Member}
-use Rattle.pass_name.specs.Duplicates.{duplicates, lists_columns, reports_by, reports_of_group, reports_of_names}
+use Rattle.pass_name.specs.BanDuplicateColumnAssignments.{reports_of_ban_duplicate_column_assignments, lists_columns, reports_by, reports_of_group, reports_of_names}
 use Rattle.pass_name.specs.Entries.{items_of}
 use Rattle.pass_name.specs.Groups.{groups}
 use Rattle.pass_name.specs.Members.{same_name}
@@ -33,8 +33,8 @@ module _ {A B : Type 0} (f : A → Option B) where
       ∙ ap (λ y. filter_map f (take i xs ++ y ∷ [])) e ∙ ap (filter_map f) (sym (take_more xs i x l))
 
 -- what has no lists has no reports
-pub no_lists : (tree : Tree) (s : Stmt) (out : List Violation) → lists_columns s.body ≡ false → out ≡ out ++ duplicates tree s
-unfolding duplicates
+pub no_lists : (tree : Tree) (s : Stmt) (out : List Violation) → lists_columns s.body ≡ false → out ≡ out ++ reports_of_ban_duplicate_column_assignments tree s
+unfolding reports_of_ban_duplicate_column_assignments
 no_lists tree s out h = sym (append-nil out) ∙ ap (λ vs. out ++ vs) (sym (by s.body h))
   where
     by : (b : Body) → lists_columns b ≡ false → reports_by tree b ≡ []

@@ -1,9 +1,12 @@
-pub mod LongNames
+pub mod IdentifierTooLong
+pub mod IdentifierTooLongLaws
 pub mod Groups
 pub mod Members
 pub mod Entries
 pub mod Gathered
-pub mod Duplicates
+pub mod BanDuplicateColumnAssignments
 pub mod SetOrder
+pub mod SetOrderLaws
 pub mod EditOrder
-pub mod DuplicateLaws
+pub mod EditOrderLaws
+pub mod BanDuplicateColumnAssignmentsLaws

@@ -3,8 +3,8 @@
 ghost use Rattle.std.specs.Prelude.{◌≡◌, ◌++◌, map, None, IfOk, OnOk, OnErr};
 ghost use Rattle.std.specs.List.{flat_map};
 ghost use Rattle.lint_base.specs.Grown.{GrownBy};
-ghost use Rattle.pass_name.specs.Duplicates as spec;
-ghost use Rattle.pass_name.specs.Duplicates.{duplicates};
+ghost use Rattle.pass_name.specs.BanDuplicateColumnAssignments as spec;
+ghost use Rattle.pass_name.specs.BanDuplicateColumnAssignments.{reports_of_ban_duplicate_column_assignments};
 ghost use Rattle.pass_name.specs.Members as written;
 ghost use Rattle.pass_name.specs.Members.{lists_before, lists_from};
 ghost use Rattle.pass_name.specs.declared.members.ListKind.TheVariants as as_list;
@@ -52,7 +52,7 @@ fn report_earlier(
 }
 
 /// Reports the names of a group, unless all of them are partial.
-#[tactic(auto, unfolding(crate::specs::Duplicates::reports_of_group))]
+#[tactic(auto, unfolding(crate::specs::BanDuplicateColumnAssignments::reports_of_group))]
 fn report_group(
     alloc: Global,
     kind: ListKind,
@@ -155,7 +155,7 @@ fn report_set(
 }
 
 /// Reports the clauses and lists of an INSERT, UPDATE or MERGE in order of place.
-#[tactic(auto, unfolding(crate::specs::Duplicates::reports_of_write))]
+#[tactic(auto, unfolding(crate::specs::BanDuplicateColumnAssignments::reports_of_write))]
 fn report_write(
     alloc: Global,
     p: &Parse<'_>,
@@ -187,9 +187,9 @@ fn view_names(view: &ViewDefinition) -> &[Target]
 }
 
 /// Reports the lists of a statement.
-#[tactic(auto, unfolding(crate::specs::Duplicates::duplicates))]
+#[tactic(auto, unfolding(crate::specs::BanDuplicateColumnAssignments::reports_of_ban_duplicate_column_assignments))]
 fn report_stmt(alloc: Global, p: &Parse<'_>, s: &Stmt, out: &mut Reports) -> Result<(), NoMemory>
-    ensures { OnOk result (out.new ≡ out.old ++ duplicates p.now s.now) }
+    ensures { OnOk result (out.new ≡ out.old ++ reports_of_ban_duplicate_column_assignments p.now s.now) }
 {
     match &s.body {
         Body::Table { elems, .. } => {
@@ -221,8 +221,8 @@ fn lists_columns(s: &Stmt) -> bool
 
 /// Adds the reports of a statement.
 fn add_reports(alloc: Global, p: &Parse<'_>, s: &Stmt, out: &mut Reports) -> Result<(), NoMemory>
-    ensures ok { OnOk result (out.new ≡ out.old ++ duplicates p.now s.now) }
-    ensures err { OnErr result (GrownBy out.old out.new (duplicates p.now s.now)) }
+    ensures ok { OnOk result (out.new ≡ out.old ++ reports_of_ban_duplicate_column_assignments p.now s.now) }
+    ensures err { OnErr result (GrownBy out.old out.new (reports_of_ban_duplicate_column_assignments p.now s.now)) }
 {
     if !lists_columns(s) {
         return Ok(());
@@ -236,8 +236,8 @@ impl RulePass for BanDuplicateColumnAssignments {
     ghost use Rattle.std.specs.Prelude.{false};
     ghost use Rattle.lint_base.specs.declared.rule.Rule.TheVariants as rule;
     ghost use Rattle.lint_transaction.specs.Transaction.{stmt_at};
-    ghost use Rattle.pass_name.specs.DuplicateLaws.{duplicates_coded, duplicates_placed};
-    ghost use Rattle.pass_name.specs.Duplicates.{duplicates};
+    ghost use Rattle.pass_name.specs.BanDuplicateColumnAssignmentsLaws.{duplicates_coded, duplicates_placed};
+    ghost use Rattle.pass_name.specs.BanDuplicateColumnAssignments.{reports_of_ban_duplicate_column_assignments};
 
     type Memory = Global;
 
@@ -247,7 +247,7 @@ impl RulePass for BanDuplicateColumnAssignments {
 
     ghost wants = { λ _. false };
 
-    ghost reports = { λ _ tree _ i. duplicates tree (stmt_at tree i) };
+    ghost reports = { λ _ tree _ i. reports_of_ban_duplicate_column_assignments tree (stmt_at tree i) };
 
     ghost coded = { λ _ tree _ i. duplicates_coded tree (stmt_at tree i) };
 
@@ -265,7 +265,7 @@ impl RulePass for BanDuplicateColumnAssignments {
         Ok(alloc)
     }
 
-    fn tell(
+    fn visit(
         &self,
         memory: &mut Global,
         p: &Parse<'_>,

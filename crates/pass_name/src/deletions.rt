@@ -2,7 +2,7 @@
 
 ghost use Rattle.std.specs.Prelude.{◌≡◌, take, drop, IfOk};
 ghost use Rattle.std.specs.List.{flat_map, list_all};
-ghost use Rattle.pass_name.specs.Duplicates as spec;
+ghost use Rattle.pass_name.specs.BanDuplicateColumnAssignments as spec;
 
 use crate::members::{Member, Removable};
 use lint_base::Edit;
@@ -30,7 +30,7 @@ fn is_comment(kind: TokKind) -> bool
 }
 
 /// What follows the first comma.
-#[tactic(auto, unfolding(crate::specs::Duplicates::after_comma))]
+#[tactic(auto, unfolding(crate::specs::BanDuplicateColumnAssignments::after_comma))]
 fn after_comma<'a>(text: &str, toks: &'a [Tok]) -> &'a [Tok]
     ensures { result.now ≡ spec.after_comma text.now toks.now }
 {
@@ -45,7 +45,7 @@ fn after_comma<'a>(text: &str, toks: &'a [Tok]) -> &'a [Tok]
 }
 
 /// Where the first comment begins.
-#[tactic(auto, unfolding(crate::specs::Duplicates::first_comment))]
+#[tactic(auto, unfolding(crate::specs::BanDuplicateColumnAssignments::first_comment))]
 fn first_comment(toks: &[Tok]) -> Option<u32>
     ensures { result ≡ spec.first_comment toks.now }
 {
@@ -94,7 +94,7 @@ fn between<'a>(p: &'a Parse<'_>, part: Removable) -> &'a [Tok]
 }
 
 /// Deletes a part with its comma, and with the blanks after it, but no comment after the comma.
-#[tactic(auto, unfolding(crate::specs::Duplicates::deletion_of))]
+#[tactic(auto, unfolding(crate::specs::BanDuplicateColumnAssignments::deletion_of))]
 fn deletion(p: &Parse<'_>, part: Removable) -> Edit
     ensures { result ≡ spec.deletion_of p.now part }
 {

@@ -3,7 +3,7 @@
 ghost use Rattle.std.specs.Prelude.{◌≡◌, false, ◌<◌, length, string_bytes, IfOk};
 ghost use Rattle.std.specs.List.{list_all};
 ghost use Rattle.lint_transaction.specs.Names as given;
-ghost use Rattle.pass_name.specs.Duplicates as spec;
+ghost use Rattle.pass_name.specs.BanDuplicateColumnAssignments as spec;
 
 use crate::deletions::{deletions, have_parts};
 use crate::members::{ListKind, Member};
@@ -39,7 +39,7 @@ fn full_name(alloc: Global, p: &Parse<'_>, m: Member) -> Result<String, NoMemory
 }
 
 /// The report of a name.
-#[tactic(auto, unfolding(crate::specs::Duplicates::report))]
+#[tactic(auto, unfolding(crate::specs::BanDuplicateColumnAssignments::report))]
 pub(crate) fn report(
     alloc: Global,
     kind: ListKind,
@@ -76,7 +76,7 @@ pub(crate) fn are_partial(members: &[Member]) -> bool
 }
 
 /// The fix that deletes the parts of the earlier names, where each has one.
-#[tactic(auto, unfolding(crate::specs::Duplicates::fix_of))]
+#[tactic(auto, unfolding(crate::specs::BanDuplicateColumnAssignments::fix_of))]
 pub(crate) fn fix_of(
     alloc: Global,
     p: &Parse<'_>,

@@ -3,12 +3,11 @@
 ghost use Rattle.std.specs.Prelude.{◌≡◌, ◌++◌, length, is_some, string_bytes, IfOk, IfSome, OnOk, OnErr};
 ghost use Rattle.std.specs.List.{list_all, list_any};
 ghost use Rattle.sql_name.specs.Name.{cut_to};
-ghost use Rattle.sql_tree.specs.Path.{is_name_kind};
 ghost use Rattle.lint_base.specs.Grown.{GrownBy};
 ghost use Rattle.lint_pass.specs.Those.{that};
 ghost use Rattle.lint_transaction.specs.Names.{name_at};
-ghost use Rattle.pass_name.specs.LongNames as spec;
-ghost use Rattle.pass_name.specs.LongNames.{kind_at, long_names, token_numbers};
+ghost use Rattle.pass_name.specs.IdentifierTooLong as spec;
+ghost use Rattle.pass_name.specs.IdentifierTooLong.{kind_at, reports_of_identifier_too_long, token_numbers};
 
 use lint_base::{Fix, LinterSettings, Reports, Rule, Text, Violation};
 use lint_pass::{StatementPass, replacement_fix};
@@ -29,16 +28,6 @@ const KEPT_LEN: usize = 63;
 /// PostgreSQL manual, section 4.1.1, "Identifiers and Key Words".
 #[derive(Drop)]
 pub struct IdentifierTooLong;
-
-/// Whether a token of this kind is an identifier. Key words are among them.
-fn is_identifier(kind: TokKind) -> bool
-    ensures { result ≡ is_name_kind kind }
-{
-    match kind {
-        TokKind::Word | TokKind::Quoted => true,
-        _ => false,
-    }
-}
 
 fn is_quoted(kind: TokKind) -> bool
     ensures { result ≡ spec.is_quoted_kind kind }
@@ -87,7 +76,7 @@ fn cut(full: &str) -> &str
 }
 
 /// The name that PostgreSQL keeps of this one, as it is written.
-#[tactic(auto, unfolding(crate::specs::LongNames::kept_name))]
+#[tactic(auto, unfolding(crate::specs::IdentifierTooLong::kept_name))]
 fn kept_name(alloc: Global, kind: TokKind, full: &str) -> Result<String, NoMemory>
     ensures { IfOk result (λ name. string_bytes name ≡ spec.kept_name kind full.now) }
 {
@@ -129,7 +118,7 @@ fn kind_at(p: &Parse<'_>, number: u32) -> TokKind
 }
 
 /// The fix that puts the name that is kept in place of the whole one.
-#[tactic(auto, unfolding(crate::specs::LongNames::rename))]
+#[tactic(auto, unfolding(crate::specs::IdentifierTooLong::rename))]
 fn rename(alloc: Global, p: &Parse<'_>, number: u32, full: &str) -> Result<Fix, NoMemory>
     requires { full.now ≡ name_at p.now number }
     ensures { IfOk result (λ fix. fix ≡ spec.rename p.now number) }
@@ -139,7 +128,7 @@ fn rename(alloc: Global, p: &Parse<'_>, number: u32, full: &str) -> Result<Fix, 
     replacement_fix(alloc, title, Text::made(name), p.span_range(number, number))
 }
 
-#[tactic(auto, unfolding(crate::specs::LongNames::fix_of))]
+#[tactic(auto, unfolding(crate::specs::IdentifierTooLong::fix_of))]
 fn fix_of(alloc: Global, p: &Parse<'_>, number: u32, full: &str) -> Result<Option<Fix>, NoMemory>
     requires { full.now ≡ name_at p.now number }
     ensures { IfOk result (λ fix. fix ≡ spec.fix_of p.now number) }
@@ -151,7 +140,7 @@ fn fix_of(alloc: Global, p: &Parse<'_>, number: u32, full: &str) -> Result<Optio
 }
 
 /// The report of an identifier of this full text.
-#[tactic(auto, unfolding(crate::specs::LongNames::report))]
+#[tactic(auto, unfolding(crate::specs::IdentifierTooLong::report))]
 fn report(alloc: Global, p: &Parse<'_>, number: u32, full: &str) -> Result<Violation, NoMemory>
     requires { full.now ≡ name_at p.now number }
     ensures { IfOk result (λ v. v ≡ spec.report p.now number) }
@@ -198,7 +187,7 @@ fn long_name(alloc: Global, p: &Parse<'_>, number: u32) -> Result<Option<String>
     ensures text { IfOk result (λ name. IfSome name (λ s. string_bytes s ≡ name_at p.now number)) }
 {
     let index = number as usize;
-    if index >= p.tokens().len() || !is_identifier(p.tokens()[index].kind) {
+    if index >= p.tokens().len() || !p.tokens()[index].kind.is_name() {
         return Ok(None);
     }
     let text = p.token_text(index);
@@ -228,9 +217,9 @@ fn report_token(
 }
 
 /// Reports the identifiers of a statement.
-#[tactic(auto, unfolding(crate::specs::LongNames::long_names))]
+#[tactic(auto, unfolding(crate::specs::IdentifierTooLong::reports_of_identifier_too_long))]
 fn report_tokens(alloc: Global, p: &Parse<'_>, s: &Stmt, out: &mut Reports) -> Result<(), NoMemory>
-    ensures { OnOk result (out.new ≡ out.old ++ long_names p.now s.now) }
+    ensures { OnOk result (out.new ≡ out.old ++ reports_of_identifier_too_long p.now s.now) }
 {
     let end = s.last as usize + 1;
     for number in s.first as usize..end {
@@ -241,11 +230,12 @@ fn report_tokens(alloc: Global, p: &Parse<'_>, s: &Stmt, out: &mut Reports) -> R
 
 impl StatementPass for IdentifierTooLong {
     ghost use Rattle.lint_base.specs.declared.rule.Rule.TheVariants as rule;
-    ghost use Rattle.pass_name.specs.LongNames.{long_coded, long_names, long_placed};
+    ghost use Rattle.pass_name.specs.IdentifierTooLong.{reports_of_identifier_too_long};
+    ghost use Rattle.pass_name.specs.IdentifierTooLongLaws.{long_coded, long_placed};
 
     ghost code = { λ _. rule.IdentifierTooLong };
 
-    ghost reports = { λ _ tree _ s. long_names tree s };
+    ghost reports = { λ _ tree _ s. reports_of_identifier_too_long tree s };
 
     ghost coded = { λ _ tree _ s. long_coded tree s };
 

@@ -8,7 +8,7 @@ use Rattle.sql_tree.specs.Statement.{Tree}
 use Rattle.lint_transaction.specs.Transaction.{stmt_at}
 use Rattle.lint_transaction.proofs.EarlierLaws.{or_swap}
 use Rattle.pass_object.specs.KnownObjects.{IsKnowing, Objects, created, creates, has_named, has_object, is_known, is_known_named, is_named, is_of_known}
-use Rattle.pass_object.specs.ExistingObjects.{existing_at, unless_known}
+use Rattle.pass_object.specs.ExistingObjectCompatibility.{existing_at, unless_known}
 use Rattle.pass_object.specs.declared.known_objects.NamedObject.{NamedObject}
 use Rattle.pass_object.specs.declared.known_objects.Object.{Object}
 

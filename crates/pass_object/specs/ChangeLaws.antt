@@ -1,5 +1,5 @@
 -- What holds of each report of a change of an existing object.
-use Rattle.std.specs.Prelude.{◌≡◌, ℕ, zero, suc, Bool, true, false, ◌&&◌, All, List, [], ◌∷◌, ◌++◌, length, refl, if◌then◌else◌}
+use Rattle.std.specs.Prelude.{◌≡◌, ℕ, Bool, true, false, ◌&&◌, All, List, [], ◌∷◌, ◌++◌, length, refl, if◌then◌else◌}
 use Rattle.std.proofs.Common.{ap, get_or, inl, inr}
 use Rattle.std.proofs.lemmas.Bool.{cases_Bool}
 use Rattle.std.proofs.lemmas.List.Folds.{list_any_at}
@@ -14,7 +14,6 @@ use Rattle.lint_base.specs.Rules.{all_rules, number_of}
 use Rattle.lint_base.specs.RuleSets.{Rules, has, with_rule}
 use Rattle.lint_base.specs.Violations.{violation}
 use Rattle.lint_base.proofs.RuleSets.{number_of-lt, rule_at-number_of}
-use Rattle.lint_transaction.specs.Earlier.{pieces_below}
 use Rattle.lint_transaction.specs.Transaction.{stmt_at}
 use Rattle.sql_tree.specs.declared.kinds.StmtKind.{StmtKind}
 use Rattle.sql_tree.specs.declared.kinds.StmtKind.TheVariants as stmt
@@ -24,14 +23,14 @@ use Rattle.sql_tree.specs.Nodes.{actions_in}
 use Rattle.sql_tree.specs.Range.{span_range_of}
 use Rattle.sql_tree.specs.Statement.{Tree}
 use Rattle.lint_node.specs.Parts.{new_constraints}
-use Rattle.lint_pass.specs.Laws.{HasCode, IsOf, IsRead, StandsIn, reports_by}
-use Rattle.lint_pass.specs.PairLaws.{pair_apart}
+use Rattle.lint_pass.specs.Laws.{HasCode, IsOf, IsRead, IsPlacedIn, reports_by}
+use Rattle.lint_pass.specs.PairLaws.{pair_apart, pieces_apart}
 use Rattle.lint_pass.specs.PlaceLaws.{span_place}
 use Rattle.lint_pass.specs.RuleLaws.{one_all, pieces_all, unless_all, where_all, where_apart}
 use Rattle.pass_object.specs.declared.changes.Node.{Node}
 use Rattle.pass_object.specs.declared.changes.Node.TheVariants as node
 use Rattle.pass_object.specs.Changes.{At, Row, at_action, at_constraint, at_parts, at_piece, at_pieces, at_statement, by_row, by_rows, fits, has_one_piece, is_timing, is_unique, where_fits}
-use Rattle.pass_object.specs.ExistingObjects.{changes_in, existing_at, existing_rules, existing_table, is_enabled, unless_known}
+use Rattle.pass_object.specs.ExistingObjectCompatibility.{IsOwned, changes_in, existing_at, existing_rules, reports_of_existing_object_compatibility, is_enabled, unless_known}
 use Rattle.pass_object.specs.KnownObjects.{is_of_known}
 use Rattle.pass_object.specs.Rows.{rows_of}
 use Rattle.pass_object.specs.Words.{changes_values}
@@ -70,9 +69,6 @@ module _ (R : List Violation → List Violation → Type 0) (none : R [] []) (bo
           (at_parts at tree a) (at_parts other tree a) (k (node.Action a.kind (is_timing a)) a.first a.last) (of_parts a)
 
 -- ---- rows
-
-abbrev IsOwned : Row → Type 0
-IsOwned r = has existing_rules r.0 ≡ true
 
 and_first : (a b : Bool) → (a && b) ≡ true → a ≡ true
 and_first true b h = refl
@@ -119,23 +115,19 @@ all_in P tree rules s h =
         (of_row n first last)
 
 all_at : (P : Violation → Type 0) (tree : Tree) (rules : Rules)
-    → ((r : Row) → IsOwned r → has rules r.0 ≡ true → (first last : ℕ) → P (violation r.0 r.2 (span_range_of tree.toks first last))) → All P (existing_table tree rules)
+    → ((r : Row) → IsOwned r → has rules r.0 ≡ true → (first last : ℕ) → P (violation r.0 r.2 (span_range_of tree.toks first last))) → All P (reports_of_existing_object_compatibility tree rules)
 all_at P tree rules h =
     pieces_all P (existing_at tree rules) (length tree.stmts)
     (λ i. unless_all P (is_of_known tree i (stmt_at tree i)) (changes_in tree rules (stmt_at tree i)) (all_in P tree rules (stmt_at tree i) h))
 
-pub existing_coded : (tree : Tree) (rules : Rules) → All (IsOf existing_rules rules) (existing_table tree rules)
+pub existing_coded : (tree : Tree) (rules : Rules) → All (IsOf existing_rules rules) (reports_of_existing_object_compatibility tree rules)
 existing_coded tree rules = all_at (IsOf existing_rules rules) tree rules (λ r o e first last. record { own = o; enabled = e })
 
-pub existing_placed : (tree : Tree) (rules : Rules) → IsRead tree → All (StandsIn tree) (existing_table tree rules)
+pub existing_placed : (tree : Tree) (rules : Rules) → IsRead tree → All (IsPlacedIn tree) (reports_of_existing_object_compatibility tree rules)
 existing_placed tree rules read =
-    all_at (StandsIn tree) tree rules (λ r o e first last. record { range = span_place tree read first last; edits = tt })
+    all_at (IsPlacedIn tree) tree rules (λ r o e first last. record { range = span_place tree read first last; edits = tt })
 
 -- ---- other rules
-
-pieces_apart : (q : Rule) (f g : ℕ → List Violation) (n : ℕ) → ((i : ℕ) → reports_by q (f i) ≡ reports_by q (g i)) → reports_by q (pieces_below f n) ≡ reports_by q (pieces_below g n)
-pieces_apart q f g zero h = refl
-pieces_apart q f g (suc n) h = pair_apart q (pieces_below f n) (pieces_below g n) (f n) (g n) (pieces_apart q f g n h) (h n)
 
 unless_apart : (q : Rule) (known : Bool) (tree : Tree) (some others : Rules) (s : Stmt) → reports_by q (changes_in tree some s) ≡ reports_by q (changes_in tree others s)
     → reports_by q (unless_known known tree some s) ≡ reports_by q (unless_known known tree others s)
@@ -147,16 +139,13 @@ row_apart q some others n range r same =
     where_apart r.0 (where_fits n range r) q some others same
     (where_all (HasCode r.0) (fits r.1 n) (violation r.0 r.2 range ∷ []) (λ _. one_all (HasCode r.0) (violation r.0 r.2 range) refl))
 
-abbrev AreApart : Rule → List Violation → List Violation → Type 0
-AreApart q vs ws = reports_by q vs ≡ reports_by q ws
-
 in_apart : (q : Rule) (tree : Tree) (some others : Rules) (s : Stmt) → has some q ≡ has others q → reports_by q (changes_in tree some s) ≡ reports_by q (changes_in tree others s)
 in_apart q tree some others s same =
-    walked (AreApart q) refl (pair_apart q) (by_rows some (rows_of s.kind)) (by_rows others (rows_of s.kind)) tree s
-    (λ n first last. each (AreApart q) refl (pair_apart q) (by_row some n (span_range_of tree.toks first last)) (by_row others n (span_range_of tree.toks first last)) (rows_of s.kind)
+    walked (λ vs ws. reports_by q vs ≡ reports_by q ws) refl (pair_apart q) (by_rows some (rows_of s.kind)) (by_rows others (rows_of s.kind)) tree s
+    (λ n first last. each (λ vs ws. reports_by q vs ≡ reports_by q ws) refl (pair_apart q) (by_row some n (span_range_of tree.toks first last)) (by_row others n (span_range_of tree.toks first last)) (rows_of s.kind)
     (λ r. row_apart q some others n (span_range_of tree.toks first last) r same))
 
-pub existing_apart : (tree : Tree) (q : Rule) (some others : Rules) → has some q ≡ has others q → reports_by q (existing_table tree some) ≡ reports_by q (existing_table tree others)
+pub existing_apart : (tree : Tree) (q : Rule) (some others : Rules) → has some q ≡ has others q → reports_by q (reports_of_existing_object_compatibility tree some) ≡ reports_by q (reports_of_existing_object_compatibility tree others)
 existing_apart tree q some others same =
     pieces_apart q (existing_at tree some) (existing_at tree others) (length tree.stmts)
     (λ i. unless_apart q (is_of_known tree i (stmt_at tree i)) tree some others (stmt_at tree i) (in_apart q tree some others (stmt_at tree i) same))
@@ -180,13 +169,10 @@ row_off rules off r o =
       | inr fails ↦ fails
     ]
 
-abbrev IsNothing : List Violation → List Violation → Type 0
-IsNothing vs ws = vs ≡ []
-
 in_off : (tree : Tree) (rules : Rules) (s : Stmt) → is_enabled rules ≡ false → changes_in tree rules s ≡ []
 in_off tree rules s off =
-    walked IsNothing refl (λ a b c d x y i. x i ++ y i) (by_rows rules (rows_of s.kind)) (by_rows rules (rows_of s.kind)) tree s
-    (λ n first last. each_of IsNothing refl (λ a b c d x y i. x i ++ y i) IsOwned (by_row rules n (span_range_of tree.toks first last)) (by_row rules n (span_range_of tree.toks first last)) (rows_of s.kind) (all_owned (rows_of s.kind) (owned s.kind))
+    walked (λ vs ws. vs ≡ []) refl (λ a b c d x y i. x i ++ y i) (by_rows rules (rows_of s.kind)) (by_rows rules (rows_of s.kind)) tree s
+    (λ n first last. each_of (λ vs ws. vs ≡ []) refl (λ a b c d x y i. x i ++ y i) IsOwned (by_row rules n (span_range_of tree.toks first last)) (by_row rules n (span_range_of tree.toks first last)) (rows_of s.kind) (all_owned (rows_of s.kind) (owned s.kind))
     (λ r o. ap (λ b. if b then where_fits n (span_range_of tree.toks first last) r else []) (row_off rules off r o)))
 
 unless_off : (known : Bool) (tree : Tree) (rules : Rules) (s : Stmt) → is_enabled rules ≡ false → unless_known known tree rules s ≡ []

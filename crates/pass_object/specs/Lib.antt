@@ -1,6 +1,6 @@
 pub mod ChangeLaws
 pub mod Changes
-pub mod ExistingObjects
+pub mod ExistingObjectCompatibility
 pub mod KnownObjects
 pub mod Rows
 pub mod Words

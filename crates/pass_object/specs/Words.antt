@@ -2,18 +2,13 @@
 -- (PostgreSQL manual, ALTER SEQUENCE).
 use Rattle.std.specs.Prelude.{ℕ, ◌+◌, Bool, false, ◌&&◌, ◌||◌, not, nat_lt, List, drop, length, position, codes, Option, Some, None}
 use Rattle.std.specs.Str.{str_eq_ignore_ascii_case}
-use Rattle.sql_token.specs.declared.token.Tok.{Tok}
-use Rattle.sql_token.specs.Terminal.{is_significant}
+use Rattle.sql_token.specs.Terminal.{is_significant_token}
 use Rattle.sql_token.specs.Token.{text_of}
 use Rattle.sql_tree.specs.declared.kinds.PieceKind.TheVariants as piece
 use Rattle.sql_tree.specs.declared.nodes.Piece.{Piece}
 use Rattle.sql_tree.specs.Range.{token_at}
 use Rattle.sql_tree.specs.Statement.{Tree}
 use Rattle.lint_node.specs.Same.{same_piece}
-
--- neither blanks nor a comment
-abbrev pub is_significant_token : Tok → Bool
-is_significant_token tok = is_significant tok.kind
 
 -- token n is the word, in any case; a quoted name is none
 abbrev pub is_word : Tree → ℕ → List ℕ → Bool

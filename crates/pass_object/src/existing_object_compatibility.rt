@@ -2,7 +2,7 @@
 
 ghost use Rattle.std.specs.Prelude.{◌≡◌, ◌++◌, OnOk, OnErr};
 ghost use Rattle.lint_base.specs.Grown.{GrownBy};
-ghost use Rattle.pass_object.specs.ExistingObjects.{changes_in, existing_rules, is_enabled, unless_known};
+ghost use Rattle.pass_object.specs.ExistingObjectCompatibility.{changes_in, existing_rules, is_enabled, unless_known};
 
 use crate::change_rows::rows_of;
 use crate::changes::Changes;
@@ -92,7 +92,7 @@ impl StepPass for ExistingObjectCompatibility {
     ghost use Rattle.std.specs.Prelude.{◌≡◌, [], true, false};
     ghost use Rattle.std.proofs.lemmas.List.{append-nil};
     ghost use Rattle.pass_object.specs.ChangeLaws.{existing_apart, existing_coded, existing_placed};
-    ghost use Rattle.pass_object.specs.ExistingObjects.{existing_at, existing_rules, existing_table, is_enabled};
+    ghost use Rattle.pass_object.specs.ExistingObjectCompatibility.{existing_at, existing_rules, reports_of_existing_object_compatibility, is_enabled};
     ghost use Rattle.pass_object.specs.KnownObjects.{IsKnowing};
 
     type State = KnownObjects;
@@ -103,13 +103,13 @@ impl StepPass for ExistingObjectCompatibility {
 
     ghost wants = { λ _ _. false };
 
-    ghost piece = { λ _ tree r _ i. existing_at tree r i };
+    ghost reports_at = { λ _ tree r _ i. existing_at tree r i };
 
     ghost tail = { λ _ _ _ _. [] };
 
-    ghost table = { λ _ tree r _. existing_table tree r };
+    ghost table = { λ _ tree r _. reports_of_existing_object_compatibility tree r };
 
-    ghost whole = { λ _ tree r _. append-nil (existing_table tree r) };
+    ghost whole = { λ _ tree r _. append-nil (reports_of_existing_object_compatibility tree r) };
 
     ghost coded = { λ _ tree r _. existing_coded tree r };
 

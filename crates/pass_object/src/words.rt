@@ -1,35 +1,17 @@
 //! The words with which a piece of an ALTER SEQUENCE begins.
 
-ghost use Rattle.std.specs.Prelude.{◌≡◌, ◌<◌, IfSome, length, position, drop};
+ghost use Rattle.std.specs.Prelude.{◌≡◌, drop};
 ghost use Rattle.pass_object.specs.Words as spec;
 
 use lint_node::same_piece;
-use sql_token::{Tok, TokKind};
+use sql_token::{Tok, first_significant};
 use sql_tree::{Parse, Piece, PieceKind};
-
-/// Whether the token is neither blanks nor a comment.
-fn is_significant(tok: &Tok) -> bool
-    ensures { result ≡ spec.is_significant_token tok.now }
-{
-    !matches!(
-        tok.kind,
-        TokKind::Blank | TokKind::LineComment | TokKind::BlockComment
-    )
-}
 
 /// Whether the token of this number is the word, in any case.
 fn is_word(p: &Parse<'_>, number: usize, word: &str) -> bool
     ensures { result ≡ spec.is_word p.now number word.now }
 {
     number < p.tokens().len() && p.token_text(number).eq_ignore_ascii_case(word)
-}
-
-/// How many tokens come before the first significant one.
-fn blanks_before(toks: &[Tok]) -> Option<usize>
-    ensures number { result ≡ position spec.is_significant_token toks.now }
-    ensures within { IfSome result (λ n. n < length toks.now) }
-{
-    toks.iter().position(|tok| is_significant(tok))
 }
 
 /// The tokens from this number on.
@@ -49,7 +31,7 @@ fn is_logging_after(p: &Parse<'_>, number: u32) -> bool
     ensures { result ≡ spec.is_logging_after p.now number }
 {
     let number = number as usize + 1;
-    match blanks_before(tokens_from(p, number)) {
+    match first_significant(tokens_from(p, number)) {
         Some(blanks) => {
             is_word(p, number + blanks, "logged") || is_word(p, number + blanks, "unlogged")
         }

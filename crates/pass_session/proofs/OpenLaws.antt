@@ -8,12 +8,12 @@ use Rattle.lint_transaction.specs.Earlier.{any_between}
 use Rattle.lint_transaction.specs.Transaction.{is_begin_kind, stmt_at}
 use Rattle.lint_transaction.proofs.EarlierLaws.{and_true, any_between-next, any_between-suc, since-suc}
 use Rattle.lint_pass.specs.Blocks.{begins_at, ends_at, is_end_kind}
-use Rattle.pass_session.specs.Nesting.{has_begun}
-use Rattle.pass_session.specs.Uncommitted.{is_left_open, last_below, left_open, tokens_of}
+use Rattle.pass_session.specs.TransactionNesting.{is_in_transaction}
+use Rattle.pass_session.specs.BanUncommittedTransaction.{is_left_open, last_below, left_open, tokens_of}
 
--- ---- whether a transaction has begun
+-- ---- whether a transaction has in_transaction
 
-pub begun_next : (tree : Tree) (i : ℕ) (s : Stmt) (old new : Bool) → s ≡ stmt_at tree i → old ≡ has_begun tree i → new ≡ (is_begin_kind s.kind || (old && not (is_end_kind s.kind))) → new ≡ has_begun tree (i + 1)
+pub begun_next : (tree : Tree) (i : ℕ) (s : Stmt) (old new : Bool) → s ≡ stmt_at tree i → old ≡ is_in_transaction tree i → new ≡ (is_begin_kind s.kind || (old && not (is_end_kind s.kind))) → new ≡ is_in_transaction tree (i + 1)
 begun_next tree i s old new e h n =
     rw add-one
     (n

@@ -3,15 +3,10 @@ use Rattle.std.specs.Prelude.{ℕ, zero, suc, ◌-◌, Bool, ◌&&◌, not, nat_
 use Rattle.std.specs.Str.{bytes_eq}
 use Rattle.text_pos.specs.Range.{Range}
 use Rattle.sql_token.specs.declared.token.Span.{Span}
-use Rattle.sql_token.specs.declared.token.Tok.{Tok}
-use Rattle.sql_token.specs.Terminal.{is_significant}
+use Rattle.sql_token.specs.Terminal.{is_significant_token}
 use Rattle.sql_token.specs.Token.{text_of}
 use Rattle.sql_tree.specs.Range.{span_range_of, token_at}
 use Rattle.sql_tree.specs.Statement.{Tree}
-
--- neither blanks nor a comment
-abbrev pub is_significant_token : Tok → Bool
-is_significant_token tok = is_significant tok.kind
 
 abbrev pub or_first : Option ℕ → ℕ
 or_first None = 0

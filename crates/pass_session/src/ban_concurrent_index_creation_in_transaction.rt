@@ -1,8 +1,8 @@
 //! Index builds with CONCURRENTLY in a transaction.
 
 ghost use Rattle.std.specs.Prelude.{◌≡◌, ◌++◌, [], OnOk, OnErr, if◌then◌else◌};
-ghost use Rattle.pass_session.specs.ConcurrentBuilds as spec;
-ghost use Rattle.pass_session.specs.ConcurrentBuilds.{build_report};
+ghost use Rattle.pass_session.specs.BanConcurrentIndexCreationInTransaction as spec;
+ghost use Rattle.pass_session.specs.BanConcurrentIndexCreationInTransaction.{build_report};
 
 use lint_base::{LinterSettings, Reports, Rule, Text, Violation};
 use lint_pass::{Block, RulePass};
@@ -26,7 +26,7 @@ const HELP: &str = "build the index outside any transactions";
 pub struct BanConcurrentIndexCreationInTransaction;
 
 /// The report of the word CONCURRENTLY of this number.
-#[tactic(auto, unfolding(crate::specs::ConcurrentBuilds::report))]
+#[tactic(auto, unfolding(crate::specs::BanConcurrentIndexCreationInTransaction::report))]
 fn report(p: &Parse<'_>, word: u32) -> Violation
     ensures { result ≡ spec.report p.now word }
 {
@@ -72,7 +72,8 @@ impl RulePass for BanConcurrentIndexCreationInTransaction {
     ghost use Rattle.std.specs.Prelude.{◌≡◌, false};
     ghost use Rattle.lint_base.specs.declared.rule.Rule.TheVariants as rule;
     ghost use Rattle.lint_transaction.specs.Transaction.{is_open, stmt_at};
-    ghost use Rattle.pass_session.specs.ConcurrentBuilds.{builds_coded, builds_placed, reports_of};
+    ghost use Rattle.pass_session.specs.BanConcurrentIndexCreationInTransaction.{reports_on};
+    ghost use Rattle.pass_session.specs.BanConcurrentIndexCreationInTransactionLaws.{builds_coded, builds_placed};
 
     type Memory = OpenTransaction;
 
@@ -82,7 +83,7 @@ impl RulePass for BanConcurrentIndexCreationInTransaction {
 
     ghost wants = { λ _. false };
 
-    ghost reports = { λ _ tree set i. reports_of set tree i (stmt_at tree i) };
+    ghost reports = { λ _ tree set i. reports_on set tree i (stmt_at tree i) };
 
     ghost coded = { λ _ tree set i. builds_coded set tree i (stmt_at tree i) };
 
@@ -100,7 +101,7 @@ impl RulePass for BanConcurrentIndexCreationInTransaction {
         Ok(OpenTransaction::new(set.assume_in_transaction))
     }
 
-    fn tell(
+    fn visit(
         &self,
         memory: &mut OpenTransaction,
         p: &Parse<'_>,

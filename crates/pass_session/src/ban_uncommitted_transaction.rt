@@ -5,13 +5,12 @@ ghost use Rattle.lint_base.specs.RuleSets.{no_rules, with_rule};
 ghost use Rattle.lint_transaction.specs.Transaction.{is_begin_kind};
 ghost use Rattle.lint_pass.specs.Blocks.{is_end_kind};
 ghost use Rattle.lint_base.specs.declared.rule.Rule.TheVariants as rule;
-ghost use Rattle.lint_pass.specs.RuleLaws.{where_of};
-ghost use Rattle.pass_session.specs.Uncommitted as spec;
-ghost use Rattle.pass_session.specs.Uncommitted.{commit_line, left_reports, tokens_of};
+ghost use Rattle.lint_pass.specs.RuleTables.{where_of};
+ghost use Rattle.pass_session.specs.BanUncommittedTransaction as spec;
+ghost use Rattle.pass_session.specs.BanUncommittedTransaction.{commit_line, left_reports, tokens_of};
 
-use crate::transaction_nesting::is_end;
 use lint_base::{LinterSettings, Reports, Rule, RuleSet, Text, Violation};
-use lint_pass::{Block, StepPass, insertion_fix};
+use lint_pass::{Block, StepPass, insertion_fix, is_end};
 use lint_transaction::begins;
 use sql_token::Span;
 use sql_tree::{Parse, Stmt};
@@ -55,7 +54,7 @@ fn text_end(p: &Parse<'_>) -> TextSize
 }
 
 /// The report of the BEGIN of these tokens.
-#[tactic(auto, unfolding(crate::specs::Uncommitted::report))]
+#[tactic(auto, unfolding(crate::specs::BanUncommittedTransaction::report))]
 fn report(alloc: Global, p: &Parse<'_>, begin: Span) -> Result<Violation, NoMemory>
     ensures { IfOk result (λ v. v ≡ spec.report p.now begin) }
 {
@@ -135,7 +134,8 @@ impl StepPass for BanUncommittedTransaction {
     ghost use Rattle.lint_base.specs.declared.rule.Rule.TheVariants as rule;
     ghost use Rattle.lint_base.specs.RuleSets.{no_rules, with_rule};
     ghost use Rattle.lint_pass.specs.Pieces.{no_pieces};
-    ghost use Rattle.pass_session.specs.Uncommitted.{left_open, reports_of_ban_uncommitted_transaction, uncommitted_apart, uncommitted_coded, uncommitted_placed};
+    ghost use Rattle.pass_session.specs.BanUncommittedTransaction.{left_open, reports_of_ban_uncommitted_transaction};
+    ghost use Rattle.pass_session.specs.BanUncommittedTransactionLaws.{uncommitted_apart, uncommitted_coded, uncommitted_placed};
 
     type State = BanUncommittedTransactionState;
 
@@ -145,7 +145,7 @@ impl StepPass for BanUncommittedTransaction {
 
     ghost wants = { λ _ _. false };
 
-    ghost piece = { λ _ _ _ _ _. [] };
+    ghost reports_at = { λ _ _ _ _ _. [] };
 
     ghost tail = { λ _ tree r _. reports_of_ban_uncommitted_transaction tree r };
 

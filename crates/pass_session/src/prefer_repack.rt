@@ -1,8 +1,8 @@
 //! Rewrites of a table that nobody can use meanwhile.
 
 ghost use Rattle.std.specs.Prelude.{◌≡◌, ◌++◌, ◌∷◌, [], Some, IfOk, OnOk, OnErr, if◌then◌else◌, string_bytes};
-ghost use Rattle.pass_session.specs.Repacks as spec;
-ghost use Rattle.pass_session.specs.Repacks.{part, repack, repack_fix, vacuum_fix};
+ghost use Rattle.pass_session.specs.PreferRepack as spec;
+ghost use Rattle.pass_session.specs.PreferRepack.{part, repack, repack_fix, vacuum_fix};
 
 use crate::tokens::{last_word, source_of};
 use lint_base::{Fix, LinterSettings, Reports, Rule, Text, Violation};
@@ -130,7 +130,7 @@ fn report(p: &Parse<'_>, s: &Stmt, message: Text, fix: Option<Fix>) -> Violation
     }
 }
 
-#[tactic(auto, unfolding(crate::specs::Repacks::cluster_report))]
+#[tactic(auto, unfolding(crate::specs::PreferRepack::cluster_report))]
 fn cluster_report(
     alloc: Global,
     p: &Parse<'_>,
@@ -144,7 +144,7 @@ fn cluster_report(
     Ok(report(p, s, Text::plain(CLUSTER_MESSAGE), Some(fix)))
 }
 
-#[tactic(auto, unfolding(crate::specs::Repacks::vacuum_report))]
+#[tactic(auto, unfolding(crate::specs::PreferRepack::vacuum_report))]
 fn vacuum_report(
     alloc: Global,
     p: &Parse<'_>,
@@ -171,11 +171,12 @@ fn report_rewrite(alloc: Global, p: &Parse<'_>, s: &Stmt, out: &mut Reports) -> 
 
 impl StatementPass for PreferRepack {
     ghost use Rattle.lint_base.specs.declared.rule.Rule.TheVariants as rule;
-    ghost use Rattle.pass_session.specs.Repacks.{reports_of, rewrites_coded, rewrites_placed};
+    ghost use Rattle.pass_session.specs.PreferRepack.{reports_of_prefer_repack};
+    ghost use Rattle.pass_session.specs.PreferRepackLaws.{rewrites_coded, rewrites_placed};
 
     ghost code = { λ _. rule.PreferRepack };
 
-    ghost reports = { λ _ tree set s. reports_of set tree s };
+    ghost reports = { λ _ tree set s. reports_of_prefer_repack set tree s };
 
     ghost coded = { λ _ tree set s. rewrites_coded set tree s };
 

@@ -9,9 +9,9 @@ ghost use Rattle.std.specs.Str.{bytes_eq};
 ghost use Rattle.lint_transaction.specs.Names.{name_at};
 ghost use Rattle.lint_lock.specs.Slow as slow;
 ghost use Rattle.lint_transaction.specs.Transaction.{stmt_at};
-ghost use Rattle.pass_session.specs.Timeouts as spec;
-ghost use Rattle.pass_session.specs.Timeouts.{both_reports, lock_message, lock_note, lock_reports, lock_timeout, setting_fix, sets, statement_reports, statement_timeout, timeout_rules};
-ghost use Rattle.pass_session.specs.TimeoutWalk.{IsWatching};
+ghost use Rattle.pass_session.specs.RequireTimeoutSettings as spec;
+ghost use Rattle.pass_session.specs.RequireTimeoutSettings.{both_reports, lock_message, lock_note, lock_reports, lock_timeout, setting_fix, sets, statement_reports, statement_timeout, timeout_rules};
+ghost use Rattle.pass_session.specs.RequireTimeoutSettingsWalk.{IsWatching};
 
 use crate::tokens::first_place;
 use lint_base::{Fix, LinterSettings, Reports, Rule, RuleSet, Text, Violation};
@@ -131,7 +131,7 @@ fn setting_fix(alloc: Global, p: &Parse<'_>, title: Text, setting: &str) -> Resu
     insertion_fix(alloc, title, line, first_place(p))
 }
 
-#[tactic(auto, unfolding(crate::specs::Timeouts::lock_report))]
+#[tactic(auto, unfolding(crate::specs::RequireTimeoutSettings::lock_report))]
 fn lock_report(alloc: Global, p: &Parse<'_>, s: &Stmt) -> Result<Violation, NoMemory>
     ensures { IfOk result (λ v. v ≡ spec.lock_report p.now s.now) }
 {
@@ -149,7 +149,7 @@ fn lock_report(alloc: Global, p: &Parse<'_>, s: &Stmt) -> Result<Violation, NoMe
     })
 }
 
-#[tactic(auto, unfolding(crate::specs::Timeouts::statement_report))]
+#[tactic(auto, unfolding(crate::specs::RequireTimeoutSettings::statement_report))]
 fn statement_report(alloc: Global, p: &Parse<'_>, s: &Stmt) -> Result<Violation, NoMemory>
     ensures { IfOk result (λ v. v ≡ spec.statement_report p.now s.now) }
 {
@@ -247,9 +247,9 @@ fn rules() -> RuleSet
 impl StepPass for RequireTimeoutSettings {
     ghost use Rattle.std.specs.Prelude.{[], false};
     ghost use Rattle.std.proofs.lemmas.List.{append-nil};
-    ghost use Rattle.pass_session.specs.Timeouts.{reports_of_require_timeout_settings, timeout_rules, timeouts_at};
-    ghost use Rattle.pass_session.specs.TimeoutLaws.{timeouts_apart, timeouts_coded, timeouts_placed};
-    ghost use Rattle.pass_session.specs.TimeoutWalk.{IsWatching};
+    ghost use Rattle.pass_session.specs.RequireTimeoutSettings.{reports_of_require_timeout_settings, timeout_rules, timeouts_at};
+    ghost use Rattle.pass_session.specs.RequireTimeoutSettingsLaws.{timeouts_apart, timeouts_coded, timeouts_placed};
+    ghost use Rattle.pass_session.specs.RequireTimeoutSettingsWalk.{IsWatching};
 
     type State = RequireTimeoutSettingsState;
 
@@ -259,7 +259,7 @@ impl StepPass for RequireTimeoutSettings {
 
     ghost wants = { λ _ _. false };
 
-    ghost piece = { λ _ tree r _ i. timeouts_at tree r i };
+    ghost reports_at = { λ _ tree r _ i. timeouts_at tree r i };
 
     ghost tail = { λ _ _ _ _. [] };
 

@@ -1,34 +1,17 @@
 //! Parts of a text by its tokens.
 
-ghost use Rattle.std.specs.Prelude.{◌≡◌, position};
+ghost use Rattle.std.specs.Prelude.{◌≡◌};
 ghost use Rattle.pass_session.specs.Tokens as spec;
 
-use sql_token::{Span, Tok, TokKind};
+use sql_token::Span;
 use sql_tree::Parse;
 use text_pos::TextSize;
-
-/// Whether the token is neither blanks nor a comment.
-fn is_significant(tok: &Tok) -> bool
-    ensures { result ≡ spec.is_significant_token tok.now }
-{
-    !matches!(
-        tok.kind,
-        TokKind::Blank | TokKind::LineComment | TokKind::BlockComment
-    )
-}
-
-/// The number of the first significant token.
-fn first_of(toks: &[Tok]) -> Option<usize>
-    ensures { result ≡ position spec.is_significant_token toks.now }
-{
-    toks.iter().position(|tok| is_significant(tok))
-}
 
 /// The number of the first significant token of the text.
 fn first_significant(p: &Parse<'_>) -> usize
     ensures { result ≡ spec.first_significant p.now }
 {
-    match first_of(p.tokens()) {
+    match sql_token::first_significant(p.tokens()) {
         Some(number) => number,
         None => 0,
     }
@@ -50,7 +33,7 @@ fn is_word_at(p: &Parse<'_>, number: u32) -> bool
 {
     let number = number as usize;
     if number < p.tokens().len() {
-        is_significant(&p.tokens()[number]) && p.token_text(number) != ";"
+        p.tokens()[number].kind.is_significant() && p.token_text(number) != ";"
     } else {
         true
     }

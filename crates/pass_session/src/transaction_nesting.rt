@@ -3,13 +3,13 @@
 ghost use Rattle.std.specs.Prelude.{◌≡◌, ◌++◌, ◌&&◌, ◌||◌, not, OnOk, OnErr};
 ghost use Rattle.lint_transaction.specs.Transaction.{is_begin_kind};
 ghost use Rattle.lint_pass.specs.Blocks.{is_end_kind};
-ghost use Rattle.pass_session.specs.Nesting as spec;
-ghost use Rattle.pass_session.specs.Nesting.{begin_reports, bound_reports, end_reports};
+ghost use Rattle.pass_session.specs.TransactionNesting as spec;
+ghost use Rattle.pass_session.specs.TransactionNesting.{begin_reports, bound_reports, end_reports};
 
 use lint_base::{LinterSettings, Reports, Rule, Text, Violation};
-use lint_pass::{Block, RulePass};
+use lint_pass::{Block, RulePass, is_end};
 use lint_transaction::begins;
-use sql_tree::{Parse, Stmt, StmtKind};
+use sql_tree::{Parse, Stmt};
 use std::alloc::Global;
 use text_pos::NoMemory;
 
@@ -40,17 +40,10 @@ const HELP_TO_BEGIN: &str =
 #[derive(Drop)]
 pub struct TransactionNesting;
 
-/// Whether a transaction has begun: the last BEGIN, COMMIT or ROLLBACK is a BEGIN.
+/// Whether a transaction has in_transaction: the last BEGIN, COMMIT or ROLLBACK is a BEGIN.
 #[derive(Drop)]
 pub struct TransactionNestingMemory {
-    has_begun: bool,
-}
-
-/// Whether the statement is a COMMIT or a ROLLBACK, of any form.
-pub(crate) fn is_end(s: &Stmt) -> bool
-    ensures { result ≡ is_end_kind s.now.kind }
-{
-    matches!(s.kind, StmtKind::Commit | StmtKind::Rollback)
+    is_in_transaction: bool,
 }
 
 /// The report of a statement.
@@ -67,7 +60,7 @@ fn report(p: &Parse<'_>, message: Text, help: Text, s: &Stmt) -> Violation
     }
 }
 
-#[tactic(auto, unfolding(crate::specs::Nesting::managed_begin))]
+#[tactic(auto, unfolding(crate::specs::TransactionNesting::managed_begin))]
 fn managed_begin(p: &Parse<'_>, s: &Stmt) -> Violation
     ensures { result ≡ spec.managed_begin p.now s.now }
 {
@@ -76,7 +69,7 @@ fn managed_begin(p: &Parse<'_>, s: &Stmt) -> Violation
     report(p, message, help, s)
 }
 
-#[tactic(auto, unfolding(crate::specs::Nesting::nested_begin))]
+#[tactic(auto, unfolding(crate::specs::TransactionNesting::nested_begin))]
 fn nested_begin(p: &Parse<'_>, s: &Stmt) -> Violation
     ensures { result ≡ spec.nested_begin p.now s.now }
 {
@@ -85,7 +78,7 @@ fn nested_begin(p: &Parse<'_>, s: &Stmt) -> Violation
     report(p, message, help, s)
 }
 
-#[tactic(auto, unfolding(crate::specs::Nesting::managed_end))]
+#[tactic(auto, unfolding(crate::specs::TransactionNesting::managed_end))]
 fn managed_end(p: &Parse<'_>, s: &Stmt) -> Violation
     ensures { result ≡ spec.managed_end p.now s.now }
 {
@@ -94,7 +87,7 @@ fn managed_end(p: &Parse<'_>, s: &Stmt) -> Violation
     report(p, message, help, s)
 }
 
-#[tactic(auto, unfolding(crate::specs::Nesting::stray_end))]
+#[tactic(auto, unfolding(crate::specs::TransactionNesting::stray_end))]
 fn stray_end(p: &Parse<'_>, s: &Stmt) -> Violation
     ensures { result ≡ spec.stray_end p.now s.now }
 {
@@ -106,17 +99,17 @@ fn stray_end(p: &Parse<'_>, s: &Stmt) -> Violation
 /// Reports a BEGIN in a transaction.
 fn report_begin(
     assumed: bool,
-    begun: bool,
+    in_transaction: bool,
     p: &Parse<'_>,
     s: &Stmt,
     out: &mut Reports,
 ) -> Result<(), NoMemory>
-    ensures ok { OnOk result (out.new ≡ out.old ++ begin_reports assumed begun p.now s.now) }
+    ensures ok { OnOk result (out.new ≡ out.old ++ begin_reports assumed in_transaction p.now s.now) }
     ensures err { OnErr result (out.new ≡ out.old) }
 {
     if assumed {
         out.push(managed_begin(p, s))
-    } else if begun {
+    } else if in_transaction {
         out.push(nested_begin(p, s))
     } else {
         Ok(())
@@ -126,17 +119,17 @@ fn report_begin(
 /// Reports a COMMIT or a ROLLBACK without a transaction of the text.
 fn report_end(
     assumed: bool,
-    begun: bool,
+    in_transaction: bool,
     p: &Parse<'_>,
     s: &Stmt,
     out: &mut Reports,
 ) -> Result<(), NoMemory>
-    ensures ok { OnOk result (out.new ≡ out.old ++ end_reports assumed begun p.now s.now) }
+    ensures ok { OnOk result (out.new ≡ out.old ++ end_reports assumed in_transaction p.now s.now) }
     ensures err { OnErr result (out.new ≡ out.old) }
 {
     if assumed {
         out.push(managed_end(p, s))
-    } else if begun {
+    } else if in_transaction {
         Ok(())
     } else {
         out.push(stray_end(p, s))
@@ -146,18 +139,18 @@ fn report_end(
 /// Reports a statement that begins or ends a transaction at a wrong place.
 fn report_bound(
     assumed: bool,
-    begun: bool,
+    in_transaction: bool,
     p: &Parse<'_>,
     s: &Stmt,
     out: &mut Reports,
 ) -> Result<(), NoMemory>
-    ensures ok { OnOk result (out.new ≡ out.old ++ bound_reports assumed begun p.now s.now) }
+    ensures ok { OnOk result (out.new ≡ out.old ++ bound_reports assumed in_transaction p.now s.now) }
     ensures err { OnErr result (out.new ≡ out.old) }
 {
     if begins(s) {
-        report_begin(assumed, begun, p, s, out)
+        report_begin(assumed, in_transaction, p, s, out)
     } else if is_end(s) {
-        report_end(assumed, begun, p, s, out)
+        report_end(assumed, in_transaction, p, s, out)
     } else {
         Ok(())
     }
@@ -166,12 +159,12 @@ fn report_bound(
 impl TransactionNestingMemory {
     /// Goes after a statement.
     fn go_after(&mut self, s: &Stmt)
-        ensures { self.new.has_begun ≡ (is_begin_kind s.now.kind || (self.old.has_begun && not (is_end_kind s.now.kind))) }
+        ensures { self.new.is_in_transaction ≡ (is_begin_kind s.now.kind || (self.old.is_in_transaction && not (is_end_kind s.now.kind))) }
     {
         if begins(s) {
-            self.has_begun = true;
+            self.is_in_transaction = true;
         } else if is_end(s) {
-            self.has_begun = false;
+            self.is_in_transaction = false;
         }
     }
 }
@@ -180,17 +173,18 @@ impl RulePass for TransactionNesting {
     ghost use Rattle.std.specs.Prelude.{◌≡◌, false};
     ghost use Rattle.lint_base.specs.declared.rule.Rule.TheVariants as rule;
     ghost use Rattle.lint_transaction.specs.Transaction.{stmt_at};
-    ghost use Rattle.pass_session.specs.Nesting.{has_begun, nesting_coded, nesting_placed, reports_of};
+    ghost use Rattle.pass_session.specs.TransactionNesting.{is_in_transaction, reports_on};
+    ghost use Rattle.pass_session.specs.TransactionNestingLaws.{nesting_coded, nesting_placed};
 
     type Memory = TransactionNestingMemory;
 
     ghost code = { λ _. rule.TransactionNesting };
 
-    ghost knows = { λ _ memory tree _ i. memory.has_begun ≡ has_begun tree i };
+    ghost knows = { λ _ memory tree _ i. memory.is_in_transaction ≡ is_in_transaction tree i };
 
     ghost wants = { λ _. false };
 
-    ghost reports = { λ _ tree set i. reports_of set tree i (stmt_at tree i) };
+    ghost reports = { λ _ tree set i. reports_on set tree i (stmt_at tree i) };
 
     ghost coded = { λ _ tree set i. nesting_coded set tree i (stmt_at tree i) };
 
@@ -209,10 +203,12 @@ impl RulePass for TransactionNesting {
         _alloc: Global,
         _set: &LinterSettings,
     ) -> Result<TransactionNestingMemory, NoMemory> {
-        Ok(TransactionNestingMemory { has_begun: false })
+        Ok(TransactionNestingMemory {
+            is_in_transaction: false,
+        })
     }
 
-    fn tell(
+    fn visit(
         &self,
         memory: &mut TransactionNestingMemory,
         p: &Parse<'_>,
@@ -222,7 +218,13 @@ impl RulePass for TransactionNesting {
         set: &LinterSettings,
         out: &mut Reports,
     ) -> Result<(), NoMemory> {
-        report_bound(set.assume_in_transaction, memory.has_begun, p, s, out)?;
+        report_bound(
+            set.assume_in_transaction,
+            memory.is_in_transaction,
+            p,
+            s,
+            out,
+        )?;
         memory.go_after(s);
         Ok(())
     }

@@ -1,4 +1,3 @@
-pub mod Front
 pub mod Puts
 pub mod Skips
 pub mod Tails

@@ -8,7 +8,7 @@ ghost use Rattle.std.specs.Option.{option_map, option_copied};
 ghost use Rattle.sql_keyword.specs.declared.words.TheConstants.Keyword as keyword;
 ghost use Rattle.sql_token.specs.Terminal.{is_keyword, is_name};
 ghost use Rattle.sql_tree.specs.declared.forms.Captures.{Captures};
-ghost use Rattle.sql_tree.specs.Forms.{at, one, nothing_kept, word_kept, name_kept, concurrently_kept, is_temp, is_other_mod, take_path, take_mods, tell, take_index_name, take_chain, take_concurrently, take_star, take_into, take_rest, take_list, some_left, is_str_symbol, words_of, after_word, after_words, or_here, take_phrase, take_part};
+ghost use Rattle.sql_tree.specs.Forms.{at, one, nothing_kept, word_kept, name_kept, concurrently_kept, is_temp, is_other_mod, take_path, take_mods, record_fact, take_index_name, take_chain, take_concurrently, take_star, take_into, take_rest, take_list, some_left, is_str_symbol, words_of, after_word, after_words, or_here, take_phrase, take_part};
 ghost use Rattle.sql_tree.specs.Action.{after_name};
 ghost use Rattle.sql_tree.specs.Constraint.{after_two};
 ghost use Rattle.sql_tree.specs.Split as spec;
@@ -22,7 +22,7 @@ use sql_token::{Keyword, Span, Symbol, Terminal};
 use sql_tree::forms::{Captures, Fact, Part, Phrase, WordClass};
 
 fn tell(mark: Fact, kept: &mut Captures)
-    ensures { kept.new ≡ tell mark kept.old }
+    ensures { kept.new ≡ record_fact mark kept.old }
 {
     match mark {
         Fact::Nothing => {}
@@ -101,7 +101,7 @@ fn after_maybe_object<'a>(
 }
 
 fn after_tell<'a>(mark: Fact, kept: &mut Captures, left: &'a [Terminal]) -> &'a [Terminal]
-    ensures { at kept.new result.now ≡ at (tell mark kept.old) left.entry.now }
+    ensures { at kept.new result.now ≡ at (record_fact mark kept.old) left.entry.now }
 {
     tell(mark, kept);
     left
@@ -113,7 +113,7 @@ fn after_flag<'a>(
     kept: &mut Captures,
     left: &'a [Terminal],
 ) -> &'a [Terminal]
-    ensures { at kept.new result.now ≡ or_here (one (is_keyword word) (λ t c. tell mark c) kept.old left.entry.now) kept.old left.entry.now }
+    ensures { at kept.new result.now ≡ or_here (one (is_keyword word) (λ t c. record_fact mark c) kept.old left.entry.now) kept.old left.entry.now }
 {
     match left {
         [first, rest @ ..] if first.is_keyword(word) => {

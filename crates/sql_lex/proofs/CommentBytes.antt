@@ -22,13 +22,13 @@ over_bytes z d i j some begun within o c =
 
 -- ---- marks begin with a star or a slash
 
-abbrev pub begins_mark : ℕ → Bool
-begins_mark b = is_byte2 42 47 b
+abbrev pub begins_byte_order_mark : ℕ → Bool
+begins_byte_order_mark b = is_byte2 42 47 b
 
-plain_opens : (z : List ℕ) (n : ℕ) → (begins_mark (get_or z n 0) ≡ true → ⊥) → opens z n ≡ false
+plain_opens : (z : List ℕ) (n : ℕ) → (begins_byte_order_mark (get_or z n 0) ≡ true → ⊥) → opens z n ≡ false
 plain_opens z n h = grind (arith, common_steps)
 
-plain_closes : (z : List ℕ) (n : ℕ) → (begins_mark (get_or z n 0) ≡ true → ⊥) → closes z n ≡ false
+plain_closes : (z : List ℕ) (n : ℕ) → (begins_byte_order_mark (get_or z n 0) ≡ true → ⊥) → closes z n ≡ false
 plain_closes z n h = grind (arith, common_steps)
 
 -- the byte at a place, seen from an earlier one
@@ -36,14 +36,14 @@ seen_from : (z : List ℕ) (at n : ℕ) → at ≤ n → get_or (drop at z) (n -
 seen_from z at n l = let e : at + (n - at) ≡ n = omega arith in get_or-drop at z (n - at) 0 ∙ ap (λ (i : ℕ). get_or z i 0) e
 
 -- where no byte of the rest, up to an end in it, begins a mark
-pub rest_plain : (z rest : List ℕ) (at end : ℕ) → rest ≡ drop at z → ((k : ℕ) → 0 ≤ k → k < end → begins_mark (get_or rest k 0) ≡ true → ⊥)
+pub rest_plain : (z rest : List ℕ) (at end : ℕ) → rest ≡ drop at z → ((k : ℕ) → 0 ≤ k → k < end → begins_byte_order_mark (get_or rest k 0) ≡ true → ⊥)
     → (n : ℕ) → at ≤ n → n < at + end → (opens z n ≡ false) × (closes z n ≡ false)
 rest_plain z rest at end e h n l u =
-    let plain : begins_mark (get_or z n 0) ≡ true → ⊥ = λ m. h (n - at) (omega arith) (omega arith) (ap (λ (r : List ℕ). begins_mark (get_or r (n - at) 0)) e ∙ (ap begins_mark (seen_from z at n l) ∙ m)) in
+    let plain : begins_byte_order_mark (get_or z n 0) ≡ true → ⊥ = λ m. h (n - at) (omega arith) (omega arith) (ap (λ (r : List ℕ). begins_byte_order_mark (get_or r (n - at) 0)) e ∙ (ap begins_byte_order_mark (seen_from z at n l) ∙ m)) in
     (plain_opens z n plain, plain_closes z n plain)
 
 -- where none does
-pub all_plain : (z rest : List ℕ) (at : ℕ) → rest ≡ drop at z → ((k : ℕ) → 0 ≤ k → k < length rest → begins_mark (get_or rest k 0) ≡ true → ⊥)
+pub all_plain : (z rest : List ℕ) (at : ℕ) → rest ≡ drop at z → ((k : ℕ) → 0 ≤ k → k < length rest → begins_byte_order_mark (get_or rest k 0) ≡ true → ⊥)
     → (n : ℕ) → at ≤ n → n < length z → (opens z n ≡ false) × (closes z n ≡ false)
 all_plain z rest at e h n l u =
     let all : length rest ≡ length z - at = ap length e ∙ length-drop at z in

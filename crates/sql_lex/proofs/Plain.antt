@@ -6,7 +6,8 @@ use Rattle.sql_token.specs.declared.token.TokKind.{TokKind}
 use Rattle.sql_token.specs.declared.token.TokKind.TheVariants.{Blank, Word, Punct}
 use Rattle.sql_token.specs.Token.{Text, is_blank, is_word, blank_from, runs_over, IsRun, At, kind_of}
 
-drop_at : (t : Text) (i n m : ℕ) → i + n ≡ m → get_or (drop i t) n 0 ≡ get_or t m 0
+-- the rest of a text from i on, byte by byte
+pub drop_at : (t : Text) (i n m : ℕ) → i + n ≡ m → get_or (drop i t) n 0 ≡ get_or t m 0
 drop_at t i n m e = get_or-drop i t n 0 ∙ ap (λ (x : ℕ). get_or t x 0) e
 
 -- a run of the text is one of its rest from i on

@@ -1,8 +1,8 @@
 -- After an operator that lost its trailing signs each of them is an operator.
 use Rattle.std.proofs.Common.{◌≡◌, ℕ, zero, suc, ◌+◌, ◌-◌, ◌<◌, ◌≤◌, max, Bool, true, false, not, ◌&&◌, ◌||◌, ◌==◌, if◌then◌else◌, List, [], ◌∷◌, length, take, drop, get_or, length-drop, refl, sym, ap, ◌∙◌, subst, arith, ◌⊎◌, inl, inr, add-one}
-use Rattle.std.proofs.lemmas.Bool.{cases_eq, false≢true}
+use Rattle.std.proofs.lemmas.Bool.{and_parts, cases_eq, false≢true, not-true}
 use Rattle.std.proofs.lemmas.Bool.Decides.{nat_tests}
-use Rattle.std.proofs.lemmas.List.{get_or-drop, get_or-take, length-take-le}
+use Rattle.std.proofs.lemmas.List.{get_or-take, length-take-le}
 use Rattle.std.proofs.lemmas.List.Folds.{list_any_more}
 use Rattle.std.proofs.lemmas.List.Sums.{suffix_len-take_no, suffix_len-take_yes, suffix_len_is}
 use Rattle.std.proofs.Math.Seq.{take-length}
@@ -11,14 +11,12 @@ use Rattle.std.specs.List.{suffix_len, list_any}
 use Rattle.sql_token.specs.declared.token.Tok.{Tok}
 use Rattle.sql_token.specs.declared.token.TokKind.{TokKind}
 use Rattle.sql_token.specs.declared.token.TokKind.TheVariants.{Blank, LineComment, BlockComment, Word, Quoted, Str, UName, Dollar, Param, Number, Op, Punct, Other}
-use Rattle.sql_token.specs.Quote.{mark_len}
+use Rattle.sql_token.specs.Quote.{delimiter_len}
 use Rattle.sql_token.specs.Comment.{opens}
 use Rattle.sql_token.specs.Token.{Text, is_blank, is_special, is_sign, is_op, is_punct, is_prefix, begins_word, begins_blank, begins_line, begins_comment, runs_over, op_len, IsOp, At, Leads, Takes, kind_of}
 use Rattle.sql_token.proofs.TokenLaws.{at_place}
 use Rattle.sql_lex.specs.Signs.{begins_sign, Signs, SignsFrom}
-
-drop_at : (t : Text) (i n m : ℕ) → i + n ≡ m → get_or (drop i t) n 0 ≡ get_or t m 0
-drop_at t i n m e = get_or-drop i t n 0 ∙ ap (λ (x : ℕ). get_or t x 0) e
+use Rattle.sql_lex.proofs.Plain.{drop_at}
 
 runs_drop : (t : Text) (i n m : ℕ) → i + n ≡ m → runs_over Op (drop i t) n ≡ runs_over Op t m
 runs_drop t i n m e =
@@ -112,14 +110,6 @@ one_sign run some signs =
     let all : suffix_len is_sign run ≡ length run - 0 = suffix_len_is is_sign run 0 0 (omega arith) (λ k _ h. signs k h) (λ h. absurd (omega arith)) in
     (λ i. if none i then length run else max 1 (length run - all i)) ∙ omega arith
 
-both : (x y : Bool) → x && y ≡ true → (x ≡ true) × (y ≡ true)
-both true y h = (refl, h)
-both false y h = cc
-
-not_true : (x : Bool) → not x ≡ true → x ≡ false
-not_true true h = cc
-not_true false h = refl
-
 neither : (x y : Bool) → x || y ≡ false → (x ≡ false) × (y ≡ false)
 neither true y h = cc
 neither false y h = (refl, h)
@@ -133,7 +123,7 @@ kind_at z b blank line block comment =
     else (if b == 39 || (is_prefix b && get_or z 1 0 == 39) || ((b == 117 || b == 85) && get_or z 1 0 == 38 && get_or z 2 0 == 39) then Str
     else (if (b == 117 || b == 85) && get_or z 1 0 == 38 && get_or z 2 0 == 34 then UName
     else (if b == 34 then Quoted
-    else (if b == 36 && not (is_ascii_digit (get_or z 1 0)) && get_or z (mark_len z - 1) 0 == 36 then Dollar
+    else (if b == 36 && not (is_ascii_digit (get_or z 1 0)) && get_or z (delimiter_len z - 1) 0 == 36 then Dollar
     else (if b == 36 && is_ascii_digit (get_or z 1 0) then Param
     else (if is_ascii_digit b || (b == 46 && is_ascii_digit (get_or z 1 0)) then Number
     else (if begins_word b then Word
@@ -150,8 +140,8 @@ sign_is b h = elim (cases_eq b 43) [ inl plus ↦ inl plus | inr other ↦ inr (
 
 sign_kind : (s : Bool) (z : Text) → begins_sign z ≡ true → kind_of s z ≡ Op
 sign_kind s z h =
-    let parts = both (is_sign (get_or z 0 0)) (not (begins_comment (get_or z 0 0) (get_or z 1 0))) h in
-    let comment = not_true (begins_comment (get_or z 0 0) (get_or z 1 0)) parts.1 in
+    let parts = and_parts (is_sign (get_or z 0 0)) (not (begins_comment (get_or z 0 0) (get_or z 1 0))) h in
+    let comment = not-true (begins_comment (get_or z 0 0) (get_or z 1 0)) parts.1 in
     let marks = neither (begins_line z) (opens z 0) comment in
     elim (sign_is (get_or z 0 0) parts.0) [
       | inl e ↦ (λ i. kind_at z (e i) (no_blank s z (ap is_blank e) (ap (λ (b : ℕ). b == 239) e) i) (marks.0 i) (marks.1 i) (comment i))
@@ -160,7 +150,7 @@ sign_kind s z h =
 
 begins_sign-first : (z : Text) → begins_sign z ≡ true → runs_over Op z 0 ≡ true
 begins_sign-first z h =
-    let parts = both (is_sign (get_or z 0 0)) (not (begins_comment (get_or z 0 0) (get_or z 1 0))) h in
+    let parts = and_parts (is_sign (get_or z 0 0)) (not (begins_comment (get_or z 0 0) (get_or z 1 0))) h in
     λ i. sign_op (get_or z 0 0) parts.0 i && parts.1 i
 
 goes_further : (t : Text) (i e : ℕ) → i < length t → runs_over Op (drop i t) 0 ≡ true → Signs t i e → i < e

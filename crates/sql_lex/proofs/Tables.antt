@@ -1,7 +1,7 @@
 -- A table is held against a definition at each of the 256 bytes, by computing.
 use Rattle.std.proofs.Common.{◌≡◌, ℕ, zero, suc, ◌<◌, Bool, true, false, ◌&&◌, ◌==◌, not, nat_eq, bit_and, get_or, List, [], ◌∷◌, refl, arith, inl, inr, if◌then◌else◌}
 use Rattle.std.specs.Bool.{beq}
-use Rattle.std.proofs.lemmas.Bool.{cases_eq}
+use Rattle.std.proofs.lemmas.Bool.{and_parts, cases_eq}
 use Rattle.std.proofs.lemmas.Bool.Decides.{nat_tests}
 
 -- the test holds of each number below n
@@ -9,15 +9,11 @@ unfoldable pub all_below : (ℕ → Bool) → ℕ → Bool
 all_below f zero = true
 all_below f (suc n) = f n && all_below f n
 
-both : (x y : Bool) → x && y ≡ true → (x ≡ true) × (y ≡ true)
-both true y h = (refl, h)
-both false y h = cc
-
 at_below : (f : ℕ → Bool) (n : ℕ) → all_below f n ≡ true → (b : ℕ) → b < n → f b ≡ true
 unfolding all_below
 at_below f zero h b lt = absurd (omega arith)
 at_below f (suc n) h b lt =
-    let parts = both (f n) (all_below f n) h in
+    let parts = and_parts (f n) (all_below f n) h in
     elim (cases_eq b n) [ inl same ↦ rw same parts.0 | inr other ↦ at_below f n parts.1 b (omega arith) ]
 
 beq_same : (x y : Bool) → beq x y ≡ true → x ≡ y
@@ -66,10 +62,6 @@ head_false false xs h = (refl, h)
 pub all_false : (xs : List Bool) → none_of xs ≡ true → AllFalse xs
 all_false [] h = tt
 all_false (x ∷ xs) h = let parts = head_false x xs h in (parts.0, all_false xs parts.1)
-
-pub not_true : (x : Bool) → not x ≡ true → x ≡ false
-not_true true h = cc
-not_true false h = refl
 
 pub same_number : (a b : ℕ) → (a == b) ≡ true → a ≡ b
 same_number a b h = grind (arith, nat_tests)

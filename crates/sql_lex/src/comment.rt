@@ -23,7 +23,7 @@ fn closes(z: &[u8], at: usize) -> bool
 /// The first place from `at` on where a mark may begin: a star, a slash, or the end of the text. It is not inlined, so that
 /// the lexer's loop stays small.
 #[inline(never)]
-fn next_mark(z: &[u8], at: usize) -> usize
+fn next_delimiter(z: &[u8], at: usize) -> usize
     requires { at ≤ length z.now }
     ensures within { (at ≤ result) × (result ≤ length z.now) }
     ensures opens { (n : ℕ) → at ≤ n → n < result → spec.opens z.now n ≡ false }
@@ -55,7 +55,7 @@ pub fn comment_len(z: &[u8]) -> Option<usize>
             depth += 1;
             at += 2;
         } else {
-            at = next_mark(z, at + 1);
+            at = next_delimiter(z, at + 1);
         }
     }
     Some(at)

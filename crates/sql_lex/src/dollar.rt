@@ -13,7 +13,7 @@ fn is_tag(b: u8) -> bool
 /// Where the tag after the `$` at the front ends.
 fn tag_end(z: &[u8]) -> usize
     requires { 0 < length z.now }
-    ensures value { result + 1 ≡ spec.mark_len z.now }
+    ensures value { result + 1 ≡ spec.delimiter_len z.now }
     ensures within { (0 < result) × (result ≤ length z.now) }
 {
     let mut end = 1;
@@ -33,23 +33,23 @@ pub fn begins_dollar(z: &[u8]) -> bool
     end < z.len() && !z[1].is_ascii_digit() && z[end] == b'$'
 }
 
-fn mark_stands(mark: &[u8], z: &[u8], at: usize) -> bool
+fn delimiter_is_at(delimiter: &[u8], z: &[u8], at: usize) -> bool
     requires { at ≤ length z.now }
-    ensures value { result ≡ starts_with nat_eq (drop at z.now) mark.now }
-    ensures within { result ≡ true → at + length mark.now ≤ length z.now }
+    ensures value { result ≡ starts_with nat_eq (drop at z.now) delimiter.now }
+    ensures within { result ≡ true → at + length delimiter.now ≤ length z.now }
 {
-    z[at..].starts_with(mark)
+    z[at..].starts_with(delimiter)
 }
 
-/// The place after `from` where the mark is there, or the end of the text.
-fn body_end(mark: &[u8], z: &[u8], from: usize) -> usize
+/// The place after `from` where the delimiter is there, or the end of the text.
+fn body_end(delimiter: &[u8], z: &[u8], from: usize) -> usize
     requires { from ≤ length z.now }
-    ensures ends { spec.ItemsEnd (spec.dollar_item mark.now z.now) from result }
+    ensures ends { spec.ItemsEnd (spec.dollar_item delimiter.now z.now) from result }
     ensures within { (from ≤ result) × (result ≤ length z.now) }
-    ensures closes { result < length z.now → result + length mark.now ≤ length z.now }
+    ensures closes { result < length z.now → result + length delimiter.now ≤ length z.now }
 {
     let mut at = from;
-    while at < z.len() && !mark_stands(mark, z, at) {
+    while at < z.len() && !delimiter_is_at(delimiter, z, at) {
         at += 1;
     }
     at
@@ -62,10 +62,10 @@ pub fn dollar_len(z: &[u8]) -> Option<usize>
     ensures within { IfSome result (λ n. (0 < n) × (n ≤ length z.now)) }
     ensures none { IfNone result ((n : ℕ) → spec.IsDollar z.now n → ⊥) }
 {
-    let mark_len = tag_end(z) + 1;
-    let end = body_end(&z[..mark_len], z, mark_len);
+    let delimiter_len = tag_end(z) + 1;
+    let end = body_end(&z[..delimiter_len], z, delimiter_len);
     if end < z.len() {
-        Some(end + mark_len)
+        Some(end + delimiter_len)
     } else {
         None
     }

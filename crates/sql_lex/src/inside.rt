@@ -6,7 +6,6 @@ ghost use Rattle.sql_lex.specs.Cursor.{IsWalk};
 ghost use Rattle.sql_lex.specs.Inside as spec;
 
 use crate::statements::terminal_of;
-use crate::symbol::is_significant;
 use sql_token::{Span, Terminal, Tok};
 use std::alloc::Global;
 use text_pos::NoMemory;
@@ -25,7 +24,7 @@ fn terminals_after(
     let mut number = first;
     while number < toks.len() {
         let tok = toks[number];
-        if is_significant(tok.kind) {
+        if tok.kind.is_significant() {
             found.push(terminal_of(text, tok, number as u32))?;
         }
         number += 1;

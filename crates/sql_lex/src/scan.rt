@@ -29,8 +29,8 @@ fn is_punct(b: u8) -> bool
     matches!(b, b'(' | b')' | b'[' | b']' | b',' | b';' | b'.' | b':')
 }
 
-fn begins_mark(z: &[u8]) -> bool
-    ensures value { result ≡ spec.begins_mark z.now }
+fn begins_byte_order_mark(z: &[u8]) -> bool
+    ensures value { result ≡ spec.begins_byte_order_mark z.now }
     ensures within { result ≡ true → 3 ≤ length z.now }
 {
     byte(z, 0) == 0xef && byte(z, 1) == 0xbb && byte(z, 2) == 0xbf
@@ -58,7 +58,11 @@ fn blank_from(is_start: bool, z: &[u8]) -> usize
     ensures value { result ≡ spec.blank_from is_start z.now }
     ensures within { (0 < result) × (result ≤ length z.now) }
 {
-    if is_start && begins_mark(z) { 3 } else { 1 }
+    if is_start && begins_byte_order_mark(z) {
+        3
+    } else {
+        1
+    }
 }
 
 #[inline(always)]
@@ -126,7 +130,7 @@ pub fn run_before(kind: TokKind, z: &[u8], from: usize, stop: usize) -> usize
 fn begins_blank(is_start: bool, z: &[u8]) -> bool
     ensures { result ≡ spec.begins_blank is_start z.now }
 {
-    is_blank(byte(z, 0)) || (is_start && begins_mark(z))
+    is_blank(byte(z, 0)) || (is_start && begins_byte_order_mark(z))
 }
 
 fn begins_line(z: &[u8]) -> bool

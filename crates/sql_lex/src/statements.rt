@@ -7,7 +7,7 @@ ghost use Rattle.sql_token.specs.Token.{Lexed, text_of};
 ghost use Rattle.sql_token.specs.declared.token.TokKind.TheVariants.{Word, Punct};
 ghost use Rattle.sql_lex.specs.Cursor.{GoesOver, IsWalk, Steps, IsFirst};
 
-use crate::symbol::{is_punct, is_significant, is_word, mark_symbol, other_symbol, word_symbol};
+use crate::symbol::{other_symbol, symbol_of_punct, word_symbol};
 use sql_token::{Span, Symbol, Terminal, Tok};
 use std::alloc::Global;
 use std::marker::Model;
@@ -81,13 +81,13 @@ fn word_terminal(text: &[u8], tok: Tok, number: u32) -> Terminal
 }
 
 /// What the grammar sees of the mark with this number.
-fn mark_terminal(text: &[u8], tok: Tok, number: u32) -> Terminal
+fn punct_terminal(text: &[u8], tok: Tok, number: u32) -> Terminal
     requires within { (tok.start ≤ tok.end) × (tok.end ≤ length text.now) }
     requires mark { tok.kind ≡ Punct }
     ensures { result ≡ record { symbol = symbol_of tok.kind (text_of text.now tok); number = number } }
 {
     Terminal {
-        symbol: mark_symbol(bytes_of(text, tok)),
+        symbol: symbol_of_punct(bytes_of(text, tok)),
         number,
     }
 }
@@ -110,10 +110,10 @@ pub(crate) fn terminal_of(text: &[u8], tok: Tok, number: u32) -> Terminal
     requires { (tok.start ≤ tok.end) × (tok.end ≤ length text.now) }
     ensures { result ≡ record { symbol = symbol_of tok.kind (text_of text.now tok); number = number } }
 {
-    if is_word(tok.kind) {
+    if tok.kind.is_word() {
         word_terminal(text, tok, number)
-    } else if is_punct(tok.kind) {
-        mark_terminal(text, tok, number)
+    } else if tok.kind.is_punct() {
+        punct_terminal(text, tok, number)
     } else {
         other_terminal(text, tok, number)
     }
@@ -121,7 +121,7 @@ pub(crate) fn terminal_of(text: &[u8], tok: Tok, number: u32) -> Terminal
 
 /// How many brackets opened and closed with this mark, or none where it ends the statement.
 #[tactic(auto, unfolding(sql_token::specs::Terminal::is_semicolon, sql_token::specs::Terminal::is_opener, sql_token::specs::Terminal::is_closer))]
-fn count_mark(opened: usize, closed: usize, mark: Terminal) -> Option<(usize, usize)>
+fn count_brackets(opened: usize, closed: usize, mark: Terminal) -> Option<(usize, usize)>
     requires few { (opened < 2 ^ 32) × (closed < 2 ^ 32) }
     ensures on { IfSome result (λ n. (opened == closed && is_semicolon mark) ≡ false) }
     ensures counts { IfSome result (λ n. (n.0 ≡ opened + one_if (is_opener mark)) × (n.1 ≡ closed + one_if (is_closer mark))) }
@@ -151,12 +151,12 @@ fn push_words(
     let mut number = first;
     while number < toks.len() {
         let tok = toks[number];
-        if is_word(tok.kind) {
+        if tok.kind.is_word() {
             statement.push(word_terminal(text, tok, number as u32))?;
             number += 1;
             continue;
         }
-        if is_significant(tok.kind) {
+        if tok.kind.is_significant() {
             return Ok(number);
         }
         number += 1;
@@ -185,14 +185,14 @@ fn take_first(
             return Ok(number);
         }
         let tok = toks[number];
-        if !is_punct(tok.kind) {
+        if !tok.kind.is_punct() {
             statement.push(other_terminal(text, tok, number as u32))?;
             number += 1;
             continue;
         }
-        let terminal = mark_terminal(text, tok, number as u32);
+        let terminal = punct_terminal(text, tok, number as u32);
         number += 1;
-        let Some(counts) = count_mark(opened, closed, terminal) else {
+        let Some(counts) = count_brackets(opened, closed, terminal) else {
             statement.push(terminal)?;
             return Ok(number);
         };

@@ -1,37 +1,11 @@
 //! What a token is to the grammar.
 
-ghost use Rattle.std.specs.Prelude.{◌≡◌, ◌≢◌, true, false, slice_index};
+ghost use Rattle.std.specs.Prelude.{◌≡◌, ◌≢◌, slice_index};
 ghost use Rattle.sql_keyword.specs.Find.{keyword_of};
 ghost use Rattle.sql_token.specs.Terminal as spec;
 
 use sql_keyword::keyword_of;
 use sql_token::{Symbol, TokKind};
-
-/// Whether a token of this kind is more than white space.
-pub fn is_significant(kind: TokKind) -> bool
-    ensures { result ≡ spec.is_significant kind }
-{
-    !matches!(
-        kind,
-        TokKind::Blank | TokKind::LineComment | TokKind::BlockComment
-    )
-}
-
-/// Whether this is the kind of a word.
-pub fn is_word(kind: TokKind) -> bool
-    ensures word { result ≡ true → kind ≡ TokKind.Word }
-    ensures other { result ≡ false → kind ≢ TokKind.Word }
-{
-    matches!(kind, TokKind::Word)
-}
-
-/// Whether this is the kind of a mark.
-pub fn is_punct(kind: TokKind) -> bool
-    ensures mark { result ≡ true → kind ≡ TokKind.Punct }
-    ensures other { result ≡ false → kind ≢ TokKind.Punct }
-{
-    matches!(kind, TokKind::Punct)
-}
 
 /// What a word is to the grammar.
 #[tactic(auto, unfolding(sql_token::specs::Terminal::symbol_of))]
@@ -87,7 +61,7 @@ fn first_byte(bytes: &[u8]) -> u8
 
 /// What a mark is to the grammar.
 #[tactic(auto, unfolding(sql_token::specs::Terminal::symbol_of))]
-pub fn mark_symbol(bytes: &[u8]) -> Symbol
+pub fn symbol_of_punct(bytes: &[u8]) -> Symbol
     ensures { result ≡ spec.symbol_of TokKind.Punct bytes.now }
 {
     punct_symbol(first_byte(bytes))

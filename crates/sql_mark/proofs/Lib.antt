@@ -1,3 +1,4 @@
+pub mod Front
 mod Names
 pub mod Opens
 pub mod Cuts

@@ -126,7 +126,7 @@ fn push_table(
 /// Puts a statement after the others. `kept` is what was kept of its front, `left` what follows the front, and `query`
 /// what follows its first word. CREATE TABLE has a way of its own, and the bodies that most statements have are made here.
 #[inline(always)]
-#[tactic(auto, unfolding(sql_tree::specs::Statement::told, sql_tree::specs::Statement::body_by, sql_tree::specs::Statement::final_kind, sql_tree::specs::Statement::body_shape_of))]
+#[tactic(auto, unfolding(sql_tree::specs::Statement::kind_and_body, sql_tree::specs::Statement::body_by, sql_tree::specs::Statement::final_kind, sql_tree::specs::Statement::body_shape_of))]
 fn push_body(
     alloc: Global,
     stmts: &mut Items<Stmt>,
@@ -136,20 +136,20 @@ fn push_body(
     kept: &Captures,
     left: &[Terminal],
 ) -> Result<bool, NoMemory>
-    ensures { IfOk result (λ pushed. Pushes (stmt_of span (spec.told query.now (kind, at kept.now left.now))) stmts.old pushed stmts.new) }
+    ensures { IfOk result (λ pushed. Pushes (stmt_of span (spec.kind_and_body query.now (kind, at kept.now left.now))) stmts.old pushed stmts.new) }
 {
     if matches!(kind, StmtKind::CreateTable) {
         return push_table(alloc, stmts, span, kept, left);
     }
-    let told = final_kind(kind, kept, left);
+    let finished_kind = final_kind(kind, kept, left);
     match body_shape_of(kind) {
-        BodyShape::Kept => push(stmts, span, told, Some(Body::Kept)),
-        BodyShape::End => push(stmts, span, told, Some(end_body(kept))),
-        BodyShape::Index => push(stmts, span, told, index_body(kept)),
+        BodyShape::Kept => push(stmts, span, finished_kind, Some(Body::Kept)),
+        BodyShape::End => push(stmts, span, finished_kind, Some(end_body(kept))),
+        BodyShape::Index => push(stmts, span, finished_kind, index_body(kept)),
         shape => push(
             stmts,
             span,
-            told,
+            finished_kind,
             read_body(alloc, shape, kind, query, kept, left)?,
         ),
     }

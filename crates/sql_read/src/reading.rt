@@ -113,7 +113,7 @@ pub fn parse<'t>(alloc: Global, text: &'t str) -> Result<Parse<'t>, LintError>
     ensures ok { IfOk result (IsTreeOf text.entry.now) }
     ensures err { IfErr result (IsCause text.entry.now) }
 
-    // Running out of memory is the one answer whose coming is left open.
+    // No clause says when memory runs out.
     ensures too_long { (result ≡ Err LintError.TooLong) ↔ (2 ^ 32 ≤ length text.entry.now) }
     ensures valid { (tree : Tree) → IsTreeOf text.entry.now tree → OkOrNoMemory result (λ p. p ≡ tree) }
     ensures unterminated { (at : ℕ) → length text.entry.now < 2 ^ 32 → OpenAt text.entry.now at

@@ -12,7 +12,7 @@ pub record Agree (z y : Text) (m : ℕ) : Type 0 where
   pub there : m ≤ length y
   pub same : (i : ℕ) → i < m → get_or z i 0 ≡ get_or y i 0
 
-runs_same : (k : TokKind) (z y : Text) (m i : ℕ) → Agree z y m → i + 1 < m → runs_over k z i ≡ runs_over k y i
+pub runs_same : (k : TokKind) (z y : Text) (m i : ℕ) → Agree z y m → i + 1 < m → runs_over k z i ≡ runs_over k y i
 runs_same Blank z y m i a h = ap is_blank (a.same i (omega arith))
 runs_same LineComment z y m i a h = ap (λ (b : ℕ). not (b == 10)) (a.same i (omega arith))
 runs_same Word z y m i a h = ap is_word (a.same i (omega arith))

@@ -16,8 +16,8 @@ use Rattle.sql_token.specs.declared.token.TokKind.{TokKind}
 use Rattle.sql_token.specs.declared.token.TokKind.TheVariants.{Blank, LineComment, BlockComment, Word, Quoted, Str, UName, Dollar, Param, Number, Op, Punct, Other}
 use Rattle.sql_token.specs.Boundary.{BetweenCharacters}
 use Rattle.sql_token.specs.Comment.{closes, Comment, comment}
-use Rattle.sql_token.specs.Quote.{IsQuoted, IsDollar, mark_len, begins_dollar, dollar_item}
-use Rattle.sql_token.specs.Token.{Text, runs_over, is_blank, is_word, is_op, begins_mark, begins_word, begins_str, begins_unicode, begins_comment, goes_on, kind_of, blank_from, IsRun, IsOp, op_len, Takes, At, Leads, Lexed}
+use Rattle.sql_token.specs.Quote.{IsQuoted, IsDollar, delimiter_len, begins_dollar, dollar_item}
+use Rattle.sql_token.specs.Token.{Text, runs_over, is_blank, is_word, is_op, begins_byte_order_mark, begins_word, begins_str, begins_unicode, begins_comment, goes_on, kind_of, blank_from, IsRun, IsOp, op_len, Takes, At, Leads, Lexed}
 
 -- ---- the order of tokens
 
@@ -62,7 +62,7 @@ tokens_few t ks lexed = let few = leads_few t 0 (length t) ks lexed in omega ari
 -- ---- the first byte
 
 -- What a list of tests in order gives.
-abbrev kind_by : (a b c d e f g h i j l m : Bool) → TokKind
+abbrev pub kind_by : (a b c d e f g h i j l m : Bool) → TokKind
 kind_by a b c d e f g h i j l m =
     if a then Blank
     else (if b then LineComment
@@ -115,7 +115,7 @@ high_not_str : (z : Text) → 128 ≤ get_or z 0 0 → begins_str z ≡ false
 high_not_str z h = grind (arith, nat_tests)
 
 -- a byte of 128 and above begins a word
-pub high_is_word : (s : Bool) (z : Text) → 128 ≤ get_or z 0 0 → (s && begins_mark z) ≡ false → kind_of s z ≡ Word
+pub high_is_word : (s : Bool) (z : Text) → 128 ≤ get_or z 0 0 → (s && begins_byte_order_mark z) ≡ false → kind_of s z ≡ Word
 high_is_word s z h mark =
     let is_not : (c : ℕ) → c < 128 → (get_or z 0 0 == c) ≡ false = λ c l. not_byte (get_or z 0 0) c h l in
     by_word _ _ _ _ _ _ _ _ _ _ _ _
@@ -131,27 +131,27 @@ high_is_word s z h mark =
     (high_begins_word (get_or z 0 0) h)
 
 -- a byte order mark at the start is blank
-mark_is_blank : (s : Bool) (z : Text) → (s && begins_mark z) ≡ true → kind_of s z ≡ Blank
-mark_is_blank s z mark = mark_blank (is_blank (get_or z 0 0)) (s && begins_mark z) mark _ _ _ _ _ _ _ _ _ _ _
+mark_is_blank : (s : Bool) (z : Text) → (s && begins_byte_order_mark z) ≡ true → kind_of s z ≡ Blank
+mark_is_blank s z mark = mark_blank (is_blank (get_or z 0 0)) (s && begins_byte_order_mark z) mark _ _ _ _ _ _ _ _ _ _ _
   where
     mark_blank : (p a : Bool) → a ≡ true → (b c d e f g h i j l m : Bool) → kind_by (p || a) b c d e f g h i j l m ≡ Blank
     mark_blank true a e b c d e' f g h i j l m = refl
     mark_blank false a e b c d e' f g h i j l m = λ x. kind_by (e x) b c d e' f g h i j l m
 
 -- only a word or a byte order mark begins with a byte of 128 and above
-first_ascii : (s : Bool) (z : Text) (k : TokKind) → k ≡ kind_of s z → (k ≡ Word → ⊥) → (s && begins_mark z) ≡ false → get_or z 0 0 < 128
+first_ascii : (s : Bool) (z : Text) (k : TokKind) → k ≡ kind_of s z → (k ≡ Word → ⊥) → (s && begins_byte_order_mark z) ≡ false → get_or z 0 0 < 128
 first_ascii s z k kind other mark =
     elim (cases_lt (get_or z 0 0) 128) [ inl l ↦ l | inr h ↦ absurd (other (kind ∙ high_is_word s z h mark)) ]
 
 first_ascii_of : (s : Bool) (z : Text) (k : TokKind) → k ≡ kind_of s z → (k ≡ Word → ⊥) → (k ≡ Blank → ⊥) → get_or z 0 0 < 128
 first_ascii_of s z k kind other no_blank =
-    elim (cases_Bool (s && begins_mark z)) [ inl mark ↦ absurd (no_blank (kind ∙ mark_is_blank s z mark)) | inr mark ↦ first_ascii s z k kind other mark ]
+    elim (cases_Bool (s && begins_byte_order_mark z)) [ inl mark ↦ absurd (no_blank (kind ∙ mark_is_blank s z mark)) | inr mark ↦ first_ascii s z k kind other mark ]
 
 -- ---- the last byte
 
 -- The token's last byte is ASCII, or the byte after it, or the token is a byte order mark.
 abbrev EndsWhole : Bool → Text → ℕ → Type 0
-EndsWhole s z n = (get_or z (n - 1) 0 < 128) ⊎ ((n < length z → get_or z n 0 < 128) ⊎ ((n ≡ 3) × ((s && begins_mark z) ≡ true)))
+EndsWhole s z n = (get_or z (n - 1) 0 < 128) ⊎ ((n < length z → get_or z n 0 < 128) ⊎ ((n ≡ 3) × ((s && begins_byte_order_mark z) ≡ true)))
 
 blank_ascii : (b : ℕ) → is_blank b ≡ true → b < 128
 blank_ascii b h = grind (arith, nat_tests)
@@ -205,7 +205,7 @@ comment_ends z {j = j} (comment {m = m} o inside closed e) =
     closed_ascii : (m : ℕ) → closes z m ≡ true → get_or z (m + 1) 0 < 128
     closed_ascii m c = grind (arith, nat_tests)
 
-dollar_mark_ends : (z : Text) → begins_dollar z ≡ true → (get_or z (mark_len z - 1) 0 ≡ 36) × (mark_len z ≤ length z)
+dollar_mark_ends : (z : Text) → begins_dollar z ≡ true → (get_or z (delimiter_len z - 1) 0 ≡ 36) × (delimiter_len z ≤ length z)
 dollar_mark_ends z h = grind (arith, common_steps)
 
 dollar_stands : (mark z : Text) (i : ℕ) → i < length z → dollar_item mark z i ≡ 0 → starts_with nat_eq (drop i z) mark ≡ true
@@ -214,28 +214,28 @@ dollar_stands mark z i within stops = grind (arith, common_steps)
 dollar_ends : (z : Text) (n : ℕ) → begins_dollar z ≡ true → IsDollar z n → get_or z (n - 1) 0 < 128
 dollar_ends z n begins p =
     let ends = dollar_mark_ends z begins in
-    let mark : Text = take (mark_len z) z in
-    let size : length mark ≡ mark_len z = length-take-le (mark_len z) z ends.1 in
+    let mark : Text = take (delimiter_len z) z in
+    let size : length mark ≡ delimiter_len z = length-take-le (delimiter_len z) z ends.1 in
     let stands = dollar_stands mark z p.body p.within p.ends.stops in
     let same : mark ≡ take (length mark) (drop p.body z) = same_text mark (take (length mark) (drop p.body z)) (sym stands) in
-    let at : p.body + (mark_len z - 1) ≡ n - 1 = omega (arith, p.length) in
+    let at : p.body + (delimiter_len z - 1) ≡ n - 1 = omega (arith, p.length) in
     let byte : get_or z (n - 1) 0 ≡ 36 =
     ap (λ (x : ℕ). get_or z x 0) (sym at)
-    ∙ sym (get_or-drop p.body z (mark_len z - 1) 0)
-    ∙ sym (get_or-take (length mark) (drop p.body z) (mark_len z - 1) 0 (omega arith))
-    ∙ ap (λ (x : Text). get_or x (mark_len z - 1) 0) (sym same)
-    ∙ get_or-take (mark_len z) z (mark_len z - 1) 0 (omega arith)
+    ∙ sym (get_or-drop p.body z (delimiter_len z - 1) 0)
+    ∙ sym (get_or-take (length mark) (drop p.body z) (delimiter_len z - 1) 0 (omega arith))
+    ∙ ap (λ (x : Text). get_or x (delimiter_len z - 1) 0) (sym same)
+    ∙ get_or-take (delimiter_len z) z (delimiter_len z - 1) 0 (omega arith)
     ∙ ends.0 in
     omega arith
 
 blank_ends : (s : Bool) (z : Text) (n : ℕ) → Blank ≡ kind_of s z → IsRun Blank z (blank_from s z) n → EndsWhole s z n
 blank_ends s z n kind run =
-    elim (cases_Bool (s && begins_mark z)) [
+    elim (cases_Bool (s && begins_byte_order_mark z)) [
       | inl mark ↦ marked mark (subst (λ (x : Bool). IsRun Blank z (if x then 3 else 1) n) mark run)
       | inr mark ↦ inl (run_ascii Blank z n (first_ascii s z Blank kind (λ e. cc) mark) (subst (λ (x : Bool). IsRun Blank z (if x then 3 else 1) n) mark run) (λ i h. blank_ascii (get_or z i 0) h))
     ]
   where
-    marked : (s && begins_mark z) ≡ true → IsRun Blank z 3 n → EndsWhole s z n
+    marked : (s && begins_byte_order_mark z) ≡ true → IsRun Blank z 3 n → EndsWhole s z n
     marked mark long =
         elim (cases_eq n 3) [
           | inl e ↦ inr (inr (e, mark))
@@ -259,7 +259,7 @@ ends_whole s Other z n kind one some = inl (last_ascii z n some (first_ascii_of 
 
 -- ---- places in the text
 
-order_mark_first : (z : Text) → begins_mark z ≡ true → z ≡ 239 ∷ 187 ∷ 191 ∷ drop 3 z
+order_mark_first : (z : Text) → begins_byte_order_mark z ≡ true → z ≡ 239 ∷ 187 ∷ 191 ∷ drop 3 z
 order_mark_first [] h = cc
 order_mark_first (x ∷ []) h = absurd (grind (arith, nat_tests))
 order_mark_first (x ∷ y ∷ []) h = absurd (grind (arith, nat_tests))
@@ -269,7 +269,7 @@ order_mark_first (x ∷ y ∷ w ∷ z) h = let e = mark_bytes x y w h in λ i. e
     mark_bytes x y w h = grind (arith, nat_tests)
 
 -- a byte order mark at the start is one character
-order_mark_whole : (t : Text) → IsUtf8 t → begins_mark t ≡ true → IsCharBoundary t 3
+order_mark_whole : (t : Text) → IsUtf8 t → begins_byte_order_mark t ≡ true → IsCharBoundary t 3
 unfolding encode
 order_mark_whole t u mark = IsCharBoundary-past_char t (drop 3 t) 0 65279 (omega arith) u (order_mark_first t mark)
 
@@ -283,7 +283,7 @@ token_end t i j k u here =
     elim (ends_whole (i == 0) k (drop i t) (j - i) here.kind here.takes (omega arith)) [
       | inl last ↦ past last
       | inr (inl next) ↦ ahead next
-      | inr (inr (three, mark)) ↦ marked three (start_flag i (begins_mark (drop i t)) mark)
+      | inr (inr (three, mark)) ↦ marked three (start_flag i (begins_byte_order_mark (drop i t)) mark)
     ]
   where
     past : get_or (drop i t) (j - i - 1) 0 < 128 → IsCharBoundary t j
@@ -307,10 +307,10 @@ token_end t i j k u here =
           | inr past ↦ let end : length t ≡ j = omega arith in subst (λ (x : ℕ). IsCharBoundary t x) end (IsCharBoundary-end t)
         ]
 
-    marked : j - i ≡ 3 → (i ≡ 0) × (begins_mark (drop i t) ≡ true) → IsCharBoundary t j
+    marked : j - i ≡ 3 → (i ≡ 0) × (begins_byte_order_mark (drop i t) ≡ true) → IsCharBoundary t j
     marked three (first, mark) =
         let end : 3 ≡ j = omega (arith, here.before) in
-        subst (λ (x : ℕ). IsCharBoundary t x) end (order_mark_whole t u (subst (λ (x : ℕ). begins_mark (drop x t) ≡ true) first mark))
+        subst (λ (x : ℕ). IsCharBoundary t x) end (order_mark_whole t u (subst (λ (x : ℕ). begins_byte_order_mark (drop x t) ≡ true) first mark))
 
 leads_between : (t : Text) (a b : ℕ) (ks : List Tok) → IsUtf8 t → IsCharBoundary t a → Leads t a ks b → BetweenCharacters t ks
 leads_between t a b [] u start lead = tt

@@ -3,7 +3,7 @@ use Rattle.std.proofs.Common.{◌≡◌, ℕ, ◌+◌, ◌<◌, ◌≤◌, Bool,
 use Rattle.std.proofs.lemmas.Grind.{common_steps}
 use Rattle.std.specs.Prelude.{nat_eq}
 use Rattle.std.specs.List.{starts_with}
-use Rattle.sql_token.specs.Quote.{Items, none, more, ItemsEnd, quoted_item, IsQuoted, dollar_item, mark_len, IsDollar}
+use Rattle.sql_token.specs.Quote.{Items, none, more, ItemsEnd, quoted_item, IsQuoted, dollar_item, delimiter_len, IsDollar}
 
 module _ (item : ℕ → ℕ) where
   items_one : {i a b : ℕ} → Items item i a → item a ≡ 0 → Items item i b → item b ≡ 0 → a ≡ b
@@ -42,9 +42,9 @@ quoted_open quote escapes z from end n some ends past p =
     absurd (omega arith)
 
 pub dollar_one : (z : List ℕ) (n m : ℕ) → IsDollar z n → IsDollar z m → n ≡ m
-dollar_one z n m p q = p.length ∙ ap (λ x. x + mark_len z) (ends_one _ p.ends q.ends) ∙ sym q.length
+dollar_one z n m p q = p.length ∙ ap (λ x. x + delimiter_len z) (ends_one _ p.ends q.ends) ∙ sym q.length
 
-pub dollar_open : (z : List ℕ) (end n : ℕ) → ItemsEnd (dollar_item (take (mark_len z) z) z) (mark_len z) end → length z ≤ end → IsDollar z n → ⊥
+pub dollar_open : (z : List ℕ) (end n : ℕ) → ItemsEnd (dollar_item (take (delimiter_len z) z) z) (delimiter_len z) end → length z ≤ end → IsDollar z n → ⊥
 dollar_open z end n ends past p = let same = ends_one _ p.ends ends in let within = p.within in absurd (omega arith)
 
 pub joins_byte : (item : ℕ → ℕ) (from i : ℕ) → Joins item from i → item i ≡ 1 → Joins item from (i + 1)

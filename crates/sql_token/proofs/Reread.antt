@@ -5,7 +5,7 @@ use Rattle.std.specs.Prelude.{◌==◌}
 use Rattle.sql_token.specs.declared.token.TokKind.{TokKind}
 use Rattle.sql_token.specs.Token.{Text, At, Takes, kind_of}
 
-not_first : (i : ℕ) → 0 < i → (i == 0) ≡ false
+pub not_first : (i : ℕ) → 0 < i → (i == 0) ≡ false
 not_first i h = grind (arith, common_steps)
 
 pub at_rest : (t u : Text) (i j n : ℕ) (k : TokKind) → 0 < i → 0 < j → drop i t ≡ drop j u → At t i k (i + n) → At u j k (j + n)

@@ -18,6 +18,16 @@ is_significant k.LineComment = false
 is_significant k.BlockComment = false
 is_significant _ = true
 
+-- neither blanks nor a comment
+abbrev pub is_significant_token : Tok → Bool
+is_significant_token tok = is_significant tok.kind
+
+-- a word, key words among them, or an identifier in double quotes
+abbrev pub is_name_kind : TokKind → Bool
+is_name_kind k.Word = true
+is_name_kind k.Quoted = true
+is_name_kind _ = false
+
 -- A word is a key word without regard to ASCII case.
 abbrev pub word_symbol : Option Keyword → Symbol
 word_symbol None = s.Word

@@ -27,8 +27,8 @@ abbrev pub is_punct : ℕ → Bool
 is_punct b = b == 40 || b == 41 || b == 91 || b == 93 || b == 44 || b == 59 || b == 46 || b == 58
 
 -- a byte order mark
-abbrev pub begins_mark : Text → Bool
-begins_mark z = slice_index z 0 == 239 && slice_index z 1 == 187 && slice_index z 2 == 191
+abbrev pub begins_byte_order_mark : Text → Bool
+begins_byte_order_mark z = slice_index z 0 == 239 && slice_index z 1 == 187 && slice_index z 2 == 191
 
 -- a digit, or a point before a digit
 abbrev pub begins_number : Text → Bool
@@ -90,7 +90,7 @@ pub record IsOp (z : Text) (n : ℕ) : Type 0 where
 -- ---- all kinds
 
 abbrev pub begins_blank : Bool → Text → Bool
-begins_blank is_start z = is_blank (slice_index z 0) || (is_start && begins_mark z)
+begins_blank is_start z = is_blank (slice_index z 0) || (is_start && begins_byte_order_mark z)
 
 abbrev pub begins_line : Text → Bool
 begins_line z = slice_index z 0 == 45 && slice_index z 1 == 45
@@ -138,7 +138,7 @@ kind_of is_start z =
 
 -- where the run of a Blank goes on: after a byte order mark, which is at the start of the text alone, or its first byte
 abbrev pub blank_from : Bool → Text → ℕ
-blank_from is_start z = if is_start && begins_mark z then 3 else 1
+blank_from is_start z = if is_start && begins_byte_order_mark z then 3 else 1
 
 -- The first n bytes of z are one token of this kind.
 abbrev pub Takes : Bool → TokKind → Text → ℕ → Type 0

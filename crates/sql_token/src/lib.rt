@@ -14,4 +14,4 @@ mod token;
 pub use spans::span_of;
 pub use sql_keyword::{Keyword, keyword_of, same_keyword};
 pub use terminal::{Symbol, Terminal};
-pub use token::{Span, Tok, TokKind};
+pub use token::{Span, Tok, TokKind, first_significant};

@@ -57,14 +57,14 @@ name_kept t c = record c { name = Some t.number }
 abbrev pub concurrently_kept : Terminal → Captures → Captures
 concurrently_kept t c = record c { concurrently = Some t.number }
 
-abbrev pub tell : Fact → Captures → Captures
-tell m.Nothing c = c
-tell m.Unique c = record c { unique = true }
-tell m.Guarded c = record c { guarded = true }
-tell m.Chain c = record c { chain = true }
-tell m.Replace c = record c { replace = true }
-tell m.NotPlain c = record c { not_plain = true }
-tell m.Placed c = record c { placed = true }
+abbrev pub record_fact : Fact → Captures → Captures
+record_fact m.Nothing c = c
+record_fact m.Unique c = record c { unique = true }
+record_fact m.Guarded c = record c { guarded = true }
+record_fact m.Chain c = record c { chain = true }
+record_fact m.Replace c = record c { replace = true }
+record_fact m.NotPlain c = record c { not_plain = true }
+record_fact m.Placed c = record c { placed = true }
 
 -- an optional part: what it takes, or nothing
 abbrev pub or_here : Option State → Captures → List Terminal → State
@@ -90,7 +90,7 @@ after_words [] ts = Some ts
 after_words (w ∷ ws) ts = option_and_then (after_words ws) (after_word w ts)
 
 abbrev pub take_phrase : Phrase → Fact → Captures → List Terminal → Option State
-take_phrase f mark c ts = option_and_then (λ rest. Some (at (tell mark c) rest)) (after_words (words_of f) ts)
+take_phrase f mark c ts = option_and_then (λ rest. Some (at (record_fact mark c) rest)) (after_words (words_of f) ts)
 
 abbrev pub either_of : {A : Type 0} → Option A → Option A → Option A
 either_of (Some s) other = Some s
@@ -176,8 +176,8 @@ take_part (p.Word w) c ts = one (is_keyword w) nothing_kept c ts
 take_part (p.AnyOf class) c ts = one (is_of_class class) nothing_kept c ts
 take_part (p.Object w) c ts = one (is_keyword w) word_kept c ts
 take_part (p.MaybeObject w) c ts = Some (or_here (one (is_keyword w) word_kept c ts) c ts)
-take_part (p.Tell mark) c ts = Some (at (tell mark c) ts)
-take_part (p.Flag w mark) c ts = Some (or_here (one (is_keyword w) (λ t c. tell mark c) c ts) c ts)
+take_part (p.Tell mark) c ts = Some (at (record_fact mark c) ts)
+take_part (p.Flag w mark) c ts = Some (or_here (one (is_keyword w) (λ t c. record_fact mark c) c ts) c ts)
 take_part (p.Either v w) c ts = Some (or_here (one (λ t. is_keyword v t || is_keyword w t) word_kept c ts) c ts)
 take_part (p.Maybe f mark) c ts = Some (or_here (take_phrase f mark c ts) c ts)
 take_part p.Chain c ts = Some (take_chain c ts)

@@ -1,17 +1,11 @@
 -- Paths: names with dots between them.
-use Rattle.std.specs.Prelude.{ℕ, ◌+◌, Bool, true, false, if◌then◌else◌, List, [], ◌∷◌, drop, take}
+use Rattle.std.specs.Prelude.{ℕ, ◌+◌, Bool, if◌then◌else◌, List, [], ◌∷◌, drop, take}
 use Rattle.std.specs.List.{flat_map}
 use Rattle.sql_name.specs.Name.{cut_name}
 use Rattle.sql_token.specs.declared.token.Span.{Span}
 use Rattle.sql_token.specs.declared.token.Tok.{Tok}
-use Rattle.sql_token.specs.declared.token.TokKind.{TokKind}
-use Rattle.sql_token.specs.declared.token.TokKind.TheVariants as k
+use Rattle.sql_token.specs.Terminal.{is_name_kind}
 use Rattle.sql_token.specs.Token.{Text, text_of}
-
-abbrev pub is_name_kind : TokKind → Bool
-is_name_kind k.Word = true
-is_name_kind k.Quoted = true
-is_name_kind _ = false
 
 abbrev pub is_name_token : Tok → Bool
 is_name_token t = is_name_kind t.kind

@@ -166,8 +166,8 @@ body_by shape.Cluster kind s ts = Some (cluster_body s.kept)
 body_by shape.Write kind s ts = write_body kind s
 
 -- the kind and the body of a statement of which so much was kept and left, of those terminals after its first word
-unfoldable pub told : List Terminal → StmtKind × State → Option (StmtKind × Body)
-told ts f = option_and_then (λ b. Some (final_kind f.0 f.1, b)) (body_by (body_shape_of f.0) f.0 f.1 ts)
+unfoldable pub kind_and_body : List Terminal → StmtKind × State → Option (StmtKind × Body)
+kind_and_body ts f = option_and_then (λ b. Some (final_kind f.0 f.1, b)) (body_by (body_shape_of f.0) f.0 f.1 ts)
 
 -- ---- the first word
 
@@ -185,7 +185,7 @@ from_verb (t ∷ ts) = if is_keyword keyword.WITH t then from_mark verb ts else 
 -- Without a verb it is a SELECT of which nothing is known.
 unfoldable pub form_from : List Terminal → Option (StmtKind × Body)
 form_from [] = Some (stmt.Select, body.Kept)
-form_from (t ∷ ts) = option_and_then (told ts) (front_by t.symbol ts)
+form_from (t ∷ ts) = option_and_then (kind_and_body ts) (front_by t.symbol ts)
 
 -- the kind of a statement without its semicolon, and what is known of it
 unfoldable pub form_of : List Terminal → Option (StmtKind × Body)

@@ -2,14 +2,14 @@
 
 ghost use Rattle.std.specs.Prelude.{◌≡◌, ◌<◌, ◌≤◌, ◌++◌, length, IfOk, OnOk, OnErr, IsOk, map};
 ghost use Rattle.sql_name.specs.Compared.{name_cut};
-ghost use Rattle.sql_tree.specs.Path.{path_cuts, name_cuts, is_name_kind};
+ghost use Rattle.sql_tree.specs.Path.{path_cuts, name_cuts};
 ghost use Rattle.sql_tree.specs.Range.{token_at};
 ghost use Rattle.sql_tree.specs.PathNames.{names_of};
 
 use crate::parse::Parse;
 use smallvec::SmallVec;
 use sql_name::Name;
-use sql_token::{Span, TokKind};
+use sql_token::Span;
 use std::alloc::Global;
 use std::cmp::Ordering;
 use std::hash::{Hash, Hasher};
@@ -20,16 +20,6 @@ use text_pos::NoMemory;
 #[derive(Debug, Drop)]
 pub struct NamePath<'t> {
     names: SmallVec<Name<'t>, 2>,
-}
-
-/// Whether a token of this kind is a name.
-fn is_name_kind(kind: TokKind) -> bool
-    ensures { result ≡ is_name_kind kind }
-{
-    match kind {
-        TokKind::Word | TokKind::Quoted => true,
-        _ => false,
-    }
 }
 
 /// Puts the name after the others, where token `i` is one.
@@ -43,7 +33,7 @@ fn push_token<'t>(
     ensures capacity { names.old.capacity ≤ names.new.capacity }
     ensures err { OnErr result ((0 < length (name_cuts p.now.text (token_at p.now.toks i))) × (names.old.capacity ≤ length names.old.items)) }
 {
-    if is_name_kind(p.tokens()[i].kind) {
+    if p.tokens()[i].kind.is_name() {
         names.push(Name::of(p.token_text(i)))?;
         Ok(())
     } else {

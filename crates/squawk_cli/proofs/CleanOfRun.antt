@@ -36,6 +36,7 @@ prints law words t old new utf8 w nothing =
       tree = tree;
       of_text = of_text;
       found = w.found;
+      are = w.are;
       locks = ap (λ (f : FindingsValue). is_some f.locks) w.are.answer.is ∙ locks_where config.locks a;
       appended = w.appended;
       no_reports = nothing;

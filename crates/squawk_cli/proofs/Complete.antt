@@ -10,7 +10,7 @@ use Rattle.sql_token.specs.Token.{Text, Lexed}
 use Rattle.sql_token.proofs.TokenLaws as tokens
 use Rattle.sql_tree.specs.Statement.{IsValid}
 use Rattle.sql_tree.proofs.TreeLaws as tree
-use Rattle.squawk_cli.specs.Asked.{text_by}
+use Rattle.squawk_cli.specs.Modes.{text_by}
 use Rattle.squawk_cli.specs.Outcome.{WordsFor, ReadBy, ReadForMade, ReadOfInput, InputFor, SourceCause, SinkCause, IsDone}
 use Rattle.squawk_cli.specs.declared.status.Status.{Status}
 use Rattle.squawk_cli.specs.declared.status.Status.TheVariants.{Clean, Found, BadArguments, NotUtf8, TooLong, Unterminated, Syntax, ReadFault, WriteFault, NoMemory}

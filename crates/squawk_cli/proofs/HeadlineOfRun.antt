@@ -48,6 +48,7 @@ prints law status words t old new w count =
       tree = tree;
       of_text = w.are.answer.of_text;
       found = w.found;
+      are = w.are;
       locks = ap (λ (f : FindingsValue). is_some f.locks) w.are.answer.is ∙ locks_where config.locks (assessment tree config.linter.rules config.linter.settings);
       appended = w.appended;
       count = count;

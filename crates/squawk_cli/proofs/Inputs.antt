@@ -11,7 +11,7 @@ use Rattle.squawk_linter.specs.Answers.{IsAnswer}
 use Rattle.squawk_cli.specs.declared.config.Config.{Config}
 use Rattle.squawk_cli.specs.Config.{config_of}
 use Rattle.squawk_cli.specs.Answer.{AreFindings, AreReports}
-use Rattle.squawk_cli.specs.Asked.{given_text, groups_asked, shown_by, text_by}
+use Rattle.squawk_cli.specs.Modes.{given_text, groups_to_make, shown_by, text_by}
 use Rattle.squawk_cli.specs.Findings.{AreFoundIn, FindingsValue}
 use Rattle.squawk_cli.specs.declared.status.Status.{Status}
 use Rattle.squawk_cli.specs.declared.status.Status.TheVariants.{NotUtf8, Unterminated, Syntax, NoMemory}
@@ -24,7 +24,7 @@ all_taken (Some t) None input taken ended = absurd taken
 all_taken (Some t) (Some y) input taken ended = taken ∙ ap (λ z. input ++ z) ended ∙ append-nil input
 
 -- what the words ask for is what their configuration says
-pub asked : (words : List (List ℕ)) (config : Config) → Some config ≡ config_of words → config.generate ≡ groups_asked words
+pub asked : (words : List (List ℕ)) (config : Config) → Some config ≡ config_of words → config.generate ≡ groups_to_make words
 asked words config named = ap (option_and_then (λ c. c.generate)) named
 
 holds : (given : Option (List ℕ)) (text s : List ℕ) (P : List ℕ → Type 0) → IfSome given (λ t. t ≡ text) → s ≡ text → P s → IfSome given P

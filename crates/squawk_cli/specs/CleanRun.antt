@@ -9,11 +9,12 @@ use Rattle.squawk_linter.specs.CleanAnswers.{IsCleanAnswer, WorksAlone}
 use Rattle.squawk_cli.specs.declared.config.Config.{Config}
 use Rattle.squawk_cli.specs.declared.status.Status.{Status}
 use Rattle.squawk_cli.specs.declared.status.Status.TheVariants.{Clean}
-use Rattle.squawk_cli.specs.Asked.{shown}
+use Rattle.squawk_cli.specs.Answer.{AreFindings}
+use Rattle.squawk_cli.specs.Modes.{shown}
 use Rattle.squawk_cli.specs.Config.{config_of}
 use Rattle.squawk_cli.specs.Findings.{FindingsValue}
 
--- The words name a configuration, the text has a tree, and what was appended is what is shown of findings without reports, with
+-- The words name a configuration, the text has a tree, and what was appended is what is shown of what is found, without reports, with
 -- locks exactly where the words ask for them. Where the answer is a clean one, by the rules and by what the locks say of
 -- plainness, the printed work is on tables that nobody else knows, and constraints are validated apart.
 pub record PrintsWorkAlone (words : List (List ℕ)) (t : Text) (old new : Option (List ℕ)) : Type 0 where
@@ -22,6 +23,7 @@ pub record PrintsWorkAlone (words : List (List ℕ)) (t : Text) (old new : Optio
   pub tree : Tree
   pub of_text : IsTreeOf t tree
   pub found : FindingsValue
+  pub are : AreFindings words t found
   pub locks : is_some found.locks ≡ config.locks
   pub appended : Appends old new (shown words found)
   pub no_reports : found.violations ≡ []

@@ -6,7 +6,7 @@ use Rattle.sql_read.specs.Cause.{IsTreeOf}
 use Rattle.lint_base.specs.declared.settings.LinterSettings.{LinterSettings}
 use Rattle.lint_base.specs.declared.violation.Violation.{Violation}
 use Rattle.lint_base.specs.RuleSets.{Rules}
-use Rattle.lock_work.specs.declared.work.Work.{Work}
+use Rattle.lock_machine.specs.declared.work.Work.{Work}
 use Rattle.squawk_linter.specs.Assessments.{Assessment, assessment}
 
 -- the work of a text under locks, in order, and whether the text is plain

@@ -11,7 +11,8 @@ use Rattle.squawk_linter.specs.Reports.{cleared}
 use Rattle.squawk_cli.specs.declared.config.Config.{Config}
 use Rattle.squawk_cli.specs.declared.status.Status.{Status}
 use Rattle.squawk_cli.specs.declared.status.Status.TheVariants.{Clean, Found}
-use Rattle.squawk_cli.specs.Asked.{shown}
+use Rattle.squawk_cli.specs.Answer.{AreFindings}
+use Rattle.squawk_cli.specs.Modes.{shown}
 use Rattle.squawk_cli.specs.Config.{config_of}
 use Rattle.squawk_cli.specs.Findings.{FindingsValue}
 
@@ -21,7 +22,7 @@ CountFor Clean violations = violations ≡ []
 CountFor Found violations = violations ≢ []
 CountFor _ violations = ⊤
 
--- The words name a configuration, the text has a tree, and what was appended is what is shown of some reports, with locks
+-- The words name a configuration, the text has a tree, and what was appended is what is shown of what is found, with locks
 -- exactly where the words ask for them. Where the tree has no ignore comment, the index builds and the added constraints
 -- among the reports are exactly those of its statements.
 pub record PrintsHeadline (status : Status) (words : List (List ℕ)) (t : Text) (old new : Option (List ℕ)) : Type 0 where
@@ -30,6 +31,7 @@ pub record PrintsHeadline (status : Status) (words : List (List ℕ)) (t : Text)
   pub tree : Tree
   pub of_text : IsTreeOf t tree
   pub found : FindingsValue
+  pub are : AreFindings words t found
   pub locks : is_some found.locks ≡ config.locks
   pub appended : Appends old new (shown words found)
   pub count : CountFor status found.violations

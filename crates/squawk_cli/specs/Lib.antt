@@ -1,8 +1,9 @@
 pub mod Config
 pub mod Findings
 pub mod Answer
-pub mod Asked
+pub mod Modes
 pub mod Outcome
 pub mod Headline
 pub mod CleanRun
 pub mod StatusLine
+pub mod PrintedAnswers

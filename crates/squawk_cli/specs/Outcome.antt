@@ -11,7 +11,7 @@ use Rattle.sql_tree.specs.Statement.{IsValid, IsSyntaxAt}
 use Rattle.lint_base.specs.declared.violation.Violation.{Violation}
 use Rattle.squawk_words.specs.Choices.{IsAccepted}
 use Rattle.squawk_cli.specs.Answer.{AreFindings, AreReports}
-use Rattle.squawk_cli.specs.Asked.{groups_asked, shown}
+use Rattle.squawk_cli.specs.Modes.{groups_to_make, shown}
 use Rattle.squawk_cli.specs.Findings.{FindingsValue}
 use Rattle.squawk_cli.specs.declared.status.Status.{Status}
 use Rattle.squawk_cli.specs.declared.status.Status.TheVariants.{Clean, Found, BadArguments, NotUtf8, TooLong, Unterminated, Syntax, ReadFault, WriteFault, NoMemory}
@@ -44,7 +44,7 @@ ReadBy None status old new = ReadOfInput status old new
 
 -- what was read
 abbrev pub ReadFor : Status → List (List ℕ) → Option (List ℕ) → Option (List ℕ) → Type 0
-ReadFor status words old new = ReadBy (groups_asked words) status old new
+ReadFor status words old new = ReadBy (groups_to_make words) status old new
 
 -- the text has reports, at least one
 abbrev pub HasReports : List (List ℕ) → List ℕ → Type 0
@@ -56,7 +56,7 @@ pub record AppendsFindings (words : List (List ℕ)) (t : List ℕ) (old new : O
   pub are : AreFindings words t found
   pub appended : Appends old new (shown words found)
 
--- what was appended is a front of it
+-- what was appended is a prefix of it
 pub record AppendsPartOfFindings (words : List (List ℕ)) (t : List ℕ) (old new : Option (List ℕ)) : Type 0 where
   pub found : FindingsValue
   pub are : AreFindings words t found
@@ -102,6 +102,14 @@ IsDone Clean = ⊤
 IsDone Found = ⊤
 IsDone NoMemory = ⊤
 IsDone _ = ⊥
+
+-- a made text is valid, so nothing of it ends a run: only a failed write does, or running out of memory
+abbrev pub EndForMade : Status → Type 0
+EndForMade Clean = ⊤
+EndForMade Found = ⊤
+EndForMade WriteFault = ⊤
+EndForMade NoMemory = ⊤
+EndForMade _ = ⊥
 
 -- why there is no text to lint
 abbrev pub IsStop : Status → Type 0

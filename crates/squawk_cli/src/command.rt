@@ -7,16 +7,17 @@ ghost use Rattle.squawk_stream.specs.Parts.{AppendsPart};
 ghost use Rattle.squawk_words.specs.Choices.{IsAccepted};
 ghost use Rattle.sql_tree.specs.Statement.{IsValid};
 ghost use Rattle.squawk_cli.specs.StatusLine.{line_of};
-ghost use Rattle.squawk_cli.specs.Asked.{given_text, groups_asked};
+ghost use Rattle.squawk_cli.specs.Modes.{given_text, groups_to_make};
 ghost use Rattle.squawk_cli.specs.CleanRun.{CleanFor};
 ghost use Rattle.squawk_cli.specs.Headline.{HeadlineFor};
-ghost use Rattle.squawk_cli.specs.Outcome.{WordsFor, ReadFor, InputFor, WrittenFor, KeptFor, SourceCause, SinkCause, IsDone};
+ghost use Rattle.squawk_cli.specs.Outcome.{WordsFor, ReadFor, InputFor, WrittenFor, KeptFor, SourceCause, SinkCause, IsDone, EndForMade};
 
-use crate::asked::{text_for, write_found};
 use crate::config::read_words;
 use crate::input::lint_input;
+use crate::modes::{text_for, write_found};
 use crate::status::Status;
 use crate::status_line::say;
+use law_made_texts::laws::made_is_valid;
 use squawk_linter::clean::clean_answers;
 use squawk_linter::laws::headline;
 use squawk_print::WriteError;
@@ -27,7 +28,7 @@ use std::alloc::Global;
 /// All of a run but the line on the error sink.
 fn work<S: Source, K: Sink>(alloc: Global, words: &Words, src: &mut S, out: &mut K) -> Status
     ensures words { WordsFor result words.now }
-    ensures unread { (result ≡ Status.BadArguments) ⊎ IsSome (groups_asked words.now) → src.new ≡ src.old }
+    ensures unread { (result ≡ Status.BadArguments) ⊎ IsSome (groups_to_make words.now) → src.new ≡ src.old }
     ensures read { ReadFor result words.now (S.left src.old) (S.left src.new) }
     ensures input { IfSome (given_text words.now (S.left src.old)) (λ t. InputFor result words.now t) }
     ensures written { IfSome (given_text words.now (S.left src.old)) (λ t. WrittenFor result words.now t (K.held out.old) (K.held out.new)) }
@@ -74,8 +75,9 @@ fn work<S: Source, K: Sink>(alloc: Global, words: &Words, src: &mut S, out: &mut
 /// `unread`, `written`, `kept`), which failure a fault stands for (`source`, `sink`), and what the error sink gets
 /// (`line`, `whole_line`). What is reported of index builds and of added constraints, `headline` says by the statements of
 /// the text alone. What it means for the printed work that nothing is reported, `clean` says. Where nothing fails, a valid
-/// text is linted (`complete`); only running out of memory is free. Of a made text all of it holds also where a source does
-/// not tell its bytes.
+/// text is linted (`complete`); only running out of memory is free. A made text is always linted: only a failed write or
+/// running out of memory ends its run otherwise (`made`). Of a made text all of it holds also where a source does not tell its
+/// bytes.
 pub fn run<S: Source, K: Sink, E: Sink>(
     alloc: Global,
     words: &Words,
@@ -84,12 +86,13 @@ pub fn run<S: Source, K: Sink, E: Sink>(
     err: &mut E,
 ) -> Status
     ensures words { WordsFor result words.now }
-    ensures unread { (result ≡ Status.BadArguments) ⊎ IsSome (groups_asked words.now) → src.new ≡ src.old }
+    ensures unread { (result ≡ Status.BadArguments) ⊎ IsSome (groups_to_make words.now) → src.new ≡ src.old }
     ensures read { ReadFor result words.now (S.left src.old) (S.left src.new) }
     ensures input { IfSome (given_text words.now (S.left src.old)) (λ t. InputFor result words.now t) }
     ensures written { IfSome (given_text words.now (S.left src.old)) (λ t. WrittenFor result words.now t (K.held out.old) (K.held out.new)) }
     ensures headline { IfSome (given_text words.now (S.left src.old)) (λ t. HeadlineFor result words.now t (K.held out.old) (K.held out.new)) }
     ensures clean { IfSome (given_text words.now (S.left src.old)) (λ t. CleanFor result words.now t (K.held out.old) (K.held out.new)) }
+    ensures made { IsSome (groups_to_make words.now) → EndForMade result }
     ensures kept { KeptFor result (K.held out.old) (K.held out.new) }
     ensures source { SourceCause result (S.faults src.old) (S.faults src.new) }
     ensures sink { SinkCause result (K.faults out.old) (K.faults out.new) }
@@ -102,6 +105,7 @@ pub fn run<S: Source, K: Sink, E: Sink>(
 {
     headline();
     clean_answers();
+    made_is_valid();
     let status = work(alloc, words, src, out);
     say(err, &status);
     status

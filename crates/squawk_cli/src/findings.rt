@@ -4,7 +4,7 @@ ghost use Rattle.sql_read.specs.Cause.{IsCause};
 ghost use Rattle.squawk_cli.specs.Findings.{AreFoundIn};
 
 use lint_base::Violation;
-use lock_work::Work;
+use lock_machine::Work;
 use squawk_linter::{LintError, Linter, assess, lint_text};
 use std::alloc::Global;
 use std::marker::Model;

@@ -2,11 +2,12 @@
 //! over any source and sinks.
 #![tactic(auto)]
 
-mod asked;
 mod command;
 mod config;
 mod findings;
 mod input;
+pub mod laws;
+mod modes;
 mod status;
 mod status_line;
 

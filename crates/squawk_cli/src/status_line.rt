@@ -41,7 +41,7 @@ fn say_line<E: Sink>(err: &mut E, status: &Status) -> Result<(), Failed>
 }
 
 /// Writes the line of a status, which is empty for `Clean` and `Found`. It takes no memory. Where a write fails the sink
-/// has a front part of the line, and nothing else comes of it.
+/// has a prefix of the line, and nothing else comes of it.
 pub fn say<E: Sink>(err: &mut E, status: &Status)
     ensures part { AppendsPart (E.held err.old) (E.held err.new) (line_of status.now) }
     ensures whole { ¬ (Rose (E.faults err.old) (E.faults err.new))

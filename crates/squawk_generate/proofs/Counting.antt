@@ -9,10 +9,10 @@ use Rattle.lint_base.specs.declared.rule.Rule.{Rule}
 use Rattle.lint_base.specs.declared.rule.Rule.TheVariants as rule
 use Rattle.lint_base.specs.declared.violation.Violation.{Violation}
 use Rattle.lint_base.specs.RuleNames.{same_rule}
-use Rattle.lint_base.specs.Rules.{all_rules, number_of}
+use Rattle.lint_base.specs.Rules.{all_rules, number_of, rule_count}
 use Rattle.squawk_generate.specs.Summary.{count_of, counted, rule_line, summary}
 
-pub number_fits : (r : Rule) → number_of r < 78
+pub number_fits : (r : Rule) → number_of r < rule_count
 unfolding number_of
 number_fits rule.RequireTimeoutSettings = lit< tt
 number_fits r = lit< tt
@@ -30,7 +30,7 @@ abbrev pub CountsBelow : List ℕ → List Violation → ℕ → Type 0
 CountsBelow counts vs i = (r : Rule) → get_or counts (number_of r) 0 ≡ count_of (take i vs) r
 
 -- one report more
-pub counts_more : (counts : List ℕ) (vs : List Violation) (i : ℕ) (v : Violation) (k : ℕ) → i < length vs → v ≡ get_or vs i v → length counts ≡ 78 → k ≡ number_of v.code
+pub counts_more : (counts : List ℕ) (vs : List Violation) (i : ℕ) (v : Violation) (k : ℕ) → i < length vs → v ≡ get_or vs i v → length counts ≡ rule_count → k ≡ number_of v.code
     → CountsBelow counts vs i → CountsBelow (set counts k (get_or counts k 0 + 1)) vs (i + 1)
 counts_more counts vs i v k l is n at h r =
     let test : Violation → Bool = λ w. same_rule w.code r in
@@ -51,8 +51,8 @@ counts_more counts vs i v k l is n at h r =
     ]
 
 -- before the first report
-pub counts_none : (counts : List ℕ) (vs : List Violation) → counts ≡ replicate 78 0 → CountsBelow counts vs 0
-counts_none counts vs e r = ap (λ l. get_or l (number_of r) 0) e ∙ get_or-replicate 78 (number_of r) 0 0 (number_fits r)
+pub counts_none : (counts : List ℕ) (vs : List Violation) → counts ≡ replicate rule_count 0 → CountsBelow counts vs 0
+counts_none counts vs e r = ap (λ l. get_or l (number_of r) 0) e ∙ get_or-replicate rule_count (number_of r) 0 0 (number_fits r)
 
 -- lists of lines that agree at each rule
 pub same_lines : (f g : Rule → List ℕ) → ((r : Rule) → f r ≡ g r) → (rules : List Rule) → flat_map f rules ≡ flat_map g rules

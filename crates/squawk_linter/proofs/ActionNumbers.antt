@@ -17,9 +17,9 @@ use Rattle.sql_tree.specs.declared.nodes.Body.TheVariants as body
 use Rattle.sql_tree.specs.declared.nodes.Stmt.{Stmt}
 use Rattle.sql_tree.specs.Nodes.{actions_in}
 use Rattle.sql_tree.specs.Statement.{Tree, IsTree, all_statements, and_then_all, read_tokens, statement}
-use Rattle.sql_law.specs.Moved.{action_moved, body_moved, stmt_moved}
-use Rattle.sql_law.specs.Renumber.{renumber}
-use Rattle.sql_law.proofs.Statements.{statement_renumbers}
+use Rattle.law_renumber.specs.Moved.{action_moved, body_moved, stmt_moved}
+use Rattle.law_renumber.specs.Renumber.{renumber}
+use Rattle.law_renumber.proofs.Statements.{statement_renumbers}
 use Rattle.squawk_linter.proofs.Members.{Member}
 
 -- ---- numbers below a bound

@@ -12,7 +12,7 @@ use Rattle.sql_tree.specs.declared.nodes.Stmt.{Stmt}
 use Rattle.sql_tree.specs.Nodes.{actions_in, action_starts}
 use Rattle.sql_tree.specs.Range.{span_range_of, token_at}
 use Rattle.sql_tree.specs.Statement.{Tree, IsTree, no_token}
-use Rattle.sql_law.specs.Order.{ActionsAscend}
+use Rattle.law_renumber.specs.Order.{ActionsAscend}
 use Rattle.squawk_linter.specs.Headline.{adds_on, is_adding, is_alter_table, same_range}
 use Rattle.squawk_linter.proofs.ActionNumbers.{action_within}
 use Rattle.squawk_linter.proofs.Members.{Member, any_has, member_flat}

@@ -10,9 +10,9 @@ use Rattle.lint_base.specs.declared.settings.LinterSettings.{LinterSettings}
 use Rattle.lint_ignore.specs.Comment.{has_disable_comment}
 use Rattle.lint_pass.specs.Cleared.{IsCleared}
 use Rattle.lint_pass.specs.Ranges.{AllLieIn}
-use Rattle.lock_law.specs.Clean.{IsClean}
-use Rattle.lock_law.specs.Laws.{CleanAnswersHaveNoOldWork, CleanAnswersValidateApart}
-use Rattle.lock_law.proofs.Nothing.{empty-pieces, not_both, some_is_none}
+use Rattle.law_clean.specs.Clean.{IsClean}
+use Rattle.law_clean.specs.Laws.{CleanAnswersHaveNoOldWork, CleanAnswersValidateApart}
+use Rattle.law_clean.proofs.Nothing.{empty-pieces, not_both, some_is_none}
 use Rattle.pass_groups.specs.OwnTable.{own_table}
 use Rattle.squawk_linter.specs.ByStart.{by_key}
 use Rattle.squawk_linter.specs.CleanAnswers.{CleanAnswersWorkAlone, ReportsLie}

@@ -1,24 +1,32 @@
 -- What the reports of an answer are made of.
-use Rattle.std.proofs.Common.{◌≡◌, ℕ, ◌+◌, ◌<◌, Bool, true, false, List, [], ◌∷◌, ◌++◌, length, refl, sym, ap, ◌∙◌, arith}
+use Rattle.std.proofs.Common.{◌≡◌, ℕ, ◌+◌, ◌<◌, Bool, true, false, List, [], ◌∷◌, ◌++◌, length, refl, sym, ap, subst, ◌∙◌, arith, Option, Some, None, IfSome}
 use Rattle.std.proofs.lemmas.List.{append-nil, nil_from_length}
-use Rattle.std.proofs.lemmas.List.Elements.{All-append, All-filter, All-map, All-nil, All-weaker}
+use Rattle.std.proofs.lemmas.List.Elements.{All-append, All-cons, All-filter, All-map, All-nil, All-weaker}
+use Rattle.std.specs.List.{flat_map}
 use Rattle.std.specs.Prelude.{All, ◌&&◌, filter, not, if◌then◌else◌}
 use Rattle.std.specs.Str.{IsUtf8}
 use Rattle.sql_tree.specs.Statement.{Tree, IsTree}
 use Rattle.text_pos.specs.Range.{Range}
+use Rattle.lint_base.specs.declared.rule.Rule.{Rule}
 use Rattle.lint_base.specs.declared.rule.Rule.TheVariants as rule
 use Rattle.lint_base.specs.declared.violation.Violation.{Violation}
+use Rattle.lint_base.specs.Fixes.{FixValue}
+use Rattle.lint_base.specs.RuleNames.{rule_named}
 use Rattle.lint_base.specs.RuleSets.{Rules, has}
+use Rattle.lint_base.specs.Violations.{violation}
 use Rattle.lint_ignore.specs.declared.ignore.Ignore.{Ignore}
 use Rattle.lint_ignore.specs.declared.ignore.IgnoreKind.{IgnoreKind}
 use Rattle.lint_ignore.specs.declared.ignore.IgnorePiece.{IgnorePiece}
-use Rattle.lint_ignore.specs.Part.{Part}
-use Rattle.lint_ignore.specs.Found.{Lists, all_said, followed_by, found_from, found_in, ignore_comments, nothing}
-use Rattle.lint_ignore.specs.Places.{IsPlace, NamesStand}
+use Rattle.lint_ignore.specs.Part.{Part, range_of}
+use Rattle.lint_ignore.specs.Found.{Lists, all_said, followed_by, found_from, found_in, ignore_comments, nothing, said}
+use Rattle.lint_ignore.specs.Names.{names_in, unknown_by, unknown_message, unknown_name}
+use Rattle.lint_ignore.specs.Places.{IsPlace, NamesLie}
 use Rattle.lint_ignore.specs.Unused.{counting, is_unused, unused_among, unused_name, unused_names}
-use Rattle.lint_ignore.proofs.Places.{names_stand_in}
+use Rattle.lint_ignore.proofs.Places.{names_lie_in}
+use Rattle.lint_pass.specs.Laws.{AreEdits}
 use Rattle.lint_pass.specs.Ranges.{AllLieIn, LiesIn}
 use Rattle.squawk_linter.proofs.Sorting.{by_key_all}
+use Rattle.squawk_linter.specs.Placed.{IsPlaced}
 use Rattle.squawk_linter.specs.Reports.{gathered, has_bare_file_ignore, is_left, reports_from, start_of, unused_of, with_unknown_names}
 
 -- ---- without ignore comments
@@ -80,7 +88,7 @@ gathered_all P tree x rules given unknown known =
 -- the answer's reports start in the text
 pub gathered_within : (tree : Tree) (x : List Violation) (rules : Rules) → IsTree tree → IsUtf8 tree.text → AllLieIn tree x → All (λ v. start_of v < length tree.text + 1) (gathered tree (with_unknown_names tree x) rules)
 gathered_within tree x rules is utf8 lie =
-    let names : NamesStand tree = names_stand_in tree is utf8 in
+    let names : NamesLie tree = names_lie_in tree is utf8 in
     let P : Range → Type 0 = λ r. r.start < length tree.text + 1 in
     let near : (v : Violation) → LiesIn tree v → OnRange P v = λ v h. let forward = h.ordered in let within = h.within in omega arith in
     let placed : (v : Violation) → IsPlace tree.text v.text_range → OnRange P v = λ v h. let within = h.start.0 in omega arith in
@@ -89,9 +97,66 @@ gathered_within tree x rules is utf8 lie =
     (All-weaker (λ v. IsPlace tree.text v.text_range) (OnRange P) placed (found_in tree).reports names.unknown)
     (All-weaker (λ p. IsPlace tree.text p.range) (λ p. P p.range) piece (found_in tree).pieces names.known)
 
--- the answer's reports have places in the text
-pub answer_placed : (tree : Tree) (x : List Violation) (rules : Rules) → IsTree tree → IsUtf8 tree.text → All (λ v. IsPlace tree.text v.text_range) x → All (λ v. IsPlace tree.text v.text_range) (reports_from tree x rules)
+-- ---- what holds of each report of an answer
+
+-- a report on a name in an ignore comment
+pub record IsBare (v : Violation) : Type 0 where
+  pub code : v.code ≡ rule.UnusedIgnore
+  pub plain : v.fix ≡ None
+
+unknown_bare : (o : Option Rule) (name : Part) → All IsBare (unknown_by o name)
+unknown_bare None name = All-cons IsBare (violation rule.UnusedIgnore (unknown_message name.bytes) (range_of name)) [] (record { code = refl; plain = refl }) (All-nil IsBare)
+unknown_bare (Some r) name = All-nil IsBare
+
+names_bare : (names : List Part) → All IsBare (flat_map unknown_name names)
+names_bare [] = All-nil IsBare
+names_bare (name ∷ names) = All-append IsBare (unknown_name name) (flat_map unknown_name names) (unknown_bare (rule_named name.bytes) name) (names_bare names)
+
+comments_bare : (number : ℕ) (cs : List (Part × IgnoreKind)) → All IsBare (all_said number cs).reports
+comments_bare number [] = All-nil IsBare
+comments_bare number (c ∷ cs) =
+    All-append IsBare (said number c).reports (all_said (number + 1) cs).reports (names_bare (names_in c.0)) (comments_bare (number + 1) cs)
+
+-- those of unknown names
+pub found_bare : (tree : Tree) → All IsBare (found_in tree).reports
+found_bare tree = comments_bare 0 (ignore_comments tree.text tree.toks)
+
+-- and those of unused names
+pub unused_bare : (tree : Tree) (all : List Violation) (rules : Rules) → All IsBare (unused_names tree all rules)
+unused_bare tree all rules =
+    All-map IsBare (unused_name tree.text) (filter (is_unused tree.text (found_in tree).ignores all (counting rules)) (found_in tree).pieces)
+    (λ k d low. record { code = refl; plain = refl })
+
+-- What holds of some reports, of unknown names and of unused ones holds of the answer's.
+pub answer_all : (P : Violation → Type 0) (tree : Tree) (x : List Violation) (rules : Rules) → All P x → All P (found_in tree).reports → All P (unused_names tree (with_unknown_names tree x) rules) → All P (reports_from tree x rules)
 unfolding reports_from
+answer_all P tree x rules given unknown unused =
+    let all : List Violation = with_unknown_names tree x in
+    let kept : All P (filter (is_left tree.text (found_in tree).ignores) all) = All-filter (is_left tree.text (found_in tree).ignores) P all (All-append P x (found_in tree).reports given unknown) in
+    by_key_all P start_of (length tree.text + 1) (gathered tree all rules)
+    (All-append P (filter (is_left tree.text (found_in tree).ignores) all) (unused_of tree all rules) kept (wanted (has rules rule.UnusedIgnore && not (has_bare_file_ignore (found_in tree).ignores))))
+  where
+    wanted : (b : Bool) → All P (if b then unused_names tree (with_unknown_names tree x) rules else [])
+    wanted true = unused
+    wanted false = All-nil P
+
+-- the same where it holds of each report on a name
+pub answer_each : (P : Violation → Type 0) (tree : Tree) (x : List Violation) (rules : Rules) → All P x → ((v : Violation) → IsBare v → P v) → All P (reports_from tree x rules)
+answer_each P tree x rules given bare =
+    answer_all P tree x rules given (All-weaker IsBare P bare (found_in tree).reports (found_bare tree))
+    (All-weaker IsBare P bare (unused_names tree (with_unknown_names tree x) rules) (unused_bare tree (with_unknown_names tree x) rules))
+
+without_edits : (text : List ℕ) (v : Violation) → IsBare v → IfSome v.fix (λ f. AreEdits text f.edits)
+without_edits text v bare = subst (λ o. IfSome o (λ (f : FixValue). AreEdits text f.edits)) (sym bare.plain) tt
+
+-- the answer's reports and the edits of their fixes are at places of the text
+pub answer_placed : (tree : Tree) (x : List Violation) (rules : Rules) → IsTree tree → IsUtf8 tree.text → All (IsPlaced tree.text) x → All (IsPlaced tree.text) (reports_from tree x rules)
 answer_placed tree x rules is utf8 placed =
-    let names : NamesStand tree = names_stand_in tree is utf8 in
-    by_key_all (λ v. IsPlace tree.text v.text_range) start_of (length tree.text + 1) (gathered tree (with_unknown_names tree x) rules) (gathered_all (IsPlace tree.text) tree x rules placed names.unknown names.known)
+    let names : NamesLie tree = names_lie_in tree is utf8 in
+    let all : List Violation = with_unknown_names tree x in
+    let unused : All (λ v. IsPlace tree.text v.text_range) (unused_names tree all rules) =
+    All-map (λ v. IsPlace tree.text v.text_range) (unused_name tree.text) (filter (is_unused tree.text (found_in tree).ignores all (counting rules)) (found_in tree).pieces)
+    (All-filter (is_unused tree.text (found_in tree).ignores all (counting rules)) (λ piece. IsPlace tree.text piece.range) (found_in tree).pieces names.known) in
+    answer_all (IsPlaced tree.text) tree x rules placed
+    (λ k d low. record { range = names.unknown k d low; edits = without_edits tree.text _ (found_bare tree k d low) })
+    (λ k d low. record { range = unused k d low; edits = without_edits tree.text _ (unused_bare tree all rules k d low) })

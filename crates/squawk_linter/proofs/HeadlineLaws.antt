@@ -28,19 +28,20 @@ use Rattle.lint_base.specs.declared.violation.Violation.{Violation}
 use Rattle.lint_base.specs.RuleSets.{Rules, has}
 use Rattle.lint_ignore.specs.Comment.{ignore_in_token}
 use Rattle.lint_ignore.specs.Found.{all_said, found_in, ignore_comments, nothing}
-use Rattle.lint_transaction.specs.Earlier.{pieces_below}
-use Rattle.lint_transaction.specs.Transaction.{stmt_at, is_new, is_open, no_stmt}
-use Rattle.lint_node.specs.Parts.{table_actions}
+use Rattle.lint_transaction.specs.Earlier.{concat_below}
+use Rattle.lint_transaction.specs.Transaction.{stmt_at, is_new, is_new_table, is_open, no_stmt}
+use Rattle.lint_node.specs.Altered.{path_in}
+use Rattle.lint_node.specs.Parts.{added_constraint, is_checked, table_actions}
 use Rattle.lint_node.specs.Same as node
 use Rattle.lint_pass.specs.Laws.{IsOf}
 use Rattle.lint_pass.specs.Pieces.{no_piece}
-use Rattle.pass_lock.specs.ConstraintMissingNotValid as constraint
-use Rattle.pass_lock.specs.ConstraintMissingNotValid.{addition_report, validation_report}
-use Rattle.pass_lock.specs.RequireConcurrentIndexCreation as build
-use Rattle.pass_lock.specs.RequireConcurrentIndexCreation.{report}
+use Rattle.pass_constraint.specs.ConstraintMissingNotValid as constraint
+use Rattle.pass_constraint.specs.ConstraintMissingNotValid.{addition_report, validation_report}
+use Rattle.pass_concurrent.specs.RequireConcurrentIndexCreation as build
+use Rattle.pass_concurrent.specs.RequireConcurrentIndexCreation.{report}
 use Rattle.squawk_linter.specs.Laws.{HeadlineHolds, Table}
 use Rattle.squawk_linter.specs.ByStart.{by_key}
-use Rattle.sql_law.specs.Order.{ActionsAscend}
+use Rattle.law_renumber.specs.Order.{ActionsAscend}
 use Rattle.squawk_linter.specs.Headline.{Entry, HasNoIgnoreComment, addition_entry, additions_at, alteration_entries, build_at, build_entry, built, entries_of, headline_of, is_adding, is_alter_table, is_on_new, is_scanned, adds_on, is_in_headline, same_range}
 use Rattle.pass_groups.specs.OwnTable.{after_constraints, before_builds, before_constraints, group1_table, group2_table, group3_table, group4_table, group5_table, group6_table, group7_table, group8_table, own_table}
 use Rattle.squawk_linter.specs.Reports.{cleared, reports_from, start_of, with_unknown_names}
@@ -103,9 +104,9 @@ headline-append tree xs ys =
     ap (λ zs. map (λ r. (r.code, r.text_range)) zs) (filter-append (is_told tree) xs ys)
     ∙ map-append (λ r. (r.code, r.text_range)) (filter (is_told tree) xs) (filter (is_told tree) ys)
 
-headline_pieces : (tree : Tree) (f : ℕ → List Violation) (g : ℕ → List Entry) (n : ℕ) → ((i : ℕ) → i < n → headline_of tree (f i) ≡ g i) → headline_of tree (pieces_below f n) ≡ pieces_below g n
+headline_pieces : (tree : Tree) (f : ℕ → List Violation) (g : ℕ → List Entry) (n : ℕ) → ((i : ℕ) → i < n → headline_of tree (f i) ≡ g i) → headline_of tree (concat_below f n) ≡ concat_below g n
 headline_pieces tree f g zero h = refl
-headline_pieces tree f g (suc n) h = headline-append tree (pieces_below f n) (f n) ∙ (λ i. headline_pieces tree f g n (λ k lt. h k (omega arith)) i ++ h n (omega arith) i)
+headline_pieces tree f g (suc n) h = headline-append tree (concat_below f n) (f n) ∙ (λ i. headline_pieces tree f g n (λ k lt. h k (omega arith)) i ++ h n (omega arith) i)
 
 headline_flat : {A : Type 0} (tree : Tree) (f : A → List Violation) (g : A → List Entry) (xs : List A) → ((x : A) → Member x xs → headline_of tree (f x) ≡ g x) → headline_of tree (flat_map f xs) ≡ flat_map g xs
 headline_flat tree f g [] h = refl
@@ -127,11 +128,11 @@ nothing_unless : (tree : Tree) (b : Bool) → headline_of tree (if b then [] els
 nothing_unless tree true = refl
 nothing_unless tree false = refl
 
-nothing_in_pieces : (tree : Tree) (f : ℕ → List Violation) (n : ℕ) → ((i : ℕ) → i < n → headline_of tree (f i) ≡ []) → headline_of tree (pieces_below f n) ≡ []
+nothing_in_pieces : (tree : Tree) (f : ℕ → List Violation) (n : ℕ) → ((i : ℕ) → i < n → headline_of tree (f i) ≡ []) → headline_of tree (concat_below f n) ≡ []
 nothing_in_pieces tree f n h = headline_pieces tree f (λ _. []) n h ∙ no_piece n
 
 -- the pieces of a rule that is enabled
-pieces_where : (b : Bool) (f : ℕ → List Entry) (n : ℕ) → pieces_below (λ i. if b then f i else []) n ≡ (if b then pieces_below f n else [])
+pieces_where : (b : Bool) (f : ℕ → List Entry) (n : ℕ) → concat_below (λ i. if b then f i else []) n ≡ (if b then concat_below f n else [])
 pieces_where true f n = refl
 pieces_where false f n = no_piece n
 
@@ -157,8 +158,8 @@ build_told tree s word = refl
 builds_told : (tree : Tree) (rules : Rules) (settings : LinterSettings)
     → headline_of tree (build.reports_of_require_concurrent_index_creation tree rules settings) ≡ entries_of tree rules rule.RequireConcurrentIndexCreation (build_at settings.assume_in_transaction tree)
 builds_told tree rules settings =
-    headline_pieces tree (λ i. if has rules rule.RequireConcurrentIndexCreation then build.reports_of settings tree i (stmt_at tree i) else []) (λ i. if has rules rule.RequireConcurrentIndexCreation then build_at settings.assume_in_transaction tree i else []) (length tree.stmts)
-    (λ i lt. headline_where tree (has rules rule.RequireConcurrentIndexCreation) (build.reports_of settings tree i (stmt_at tree i)) (build_at settings.assume_in_transaction tree i) (by_body i (stmt_at tree i) (stmt_at tree i).body))
+    headline_pieces tree (λ i. if has rules rule.RequireConcurrentIndexCreation then build.reports_on settings tree i (stmt_at tree i) else []) (λ i. if has rules rule.RequireConcurrentIndexCreation then build_at settings.assume_in_transaction tree i else []) (length tree.stmts)
+    (λ i lt. headline_where tree (has rules rule.RequireConcurrentIndexCreation) (build.reports_on settings tree i (stmt_at tree i)) (build_at settings.assume_in_transaction tree i) (by_body i (stmt_at tree i) (stmt_at tree i).body))
     ∙ pieces_where (has rules rule.RequireConcurrentIndexCreation) (build_at settings.assume_in_transaction tree) (length tree.stmts)
   where
     by_body : (i : ℕ) (s : Stmt) (b : Body) → headline_of tree (build.reports_by settings tree i s b) ≡ build_entry settings.assume_in_transaction tree i s (built b)
@@ -233,7 +234,7 @@ unfolding node.same_action
 same_adding AddConstraint = refl
 same_adding _ = refl
 
-scanned : (b : Bool) (o : Option Constraint) → constraint.is_checked (if b then o else None) ≡ (b && is_scanned o)
+scanned : (b : Bool) (o : Option Constraint) → is_checked (if b then o else None) ≡ (b && is_scanned o)
 scanned true None = refl
 scanned true (Some c) = refl
 scanned false o = refl
@@ -257,7 +258,7 @@ report_is tree a = refl
 addition_told : (tree : Tree) (s : Stmt) → Member s tree.stmts → is_alter_table s.kind ≡ true → (a : Action) → Member a (actions_in s.body) → headline_of tree (constraint.addition tree a) ≡ addition_entry tree a
 addition_told tree s in_s alters a in_a = by_kind (is_adding a.kind) refl
   where
-    test : constraint.is_checked (constraint.added a) ≡ (is_adding a.kind && is_scanned a.constraint)
+    test : is_checked (added_constraint a) ≡ (is_adding a.kind && is_scanned a.constraint)
     test = scanned (node.same_action a.kind AddConstraint) a.constraint ∙ ap (λ (b : Bool). b && is_scanned a.constraint) (same_adding a.kind)
 
     here : Entry
@@ -265,7 +266,7 @@ addition_told tree s in_s alters a in_a = by_kind (is_adding a.kind) refl
 
     by_kind : (b : Bool) → is_adding a.kind ≡ b → headline_of tree (constraint.addition tree a) ≡ (if is_adding a.kind && is_scanned a.constraint then (rule.ConstraintMissingNotValid, span_range_of tree.toks a.first a.last) ∷ [] else [])
     by_kind true e =
-        headline_where tree (constraint.is_checked (constraint.added a)) (addition_report tree a ∷ []) ((rule.ConstraintMissingNotValid, span_range_of tree.toks a.first a.last) ∷ [])
+        headline_where tree (is_checked (added_constraint a)) (addition_report tree a ∷ []) ((rule.ConstraintMissingNotValid, span_range_of tree.toks a.first a.last) ∷ [])
         (told_one tree (addition_report tree a) (addition_is_told tree s a in_s alters in_a e) ∙ ap (λ (x : Entry). x ∷ []) (report_is tree a))
         ∙ (λ i. if test i then (rule.ConstraintMissingNotValid, span_range_of tree.toks a.first a.last) ∷ [] else [])
     by_kind false e =
@@ -280,26 +281,26 @@ additions_told tree rules settings =
     (λ i lt. headline_where tree (has rules rule.ConstraintMissingNotValid) (constraint.additions_of settings tree i (stmt_at tree i)) (additions_at settings.assume_in_transaction tree i) (of_statement i (stmt_at tree i) (member_at no_stmt tree.stmts i lt)))
     ∙ pieces_where (has rules rule.ConstraintMissingNotValid) (additions_at settings.assume_in_transaction tree) (length tree.stmts)
   where
-    same_table : (i : ℕ) (o : Option Span) → constraint.is_new_table settings tree i o ≡ is_on_new settings.assume_in_transaction tree i o
+    same_table : (i : ℕ) (o : Option Span) → is_new_table settings.assume_in_transaction tree i o ≡ is_on_new settings.assume_in_transaction tree i o
     same_table i None = refl
     same_table i (Some path) = refl
 
     by_body : (i : ℕ) (b : Body) → ((a : Action) → Member a (actions_in b) → headline_of tree (constraint.addition tree a) ≡ addition_entry tree a)
-        → headline_of tree (if constraint.is_new_table settings tree i (constraint.table_by b) then [] else flat_map (constraint.addition tree) (actions_in b)) ≡ alteration_entries settings.assume_in_transaction tree i b
+        → headline_of tree (if is_new_table settings.assume_in_transaction tree i (path_in b) then [] else flat_map (constraint.addition tree) (actions_in b)) ≡ alteration_entries settings.assume_in_transaction tree i b
     by_body i (body.Alter path actions) each =
-        headline_unless tree (constraint.is_new_table settings tree i path) (flat_map (constraint.addition tree) actions) (flat_map (addition_entry tree) actions) (headline_flat tree (constraint.addition tree) (addition_entry tree) actions each)
+        headline_unless tree (is_new_table settings.assume_in_transaction tree i path) (flat_map (constraint.addition tree) actions) (flat_map (addition_entry tree) actions) (headline_flat tree (constraint.addition tree) (addition_entry tree) actions each)
         ∙ (λ j. if same_table i path j then [] else flat_map (addition_entry tree) actions)
     by_body i _ each = refl
 
     by_kind : (i : ℕ) (s : Stmt) → Member s tree.stmts → (k : Bool) → is_alter_table s.kind ≡ k
-        → headline_of tree (if constraint.is_new_table settings tree i (constraint.table_by s.body) then [] else flat_map (constraint.addition tree) (if k then actions_in s.body else []))
+        → headline_of tree (if is_new_table settings.assume_in_transaction tree i (path_in s.body) then [] else flat_map (constraint.addition tree) (if k then actions_in s.body else []))
         ≡ (if k then alteration_entries settings.assume_in_transaction tree i s.body else [])
     by_kind i s in_s true alters = by_body i s.body (addition_told tree s in_s alters)
-    by_kind i s in_s false other = nothing_unless tree (constraint.is_new_table settings tree i (constraint.table_by s.body))
+    by_kind i s in_s false other = nothing_unless tree (is_new_table settings.assume_in_transaction tree i (path_in s.body))
 
     of_statement : (i : ℕ) (s : Stmt) → Member s tree.stmts → headline_of tree (constraint.additions_of settings tree i s) ≡ (if is_alter_table s.kind then alteration_entries settings.assume_in_transaction tree i s.body else [])
     of_statement i s in_s =
-        (λ j. headline_of tree (if constraint.is_new_table settings tree i (constraint.table_by s.body) then [] else flat_map (constraint.addition tree) (if same_kind s.kind j then actions_in s.body else [])))
+        (λ j. headline_of tree (if is_new_table settings.assume_in_transaction tree i (path_in s.body) then [] else flat_map (constraint.addition tree) (if same_kind s.kind j then actions_in s.body else [])))
         ∙ by_kind i s in_s (is_alter_table s.kind) refl
 
 -- ---- the answer

@@ -7,3 +7,4 @@ pub mod Ignoring
 pub mod Members
 pub mod Sorting
 pub mod Tables
+pub mod Mendings

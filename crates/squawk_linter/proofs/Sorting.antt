@@ -7,7 +7,7 @@ use Rattle.std.proofs.lemmas.List.Sorted.{IsNonDecreasingBy-from_sort}
 use Rattle.std.proofs.lemmas.List.Elements.{All-append, All-filter, All-nil, filter_agree}
 use Rattle.std.proofs.lemmas.Bool.{lt-ltb, le-ltb, ne_eqb, eq-eqb, cases_order}
 use Rattle.std.specs.declared.cmp.Ordering.TheVariants.{Less, Equal, Greater}
-use Rattle.lint_transaction.specs.Earlier.{pieces_below}
+use Rattle.lint_transaction.specs.Earlier.{concat_below}
 use Rattle.squawk_linter.specs.ByStart.{by_key}
 
 filter_none : {X : Type 0} (p : X → Bool) (xs : List X) → ((k : ℕ) (d : X) → k < length xs → p (slice_index_or xs k d) ≡ false) → filter p xs ≡ []
@@ -61,9 +61,9 @@ tie_is a b =
       ]
     ]
 
-pieces_same : {A : Type 0} (f g : ℕ → List A) → ((k : ℕ) → f k ≡ g k) → (n : ℕ) → pieces_below f n ≡ pieces_below g n
+pieces_same : {A : Type 0} (f g : ℕ → List A) → ((k : ℕ) → f k ≡ g k) → (n : ℕ) → concat_below f n ≡ concat_below g n
 pieces_same f g h zero = refl
-pieces_same f g h (suc n) = ap (λ xs. xs ++ f n) (pieces_same f g h n) ∙ ap (λ xs. pieces_below g n ++ xs) (h n)
+pieces_same f g h (suc n) = ap (λ xs. xs ++ f n) (pieces_same f g h n) ∙ ap (λ xs. concat_below g n ++ xs) (h n)
 
 -- what a stable sort gives
 pub by_key_from_sort : {X : Type 0} (key : X → ℕ) (blank : ℕ → X) → ((s : ℕ) → key (blank s) ≡ s) → (n : ℕ) (xs ys : List X) → IsSortedByKey key nat_cmp ys → IsStableByKey key nat_cmp xs ys → All (λ v. key v < n) ys → ys ≡ by_key key n xs

@@ -6,9 +6,9 @@ use Rattle.sql_read.specs.Cause.{IsTreeOf}
 use Rattle.lint_base.specs.declared.settings.LinterSettings.{LinterSettings}
 use Rattle.lint_base.specs.declared.violation.Violation.{Violation}
 use Rattle.lint_base.specs.RuleSets.{Rules}
-use Rattle.lock_work.specs.declared.work.Work.{Work}
-use Rattle.lock_work.specs.Plain.{plain}
-use Rattle.lock_work.specs.Works.{works}
+use Rattle.lock_machine.specs.declared.work.Work.{Work}
+use Rattle.lock_machine.specs.Plain.{plain}
+use Rattle.lock_machine.specs.Works.{works}
 use Rattle.squawk_linter.specs.Answers.{reports}
 use Rattle.squawk_linter.specs.Reports.{cleared}
 

@@ -6,11 +6,11 @@ use Rattle.lint_base.specs.declared.violation.Violation.{Violation}
 use Rattle.lint_base.specs.RuleSets.{Rules}
 use Rattle.lint_pass.specs.Laws.{IsRead}
 use Rattle.lint_pass.specs.Ranges.{AllLieIn}
-use Rattle.lock_law.specs.Clean.{HasDefaults, IsYoung}
-use Rattle.lock_law.specs.Validations.{ValidatesApart}
-use Rattle.lock_work.specs.declared.work.Work.{Work}
-use Rattle.lock_work.specs.Plain.{plain}
-use Rattle.lock_work.specs.Works.{works}
+use Rattle.law_clean.specs.Clean.{HasDefaults, IsYoung}
+use Rattle.law_clean.specs.Validations.{ValidatesApart}
+use Rattle.lock_machine.specs.declared.work.Work.{Work}
+use Rattle.lock_machine.specs.Plain.{plain}
+use Rattle.lock_machine.specs.Works.{works}
 use Rattle.squawk_linter.specs.Answers.{reports}
 use Rattle.squawk_linter.specs.Headline.{HasNoIgnoreComment}
 use Rattle.squawk_linter.specs.Laws.{Table}

@@ -23,7 +23,7 @@ use Rattle.lint_base.specs.declared.rule.Rule.TheVariants as rule
 use Rattle.lint_base.specs.declared.violation.Violation.{Violation}
 use Rattle.lint_base.specs.RuleSets.{Rules, has}
 use Rattle.lint_ignore.specs.Comment.{ignore_in_token}
-use Rattle.lint_transaction.specs.Earlier.{pieces_below}
+use Rattle.lint_transaction.specs.Earlier.{concat_below}
 use Rattle.lint_transaction.specs.Transaction.{stmt_at, is_new}
 use Rattle.squawk_linter.specs.ByStart.{by_key}
 
@@ -84,7 +84,7 @@ additions_at assumed tree i = if is_alter_table (stmt_at tree i).kind then alter
 
 -- the entries of each statement, where their rule is enabled
 abbrev pub entries_of : Tree → Rules → Rule → (ℕ → List Entry) → List Entry
-entries_of tree rules r entries = if has rules r then pieces_below entries (length tree.stmts) else []
+entries_of tree rules r entries = if has rules r then concat_below entries (length tree.stmts) else []
 
 -- The index builds and the added constraints, by place, where a transaction may be assumed to be open at the start.
 abbrev pub headline_reports : Tree → Rules → Bool → List Entry

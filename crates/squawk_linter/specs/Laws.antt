@@ -13,7 +13,7 @@ use Rattle.lint_ignore.specs.Covered.{covers}
 use Rattle.lint_ignore.specs.Found.{found_in}
 use Rattle.squawk_linter.specs.Answers.{reports}
 use Rattle.squawk_linter.specs.Headline.{HasNoIgnoreComment, headline_of, headline_reports}
-use Rattle.lint_pass.specs.Laws.{StandsIn, reports_by}
+use Rattle.lint_pass.specs.Laws.{IsPlacedIn, reports_by}
 use Rattle.pass_groups.specs.OwnTable.{own_table}
 use Rattle.squawk_linter.specs.Reports.{cleared, has_bare_file_ignore, reports_from, with_unknown_names}
 
@@ -40,7 +40,7 @@ RulesApartIn table = (tree : Tree) (rules : Rules) (settings : LinterSettings) (
 
 -- each report of a pass, and each edit of its fix, is at a place of the text
 abbrev pub AllPlaced : Tree → Table → Type 0
-AllPlaced tree table = (rules : Rules) (settings : LinterSettings) → All (StandsIn tree) (table tree rules settings)
+AllPlaced tree table = (rules : Rules) (settings : LinterSettings) → All (IsPlacedIn tree) (table tree rules settings)
 
 -- a pass of other rules reports nothing of the headline
 abbrev pub NotInHeadline : Rules → Table → Type 0

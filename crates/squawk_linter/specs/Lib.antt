@@ -5,3 +5,5 @@ pub mod Assessments
 pub mod Headline
 pub mod Laws
 pub mod CleanAnswers
+pub mod Placed
+pub mod Mending

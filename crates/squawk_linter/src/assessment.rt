@@ -11,7 +11,7 @@ ghost use Rattle.squawk_linter.specs.Reports.{cleared};
 use crate::clean::clean_answers;
 use crate::linter::Linter;
 use lint_base::Violation;
-use lock_work::{Work, is_plain, lock_work};
+use lock_machine::{Work, is_plain, lock_work};
 use sql_read::{LintError, parse};
 use sql_tree::Parse;
 use std::alloc::Global;
@@ -61,7 +61,7 @@ pub fn assess(linter: &mut Linter, alloc: Global, text: &str) -> Result<Assessed
     ensures ok { IfOk result (λ a. IsAssessment text.now linter.old.rules linter.old.settings a) }
     ensures err { IfErr result (IsCause text.now) }
 
-    // Running out of memory is the one answer whose coming is left open.
+    // No clause says when memory runs out.
     ensures too_long { (result ≡ Err LintError.TooLong) ↔ (2 ^ 32 ≤ length text.now) }
     ensures valid { (tree : Tree) → IsTreeOf text.now tree
         → OkOrNoMemory result (λ a. a ≡ assessment tree linter.old.rules linter.old.settings) }

@@ -2,8 +2,8 @@
 
 ghost use Rattle.squawk_linter.specs.CleanAnswers.{CleanAnswersWorkAlone, ReportsLie};
 
+use law_clean::{clean_answers_have_no_old_work, clean_answers_validate_apart};
 use lint_pass::StepPass;
-use lock_law::{clean_answers_have_no_old_work, clean_answers_validate_apart};
 use pass_groups::OwnPasses;
 
 /// The reports of a pass lie in the text.

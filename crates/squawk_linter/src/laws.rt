@@ -3,14 +3,17 @@
 ghost use Rattle.lint_base.specs.declared.settings.LinterSettings.{LinterSettings};
 ghost use Rattle.lint_base.specs.RuleSets.{Rules};
 ghost use Rattle.lint_pass.specs.Ranges.{AllLieIn};
+ghost use Rattle.squawk_linter.specs.Mending.{AnsweredFixesMend, AnswersAreInTheirTables};
+ghost use Rattle.squawk_linter.specs.Placed.{AnsweredFixesAreGood, AnswersPlaced, IsPlacedPass};
 ghost use Rattle.squawk_linter.specs.Laws.{AllPlaced, BareFileLeavesNothing, BareLineCoversNothing, HeadlineHolds, NotInHeadline, RulesApart, RulesApartIn, SecondAnswer};
 
+use law_answers::laws::entries_are_in_their_tables;
+use law_renumber::laws::starts_ascend;
 use lint_pass::StepPass;
 use pass_groups::{
     AFTER_CONSTRAINTS, BEFORE_BUILDS, BEFORE_CONSTRAINTS, Group1, Group4, Group5, Group6, Group7,
     Group8, OwnPasses,
 };
-use sql_law::laws::starts_ascend;
 use sql_tree::Parse;
 
 /// A linter gives the same answer for a tree again, since it is left with the rules and with the
@@ -45,6 +48,29 @@ pub fn placed<P: StepPass>(file: &Parse<'_>, _pass: &P)
     ensures lie { (rules : Rules) (settings : LinterSettings) → AllLieIn file.now (P.table _pass.now file.now rules settings) }
 {
     let _text = file.text();
+}
+
+/// Each report of a pass, and each edit of its fix, is at a place of the text, of every tree.
+fn placed_pass<P: StepPass>(_pass: &P)
+    ensures { IsPlacedPass (P.table _pass.now) }
+{}
+
+/// The reports of an answer, and the edits of their fixes, are at places of the text, so [`crate::apply_fix`] gives neither
+/// `BadRange` nor `Overlap` for a fix that is answered for the same text.
+pub fn answers_placed()
+    ensures placed { AnswersPlaced }
+    ensures good { AnsweredFixesAreGood }
+{
+    placed_pass(&OwnPasses)
+}
+
+/// Each entry of an answer is in the table of its rule, if it is of one of the ten rules whose fixes are known to mend a
+/// text. So what [`crate::apply_fix`] makes of a fix that is answered is mended.
+pub fn answered_fixes_mend()
+    ensures stand { AnswersAreInTheirTables }
+    ensures mend { AnsweredFixesMend }
+{
+    entries_are_in_their_tables()
 }
 
 /// A pass of other rules reports nothing of the headline.

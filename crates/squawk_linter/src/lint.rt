@@ -3,10 +3,10 @@ ghost use Rattle.std.specs.Prelude.{◌≡◌, ◌≤◌, ◌<◌, ◌^◌, ◌+
 ghost use Rattle.sql_token.specs.Token.{OpenAt};
 ghost use Rattle.sql_tree.specs.Statement.{Tree, IsTree, IsSyntaxAt};
 ghost use Rattle.sql_read.specs.Cause.{IsCause, IsTreeOf, OkOrNoMemory, ErrOrNoMemory};
-ghost use Rattle.lint_ignore.specs.Places.{IsPlace};
 ghost use Rattle.lint_pass.specs.Cleared.{IsCleared};
 ghost use Rattle.lint_pass.specs.Ranges.{AllLieIn};
 ghost use Rattle.squawk_linter.specs.Answers.{IsAnswer, SettingsAfter, reports};
+ghost use Rattle.squawk_linter.specs.Placed.{IsPlaced};
 ghost use Rattle.squawk_linter.specs.Headline.{HasNoIgnoreComment, headline_of, headline_reports};
 ghost use Rattle.squawk_linter.specs.Reports.{cleared, reports_from};
 
@@ -135,7 +135,7 @@ impl Linter {
     /// The error comes when memory runs out.
     pub fn lint(&mut self, alloc: Global, file: &Parse<'_>) -> Result<Vec<Violation>, NoMemory>
         ensures ok { IfOk result (λ v. v.items ≡ reports file.now self.old.rules self.old.settings) }
-        ensures places { IfOk result (λ v. All (λ r. IsPlace file.now.text r.text_range) v.items) }
+        ensures places { IfOk result (λ v. All (IsPlaced file.now.text) v.items) }
         ensures rules { self.new.rules ≡ self.old.rules }
         ensures settings { self.new.settings ≡ cleared file.now self.old.settings }
     {
@@ -151,7 +151,7 @@ impl Linter {
         steps: &mut Steps<L>,
     ) -> Result<Vec<Violation>, NoMemory>
         ensures ok { IfOk result (λ v. v.items ≡ reports file.now self.old.rules self.old.settings) }
-        ensures places { IfOk result (λ v. All (λ r. IsPlace file.now.text r.text_range) v.items) }
+        ensures places { IfOk result (λ v. All (IsPlaced file.now.text) v.items) }
         ensures rules { self.new.rules ≡ self.old.rules }
         ensures settings { self.new.settings ≡ cleared file.now self.old.settings }
         ensures steps { steps.new ≤ steps.old + 2 * length file.now.stmts }
@@ -173,7 +173,7 @@ pub fn lint_text(
     ensures ok { IfOk result (λ v. IsAnswer text.now linter.old.rules linter.old.settings v.items) }
     ensures err { IfErr result (IsCause text.now) }
 
-    // Running out of memory is the one answer whose coming is left open.
+    // No clause says when memory runs out.
     ensures too_long { (result ≡ Err LintError.TooLong) ↔ (2 ^ 32 ≤ length text.now) }
     ensures valid { (tree : Tree) → IsTreeOf text.now tree
         → OkOrNoMemory result (λ v. v.items ≡ reports tree linter.old.rules linter.old.settings) }
@@ -184,7 +184,7 @@ pub fn lint_text(
     // What the rules on index builds and on added constraints say of a text without ignore comments.
     ensures headline { IfOk result (λ v. (tree : Tree) → IsTreeOf text.now tree → HasNoIgnoreComment tree
         → headline_of tree v.items ≡ headline_reports tree linter.old.rules (cleared tree linter.old.settings).assume_in_transaction) }
-    ensures places { IfOk result (λ v. All (λ r. IsPlace text.now r.text_range) v.items) }
+    ensures places { IfOk result (λ v. All (IsPlaced text.now) v.items) }
 
     ensures rules { linter.new.rules ≡ linter.old.rules }
     ensures settings { SettingsAfter text.now linter.old.settings linter.new.settings result }

@@ -7,8 +7,8 @@ use squawk_cli::{Status, StdSink, StdSource, Words, run, say};
 use std::io::ErrorKind;
 use std::process::ExitCode;
 
-/// Adds the words after the program's name. A word that is not UTF-8 is `BadArguments`, and else only memory can be
-/// wanted.
+/// Adds the words after the program's name. A word that is not UTF-8 is `BadArguments`; the error is `NoMemory` if memory
+/// runs out.
 fn take_words(rt: &HostRuntime, words: &mut Words) -> Result<(), Status>
     ensures { IfErr result (λ s. (s ≡ Status.BadArguments) ⊎ (s ≡ Status.NoMemory)) }
 {

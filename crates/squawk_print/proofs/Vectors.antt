@@ -65,36 +65,36 @@ both : (p b c : Bool) → (p && b) ≡ true → (b ≡ true → c ≡ true) → 
 both true b c h f = f h
 both false b c h f = absurd (cc)
 
-front_fails : (xs : List ℕ) (n : ℕ) → list_all is_plain (take n xs) ≡ false → list_all is_plain xs ≡ false
-front_fails [] zero h = h
-front_fails [] (suc n) h = h
-front_fails (x ∷ xs) zero h = absurd (cc)
-front_fails (x ∷ xs) (suc n) h = head_or_tail (is_plain x) (list_all is_plain (take n xs)) (list_all is_plain xs) h (front_fails xs n)
+prefix_fails : (xs : List ℕ) (n : ℕ) → list_all is_plain (take n xs) ≡ false → list_all is_plain xs ≡ false
+prefix_fails [] zero h = h
+prefix_fails [] (suc n) h = h
+prefix_fails (x ∷ xs) zero h = absurd (cc)
+prefix_fails (x ∷ xs) (suc n) h = head_or_tail (is_plain x) (list_all is_plain (take n xs)) (list_all is_plain xs) h (prefix_fails xs n)
 
 -- where a part has a special byte, the whole has
 pub part_fails : (i n : ℕ) (xs : List ℕ) → list_all is_plain (take n (drop i xs)) ≡ false → list_all is_plain xs ≡ false
-part_fails zero n xs h = front_fails xs n h
-part_fails (suc i) n [] h = front_fails [] n h
+part_fails zero n xs h = prefix_fails xs n h
+part_fails (suc i) n [] h = prefix_fails [] n h
 part_fails (suc i) n (x ∷ xs) h = ap (λ b. is_plain x && b) (part_fails i n xs h) ∙ and_no (is_plain x)
 
 -- a front that is all plain, and the part after it
-pub front_grows : (i n : ℕ) (xs : List ℕ) → list_all is_plain (take i xs) ≡ true → list_all is_plain (take n (drop i xs)) ≡ true
+pub prefix_grows : (i n : ℕ) (xs : List ℕ) → list_all is_plain (take i xs) ≡ true → list_all is_plain (take n (drop i xs)) ≡ true
     → list_all is_plain (take (i + n) xs) ≡ true
-front_grows i n xs h k =
+prefix_grows i n xs h k =
     ap (list_all is_plain) (take-add i n xs) ∙ list_all-append is_plain (take i xs) (take n (drop i xs)) ∙ ap (λ b. b && list_all is_plain (take n (drop i xs))) h ∙ k
 
-shorter_front : (m n : ℕ) (xs : List ℕ) → m ≤ n → list_all is_plain (take n xs) ≡ true → list_all is_plain (take m xs) ≡ true
-shorter_front zero n xs le h = refl
-shorter_front (suc m) zero xs le h = absurd (omega arith)
-shorter_front (suc m) (suc n) [] le h = refl
-shorter_front (suc m) (suc n) (x ∷ xs) le h = both (is_plain x) (list_all is_plain (take n xs)) (list_all is_plain (take m xs)) h (shorter_front m n xs (omega arith))
+shorter_prefix : (m n : ℕ) (xs : List ℕ) → m ≤ n → list_all is_plain (take n xs) ≡ true → list_all is_plain (take m xs) ≡ true
+shorter_prefix zero n xs le h = refl
+shorter_prefix (suc m) zero xs le h = absurd (omega arith)
+shorter_prefix (suc m) (suc n) [] le h = refl
+shorter_prefix (suc m) (suc n) (x ∷ xs) le h = both (is_plain x) (list_all is_plain (take n xs)) (list_all is_plain (take m xs)) h (shorter_prefix m n xs (omega arith))
 
 -- after a front that is all plain, no more than the last part is left
 pub last_tells : (i n : ℕ) (xs : List ℕ) → list_all is_plain (take i xs) ≡ true → n ≤ length xs → length xs ≤ i + n → (b : Bool)
     → b ≡ list_all is_plain (take n (drop (length xs - n) xs)) → b ≡ list_all is_plain xs
 last_tells i n xs h few most false e = sym (part_fails (length xs - n) n xs (sym e))
 last_tells i n xs h few most true e =
-    let k = front_grows (length xs - n) n xs (shorter_front (length xs - n) i xs (omega arith) h) (sym e) in
+    let k = prefix_grows (length xs - n) n xs (shorter_prefix (length xs - n) i xs (omega arith) h) (sym e) in
     sym k ∙ ap (list_all is_plain) (take_all (length xs - n + n) xs (omega arith))
 
 pub is_where : (r b : Bool) → r ≡ not b → r ≡ false → b ≡ true

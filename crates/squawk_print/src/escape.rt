@@ -93,7 +93,7 @@ fn is_all_plain(text: &[u8]) -> bool
 
 /// Adds a text, with a backslash before each backslash and quote, and `\n` and `\r` for the ends of lines.
 #[tactic(auto, using(crate::proofs::Escaping::escaped_plain))]
-pub(crate) fn push_escaped(to: &mut Vec<u8>, text: &[u8]) -> Result<(), NoMemory>
+pub fn push_escaped(to: &mut Vec<u8>, text: &[u8]) -> Result<(), NoMemory>
     ensures grown { OnOk result (to.new.items ≡ to.old.items ++ escaped text.now) }
     ensures capacity { vec_capacity to.old ≤ vec_capacity to.new }
     ensures full { OnErr result (LacksRoom to.old (escaped text.now)) }

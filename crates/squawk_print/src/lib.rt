@@ -10,6 +10,7 @@ mod report;
 mod room;
 mod write;
 
+pub use escape::push_escaped;
 pub use laws::printed_form_is_exact;
-pub use report::print_violations;
+pub use report::{print_violations, push_number};
 pub use write::{WriteError, write_violations};

@@ -15,7 +15,8 @@ use text_pos::{NoMemory, TextRange};
 /// How many bytes are kept ready for each report.
 const ROOM: usize = 272;
 
-fn push_number(to: &mut Vec<u8>, number: usize) -> Result<(), NoMemory>
+/// Adds a number in decimal digits.
+pub fn push_number(to: &mut Vec<u8>, number: usize) -> Result<(), NoMemory>
     ensures grown { OnOk result (to.new.items ≡ to.old.items ++ decimal number) }
     ensures capacity { vec_capacity to.old ≤ vec_capacity to.new }
     ensures full { OnErr result (LacksRoom to.old (decimal number)) }

@@ -20,14 +20,14 @@ const PIECE: usize = 65536;
 /// Why reports were not written to their end.
 #[derive(Clone, Copy, Debug, PartialEq, Eq)]
 pub enum WriteError {
-    /// A write failed. The sink holds a front part of the printed form.
+    /// A write failed. The sink holds a prefix of the printed form.
     Fault,
     /// Memory ran out. Nothing was written.
     NoMemory,
 }
 
 /// Writes what is kept as a piece, and keeps nothing of it.
-fn write_piece<K: Sink>(sink: &mut K, kept: &mut Vec<u8>) -> Result<(), Failed>
+fn write_chunk<K: Sink>(sink: &mut K, kept: &mut Vec<u8>) -> Result<(), Failed>
     ensures whole { OnOk result (Appends (K.held sink.old) (K.held sink.new) kept.old.items) }
     ensures part { AppendsPart (K.held sink.old) (K.held sink.new) kept.old.items }
     ensures cause { HasCause (K.faults sink.old) (K.faults sink.new) result }
@@ -51,7 +51,7 @@ fn make_way<K: Sink>(sink: &mut K, kept: &mut Vec<u8>) -> Result<(), Failed>
     if kept.len() < PIECE {
         Ok(())
     } else {
-        write_piece(sink, kept)
+        write_chunk(sink, kept)
     }
 }
 

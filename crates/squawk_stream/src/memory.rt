@@ -6,7 +6,7 @@ ghost use Rattle.std.specs.Io.KnownBytes.{ReadConsumes, WriteAppends};
 ghost use Rattle.squawk_stream.specs.Faults.{HasCause, faults_after};
 ghost use Rattle.squawk_stream.specs.Memory.{SourceInMemory, SinkInMemory, source_over, sink_of, SameSource, SameSink};
 
-use crate::slice::copy_front;
+use crate::slice::copy_prefix;
 use crate::stream::{Failed, Sink, Source};
 use std::alloc::Global;
 use std::marker::Model;
@@ -77,7 +77,7 @@ impl Source for MemSource {
             self.faults = self.faults.saturating_add(1);
             return Err(Failed);
         }
-        let count = copy_front(&self.bytes[self.at..], buf, self.step);
+        let count = copy_prefix(&self.bytes[self.at..], buf, self.step);
         self.at += count;
         Ok(count)
     }

@@ -8,7 +8,7 @@ use crate::stream::{Failed, Source};
 use std::marker::Model;
 
 /// Copies the front of `from` to the front of `to`: as many bytes as both have, and at most `step`.
-pub(crate) fn copy_front(from: &[u8], to: &mut [u8], step: usize) -> usize
+pub(crate) fn copy_prefix(from: &[u8], to: &mut [u8], step: usize) -> usize
     ensures count { result ≡ min (min (length from.now) (length to.old)) step }
     ensures copied { take result to.new ≡ take result from.now }
 {
@@ -50,7 +50,7 @@ impl Source for SliceSource<'_> {
         ensures count { IsOkAnd result (λ n. n ≡ min (length self.old) (length buf.old)) }
     {
         let all: &[u8] = self.rest;
-        let count = copy_front(all, buf, all.len());
+        let count = copy_prefix(all, buf, all.len());
         self.rest = &all[count..];
         Ok(count)
     }

@@ -95,7 +95,7 @@ pub fn read_to_end<S: Source>(alloc: Global, source: &mut S) -> Result<Vec<u8>, 
     }
 }
 
-/// Writes all of `bytes`, in as many writes as the sink makes of it. After a failure the sink holds a front part of them.
+/// Writes all of `bytes`, in as many writes as the sink makes of it. After a failure the sink holds a prefix of them.
 pub fn write_all<K: Sink>(sink: &mut K, bytes: &[u8]) -> Result<(), Failed>
     ensures whole { OnOk result (Appends (K.held sink.old) (K.held sink.new) bytes.now) }
     ensures part { AppendsPart (K.held sink.old) (K.held sink.new) bytes.now }

@@ -14,26 +14,26 @@ use Rattle.squawk_words.specs.Words.{Settings, Text, has, settings_of, value_of}
 
 -- ---- values
 
--- the pieces of a list, between its commas
-abbrev pub pieces : Text → List Text
-pieces list = slice_split (λ b. b == 44) list
+-- the items_of of a list, between its commas
+abbrev pub items_of : Text → List Text
+items_of list = slice_split (λ b. b == 44) list
 
 -- each element read, or nothing where one of them cannot be read
 abbrev pub each : {A B : Type 0} → (A → Option B) → List A → Option (List B)
 each read [] = Some []
 each read (x ∷ xs) = option_and_then (λ y. option_map (λ ys. y ∷ ys) (each read xs)) (read x)
 
--- the rules whose names a list has, or nothing where one of its pieces names no rule
+-- the rules whose names a list has, or nothing where one of its items_of names no rule
 abbrev pub rule_list : Text → Option (List Rule)
-rule_list list = each rule_named (pieces list)
+rule_list list = each rule_named (items_of list)
 
--- a piece that is not empty
-abbrev pub full_piece : Text → Option Text
-full_piece piece = if length piece == 0 then None else Some piece
+-- a item that is not empty
+abbrev pub full_item : Text → Option Text
+full_item item = if length item == 0 then None else Some item
 
--- the pieces of a list, or nothing where one of them is empty
+-- the items_of of a list, or nothing where one of them is empty
 abbrev pub name_list : Text → Option (List Text)
-name_list list = each full_piece (pieces list)
+name_list list = each full_item (items_of list)
 
 -- one to ten digits
 abbrev pub is_numeral : Text → Bool

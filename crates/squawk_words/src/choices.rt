@@ -39,7 +39,7 @@ pub struct Choices {
 /// - `--generate N`: N groups of made statements are checked in place of a text; not beside `--locks`.
 ///   N is from 0 to 100000.
 ///
-/// A LIST is split at commas, and no piece is empty; N is one to ten digits. The error comes when
+/// A LIST is split at commas, and no item is empty; N is one to ten digits. The error comes when
 /// memory runs out.
 pub fn read_choices(alloc: Global, words: &Words) -> Result<Option<Choices>, NoMemory>
     ensures value { IfOk result (λ choices. choices ≡ choices_of words.now) }

@@ -2,7 +2,7 @@
 ghost use Rattle.std.specs.Prelude.{◌≡◌, [], IfOk, map, option_map, pos};
 ghost use Rattle.std.specs.Char.{is_ascii_digit};
 ghost use Rattle.std.specs.List.{list_all};
-ghost use Rattle.squawk_words.specs.Choices.{groups, groups_by, is_numeral, name_list, names_by, number, pieces, read_or, rule_list};
+ghost use Rattle.squawk_words.specs.Choices.{groups, groups_by, is_numeral, name_list, names_by, number, items_of, read_or, rule_list};
 
 use lint_base::{Names, Rule, UnknownName};
 use std::alloc::{AllocError, Global};
@@ -14,7 +14,7 @@ const MOST_DIGITS: usize = 10;
 // The most groups of statements that can be asked for.
 const MOST_GROUPS: u32 = 100_000;
 
-/// The rules whose names a list has, `Some` of none where there is no list, or `None` where a piece
+/// The rules whose names a list has, `Some` of none where there is no list, or `None` where a item
 /// of the list names no rule. The error comes when memory runs out.
 pub(crate) fn rules_or_none(
     alloc: Global,
@@ -28,15 +28,15 @@ pub(crate) fn rules_or_none(
     }
 }
 
-/// The rules whose names a list has, or `None` where a piece of the list names no rule. The error
+/// The rules whose names a list has, or `None` where a item of the list names no rule. The error
 /// comes when memory runs out.
 pub(crate) fn rule_list(alloc: Global, list: &str) -> Result<Option<Vec<Rule>>, NoMemory>
     ensures { IfOk result (λ rules. option_map (λ r. r.items) rules ≡ rule_list list.now) }
 {
-    let pieces = pieces(alloc, list)?;
+    let items_of = items_of(alloc, list)?;
     let mut rules = Vec::new(alloc);
-    for piece in &pieces {
-        match Rule::try_from(*piece) {
+    for item in &items_of {
+        match Rule::try_from(*item) {
             Ok(rule) => rules.push(rule)?,
             Err(UnknownName) => return Ok(None),
         }
@@ -45,26 +45,26 @@ pub(crate) fn rule_list(alloc: Global, list: &str) -> Result<Option<Vec<Rule>>, 
 }
 
 /// The names that count as not volatile: the standard ones and those of a list, if there is one, or
-/// `None` where a piece of the list is empty. The error comes when memory runs out.
+/// `None` where a item of the list is empty. The error comes when memory runs out.
 pub(crate) fn names_by(alloc: Global, list: Option<&str>) -> Result<Option<Names>, NoMemory>
     ensures { IfOk result (λ names. names ≡ names_by (option_map (λ s. s.now) list.entry)) }
 {
     let mut names = Names::standard(alloc)?;
     if let Some(list) = list {
-        let pieces = pieces(alloc, list)?;
-        for piece in &pieces {
-            if piece.is_empty() {
+        let items_of = items_of(alloc, list)?;
+        for item in &items_of {
+            if item.is_empty() {
                 return Ok(None);
             }
-            names.push(piece)?;
+            names.push(item)?;
         }
     }
     Ok(Some(names))
 }
 
-// The pieces of a list, between its commas.
-fn pieces(alloc: Global, list: &str) -> Result<Vec<&str>, AllocError>
-    ensures { IfOk result (λ v. map (λ s. s.now) v.items ≡ pieces list.now) }
+// The items_of of a list, between its commas.
+fn items_of(alloc: Global, list: &str) -> Result<Vec<&str>, AllocError>
+    ensures { IfOk result (λ v. map (λ s. s.now) v.items ≡ items_of list.now) }
 {
     list.split(',').collect(alloc)
 }

@@ -1,5 +1,5 @@
 use Rattle.std.proofs.Common.{◌≡◌, List, ap, length, rules}
-use Rattle.lint_base.specs.Grown.{at_err}
+use Rattle.lint_base.specs.GrownLaws.{at_err}
 use Rattle.lint_ignore.specs.declared.ignore.Ignore.{Ignore}
 use Rattle.lint_ignore.specs.Found.{Lists, lists_of, HasGrown, said}
 use Rattle.lint_ignore.specs.Part.{part_of}

@@ -1,5 +1,5 @@
 use Rattle.std.proofs.Common.{◌≡◌, ◌∙◌, ◌<◌, ap, length, arith}
-use Rattle.lint_base.specs.Grown.{at_err}
+use Rattle.lint_base.specs.GrownLaws.{at_err}
 use Rattle.lint_ignore.specs.Found.{lists_of, HasGrown, found_from}
 use Rattle.lint_ignore.specs.Part.{part_of}
 use Rattle.lint_ignore.proofs.Growth.{found_none, found_some, found_part}

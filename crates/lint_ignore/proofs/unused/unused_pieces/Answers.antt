@@ -1,10 +1,11 @@
 use Rattle.std.proofs.Common.{arith}
 use Rattle.std.proofs.lemmas.Grind.{common_steps}
 use Rattle.std.proofs.Common.{◌≡◌, ◌∙◌}
-use Rattle.lint_base.specs.Grown.{GrownBy, at_err}
+use Rattle.lint_base.specs.Grown.{GrownBy}
+use Rattle.lint_base.specs.GrownLaws.{at_err}
 use Rattle.lint_ignore.specs.Unused.{unused_among, unused_names}
 use Rattle.lint_ignore.proofs.Places.{found_known}
-use Rattle.lint_ignore.proofs.UnusedNames.{one_reported, none_reported, among_names, front_reported}
+use Rattle.lint_ignore.proofs.UnusedNames.{one_reported, none_reported, among_names, prefix_reported}
 use Rattle.lint_ignore.proofs.unused.unused_pieces.Goals as goal
 use Rattle.lint_ignore.proofs.unused.unused_pieces.Goals.{then-is_unused+in_ok-report_unused, else-is_unused}
 
@@ -25,7 +26,7 @@ returns-in_err-report_unused-clause-err c =
     let names : unused_among c.text-text.result.now c.args.ignores.now c.args.all.now c.remove.new.self c.args.pieces.now ≡ unused_names c.args.p.now c.args.all.now c.args.rules.now =
     among_names c.args.p.now c.text-text.result.now c.args.ignores.now c.args.all.now c.remove.new.self c.args.rules.now c.args.pieces.now c.text-text.ensures.value c.requires.ignores c.requires.pieces c.remove.ensures.value in
     let front : GrownBy c.args.out.now c.report_unused.new.out (unused_names c.args.p.now c.args.all.now c.args.rules.now) =
-    front_reported c.text-text.result.now c.args.ignores.now c.args.all.now c.remove.new.self c.args.pieces.now c.loop-piece.piece-index c.args.out.now c.loop-piece.out c.report_unused.new.out _ c.loop-piece.invariant c.in_err-report_unused.ensures.err names in
+    prefix_reported c.text-text.result.now c.args.ignores.now c.args.all.now c.remove.new.self c.args.pieces.now c.loop-piece.piece-index c.args.out.now c.loop-piece.out c.report_unused.new.out _ c.loop-piece.invariant c.in_err-report_unused.ensures.err names in
     at_err c.from_residual-in_err-report_unused.result front
 
 pub loop-piece-preserved : goal.loop-piece-preserved

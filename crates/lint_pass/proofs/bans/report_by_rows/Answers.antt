@@ -1,4 +1,4 @@
-use Rattle.lint_base.specs.Grown.{at_err}
+use Rattle.lint_base.specs.GrownLaws.{at_err}
 use Rattle.lint_pass.specs.Bans.{by_row, lent}
 use Rattle.lint_pass.proofs.PartLaws.{lent_all, lent_refused}
 use Rattle.lint_pass.proofs.bans.report_by_rows.Goals as goal

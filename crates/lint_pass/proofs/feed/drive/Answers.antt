@@ -1,25 +1,25 @@
 use Rattle.std.proofs.Common.{◌≡◌, ◌∙◌, ℕ, ◌+◌, List, ◌++◌, ap, sym, subst, append_assoc, length, arith}
 use Rattle.std.proofs.lemmas.Result.{on_ok_weaker}
 use Rattle.sql_tree.specs.Statement.{Tree}
-use Rattle.lint_base.specs.Grown.{at_err, err_then}
-use Rattle.lint_transaction.specs.Earlier.{pieces_below}
+use Rattle.lint_base.specs.GrownLaws.{at_err, err_then}
+use Rattle.lint_transaction.specs.Earlier.{concat_below}
 use Rattle.lint_transaction.specs.Transaction.{stmt_at}
 use Rattle.lint_pass.specs.Blocks.{blocks_of}
 use Rattle.lint_pass.specs.Pieces.{grown_in_table, grown_in_tail, grown_piece}
 use Rattle.lint_pass.proofs.feed.drive.Goals as goal
 
 -- one more piece was told
-told_next : {A : Type 0} (f : ℕ → List A) (old mid new : List A) (i j k : ℕ) → j ≡ i → k ≡ i + 1 → mid ≡ old ++ pieces_below f i
-    → new ≡ mid ++ f j → new ≡ old ++ pieces_below f k
+told_next : {A : Type 0} (f : ℕ → List A) (old mid new : List A) (i j k : ℕ) → j ≡ i → k ≡ i + 1 → mid ≡ old ++ concat_below f i
+    → new ≡ mid ++ f j → new ≡ old ++ concat_below f k
 told_next f old mid new i j k e n m h =
-    subst (λ at. new ≡ old ++ pieces_below f at) (sym n) (grown_piece f old mid new i m (subst (λ at. new ≡ mid ++ f at) e h))
+    subst (λ at. new ≡ old ++ concat_below f at) (sym n) (grown_piece f old mid new i m (subst (λ at. new ≡ mid ++ f at) e h))
 
 -- all pieces were told, and then the tail
-told_all : {A : Type 0} (f : ℕ → List A) (old mid new tail table : List A) (i n : ℕ) → i ≡ n → mid ≡ old ++ pieces_below f i
-    → pieces_below f n ++ tail ≡ table → new ≡ mid ++ tail → new ≡ old ++ table
+told_all : {A : Type 0} (f : ℕ → List A) (old mid new tail table : List A) (i n : ℕ) → i ≡ n → mid ≡ old ++ concat_below f i
+    → concat_below f n ++ tail ≡ table → new ≡ mid ++ tail → new ≡ old ++ table
 told_all f old mid new tail table i n e m w h =
-    let told = subst (λ at. mid ≡ old ++ pieces_below f at) e m in
-    h ∙ ap (λ l. l ++ tail) told ∙ append_assoc old (pieces_below f n) tail ∙ ap (λ l. old ++ l) w
+    let told = subst (λ at. mid ≡ old ++ concat_below f at) e m in
+    h ∙ ap (λ l. l ++ tail) told ∙ append_assoc old (concat_below f n) tail ∙ ap (λ l. old ++ l) w
 
 pub step-requires-clause-state : goal.step-requires-clause-state
 step-requires-clause-state g c =
@@ -41,7 +41,7 @@ step-requires-clause-blocks g c = λ wants. c.as_slice.ensures.value ∙ c.in_ok
 pub loop-i-preserved : goal.loop-i-preserved
 loop-i-preserved g c =
     let pass = g.P.StepPass in
-    let piece = pass.piece c.args.pass.now c.args.p.now c.args.rules.now c.args.set.now in
+    let piece = pass.reports_at c.args.pass.now c.args.p.now c.args.rules.now c.args.set.now in
     let within = rw c.loop-i.invariant.tree at c.in-Some.ensures.within in
     let next = c.in-Some.ensures.next in
     let here = ap (λ i. i + 1) c.in-Some.ensures.number ∙ sym next in
@@ -62,7 +62,7 @@ finish-requires-clause-state g c =
 
 pub returns-clause-ok : goal.returns-clause-ok
 returns-clause-ok g c =
-    let piece = g.P.StepPass.piece c.args.pass.now c.args.p.now c.args.rules.now c.args.set.now in
+    let piece = g.P.StepPass.reports_at c.args.pass.now c.args.p.now c.args.rules.now c.args.set.now in
     let tail = g.P.StepPass.tail c.args.pass.now c.args.p.now c.args.rules.now c.args.set.now in
     let at_end : c.loop-i.cursor.next ≡ length c.args.p.now.stmts =
     c.in_default.ensures.end ∙ ap (λ (tree : Tree). length tree.stmts) c.loop-i.invariant.tree in
@@ -74,13 +74,13 @@ returns-clause-ok g c =
 pub returns-in_err-step-clause-err : goal.returns-in_err-step-clause-err
 returns-in_err-step-clause-err g c =
     let within = rw c.loop-i.invariant.tree at c.in-Some.ensures.within in
-    at_err _ (grown_in_table (g.P.StepPass.piece _ _ _ _) _ _ _ _ _ _ _ _ c.in-Some.ensures.number within c.loop-i.invariant.told c.in_err-step.ensures.err (g.P.StepPass.whole _ _ _ _))
+    at_err _ (grown_in_table (g.P.StepPass.reports_at _ _ _ _) _ _ _ _ _ _ _ _ c.in-Some.ensures.number within c.loop-i.invariant.told c.in_err-step.ensures.err (g.P.StepPass.whole _ _ _ _))
 
 pub returns-clause-err : goal.returns-clause-err
 returns-clause-err g c =
     let at_end : c.loop-i.cursor.next ≡ length c.args.p.now.stmts = c.in_default.ensures.end ∙ ap (λ (tree : Tree). length tree.stmts) c.loop-i.invariant.tree in
     err_then _
-    (λ h. grown_in_tail (g.P.StepPass.piece c.args.pass.now c.args.p.now c.args.rules.now c.args.set.now) c.args.out.now c.loop-i.out c.finish.new.out
+    (λ h. grown_in_tail (g.P.StepPass.reports_at c.args.pass.now c.args.p.now c.args.rules.now c.args.set.now) c.args.out.now c.loop-i.out c.finish.new.out
     (g.P.StepPass.tail c.args.pass.now c.args.p.now c.args.rules.now c.args.set.now) (g.P.StepPass.table c.args.pass.now c.args.p.now c.args.rules.now c.args.set.now)
     c.loop-i.cursor.next (length c.args.p.now.stmts) at_end c.loop-i.invariant.told h (g.P.StepPass.whole _ _ _ _))
     c.finish.ensures.err

@@ -1,5 +1,6 @@
 use Rattle.std.proofs.Common.{◌++◌, ◌∙◌, ap, rules, subst}
-use Rattle.lint_base.specs.Grown.{GrownBy, at_err, grown_by_first}
+use Rattle.lint_base.specs.Grown.{GrownBy}
+use Rattle.lint_base.specs.GrownLaws.{at_err, grown_by_first}
 use Rattle.lint_pass.specs.declared.nodes.Node.TheVariants as node
 use Rattle.lint_pass.proofs.PartLaws.{second_whole}
 use Rattle.lint_pass.proofs.nodes.report_action.Goals as goal

@@ -1,4 +1,4 @@
-use Rattle.lint_base.specs.Grown.{at_err}
+use Rattle.lint_base.specs.GrownLaws.{at_err}
 use Rattle.lint_pass.specs.NodeWalk.{at_action}
 use Rattle.lint_pass.proofs.PartLaws.{part_refused_in}
 use Rattle.lint_pass.proofs.nodes.report_actions.Goals as goal

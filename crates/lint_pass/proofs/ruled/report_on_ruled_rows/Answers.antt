@@ -1,4 +1,4 @@
-use Rattle.lint_base.specs.Grown.{at_err}
+use Rattle.lint_base.specs.GrownLaws.{at_err}
 use Rattle.lint_pass.specs.Ruled.{on_ruled, lent_ruled}
 use Rattle.lint_pass.proofs.PartLaws.{lent_all, lent_refused}
 use Rattle.lint_pass.proofs.ruled.report_on_ruled_rows.Goals as goal

@@ -1,6 +1,6 @@
-use Rattle.lint_base.specs.Grown.{at_err}
+use Rattle.lint_base.specs.GrownLaws.{at_err}
 use Rattle.lint_pass.proofs.PartLaws.{part_refused_in}
-use Rattle.pass_constraint.specs.FieldWithDefault.{on_action}
+use Rattle.pass_constraint.specs.AddingFieldWithDefault.{on_action}
 use Rattle.pass_constraint.proofs.adding_field_with_default.report_actions.Goals as goal
 
 pub returns-in_err-report_action-clause-err : goal.returns-in_err-report_action-clause-err

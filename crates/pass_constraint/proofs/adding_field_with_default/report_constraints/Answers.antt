@@ -1,10 +1,10 @@
-use Rattle.lint_base.specs.Grown.{at_err}
-use Rattle.lint_pass.proofs.PartLaws.{front_refused}
-use Rattle.pass_constraint.specs.FieldWithDefault.{on_constraint}
+use Rattle.lint_base.specs.GrownLaws.{at_err}
+use Rattle.lint_pass.proofs.PartLaws.{prefix_refused}
+use Rattle.pass_constraint.specs.AddingFieldWithDefault.{on_constraint}
 use Rattle.pass_constraint.proofs.adding_field_with_default.report_constraints.Goals as goal
 
 pub returns-in_err-report_constraint-clause-err : goal.returns-in_err-report_constraint-clause-err
 returns-in_err-report_constraint-clause-err c =
     at_err _
-    (front_refused (on_constraint c.args.set.now c.args.p.now) c.args.constraints.now c.loop-c.c-index c.args.out.now c.loop-c.out c.report_constraint.new.out
+    (prefix_refused (on_constraint c.args.set.now c.args.p.now) c.args.constraints.now c.loop-c.c-index c.args.out.now c.loop-c.out c.report_constraint.new.out
     c.loop-c.invariant c.in_err-report_constraint.ensures.err)

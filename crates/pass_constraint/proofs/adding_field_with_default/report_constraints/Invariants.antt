@@ -1,6 +1,6 @@
 use Rattle.std.proofs.Common.{◌≡◌, ◌++◌, take}
 use Rattle.std.specs.List.{flat_map}
-use Rattle.pass_constraint.specs.FieldWithDefault.{on_constraint}
+use Rattle.pass_constraint.specs.AddingFieldWithDefault.{on_constraint}
 use Rattle.pass_constraint.proofs.adding_field_with_default.report_constraints.Given as goal
 
 -- what came so far was reported

@@ -1,6 +1,6 @@
 use Rattle.std.proofs.Common.{◌≡◌, ◌++◌, take}
 use Rattle.lint_pass.specs.Those.{those}
-use Rattle.pass_constraint.specs.RequiredField.{is_required, report}
+use Rattle.pass_constraint.specs.AddingRequiredField.{is_required, report}
 use Rattle.pass_constraint.proofs.adding_required_field.report_actions.Given as goal
 
 -- what came so far was reported

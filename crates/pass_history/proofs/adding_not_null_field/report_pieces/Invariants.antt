@@ -1,6 +1,6 @@
 use Rattle.std.proofs.Common.{◌≡◌, ◌++◌, take}
 use Rattle.lint_pass.specs.Those.{those}
-use Rattle.pass_history.specs.NotNull.{report, sets_not_null}
+use Rattle.pass_history.specs.AddingNotNullField.{report, sets_not_null}
 use Rattle.pass_history.proofs.adding_not_null_field.report_pieces.Given as goal
 
 -- the pieces so far were reported

@@ -1,9 +1,9 @@
 use Rattle.std.proofs.Common.{subst}
-use Rattle.lint_base.specs.Grown.{at_err}
+use Rattle.lint_base.specs.GrownLaws.{at_err}
 use Rattle.lint_node.specs.Altered.{altered}
 use Rattle.lint_transaction.proofs.EventLaws.{history_next, pieces_next, pieces_front}
-use Rattle.pass_history.specs.NotNull.{report_on}
-use Rattle.pass_history.specs.NotNullWalk.{Knows}
+use Rattle.pass_history.specs.AddingNotNullField.{report_on}
+use Rattle.pass_history.specs.AddingNotNullFieldWalk.{Knows}
 use Rattle.pass_history.proofs.adding_not_null_field.watch_actions.Goals as goal
 
 pub loop-a-preserved : goal.loop-a-preserved

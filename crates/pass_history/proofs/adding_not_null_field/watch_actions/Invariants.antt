@@ -1,8 +1,8 @@
 use Rattle.std.proofs.Common.{◌≡◌, ◌++◌, List, map, take}
 use Rattle.lint_node.specs.Altered.{Altered, altered}
 use Rattle.lint_transaction.specs.Events.{each_event}
-use Rattle.pass_history.specs.NotNull.{report_on}
-use Rattle.pass_history.specs.NotNullWalk.{IsKeyed, Knows}
+use Rattle.pass_history.specs.AddingNotNullField.{report_on}
+use Rattle.pass_history.specs.AddingNotNullFieldWalk.{IsKeyed, Knows}
 use Rattle.pass_history.proofs.adding_not_null_field.watch_actions.Given as goal
 
 -- the actions so far are known, and were reported on

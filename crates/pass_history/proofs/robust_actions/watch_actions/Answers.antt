@@ -1,6 +1,6 @@
 use Rattle.std.proofs.Common.{◌≡◌, ◌∙◌, ap, subst, ◌++◌, map, take, length, arith}
 use Rattle.std.proofs.Math.Seq.{take-length}
-use Rattle.lint_base.specs.Grown.{at_err}
+use Rattle.lint_base.specs.GrownLaws.{at_err}
 use Rattle.lint_node.specs.Altered.{altered}
 use Rattle.lint_transaction.proofs.EventLaws.{history_next, pieces_next, pieces_front}
 use Rattle.pass_history.specs.Dropped.{IsDropping}

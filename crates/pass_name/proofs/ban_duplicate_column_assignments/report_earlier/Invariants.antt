@@ -1,5 +1,5 @@
 use Rattle.std.proofs.Common.{◌≡◌, ◌++◌, map, take, None}
-use Rattle.pass_name.specs.Duplicates as spec
+use Rattle.pass_name.specs.BanDuplicateColumnAssignments as spec
 use Rattle.pass_name.proofs.ban_duplicate_column_assignments.report_earlier.Given as goal
 
 abbrev pub invariant-loop-m : goal.invariant-loop-m

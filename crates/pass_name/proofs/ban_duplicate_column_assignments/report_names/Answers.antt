@@ -1,6 +1,6 @@
 use Rattle.std.proofs.Common.{◌∙◌, sym, ap, ◌++◌, arith}
 use Rattle.lint_pass.proofs.PartLaws.{part_next}
-use Rattle.pass_name.specs.Duplicates as spec
+use Rattle.pass_name.specs.BanDuplicateColumnAssignments as spec
 use Rattle.pass_name.specs.Entries.{items_of}
 use Rattle.pass_name.proofs.GatherLaws.{apart_reports}
 use Rattle.pass_name.proofs.ReportLaws.{all_groups}

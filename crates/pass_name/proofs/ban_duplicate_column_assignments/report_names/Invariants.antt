@@ -1,6 +1,6 @@
 use Rattle.std.proofs.Common.{◌≡◌, ◌++◌, take}
 use Rattle.std.specs.List.{flat_map}
-use Rattle.pass_name.specs.Duplicates as spec
+use Rattle.pass_name.specs.BanDuplicateColumnAssignments as spec
 use Rattle.pass_name.specs.Entries.{items_of}
 use Rattle.pass_name.proofs.ban_duplicate_column_assignments.report_names.Given as goal
 

@@ -1,5 +1,5 @@
 use Rattle.std.proofs.Common.{◌≡◌, ◌++◌, length}
-use Rattle.pass_name.specs.Duplicates as spec
+use Rattle.pass_name.specs.BanDuplicateColumnAssignments as spec
 use Rattle.pass_name.proofs.ban_duplicate_column_assignments.report_write.Given as goal
 
 abbrev pub invariant-loop-set : goal.invariant-loop-set

@@ -1,6 +1,6 @@
 use Rattle.std.proofs.Common.{◌≡◌, take}
 use Rattle.std.specs.List.{flat_map}
-use Rattle.pass_name.specs.Duplicates as spec
+use Rattle.pass_name.specs.BanDuplicateColumnAssignments as spec
 use Rattle.pass_name.proofs.deletions.deletions.Given as goal
 
 abbrev pub invariant-loop-m : goal.invariant-loop-m

@@ -1,5 +1,5 @@
 use Rattle.std.proofs.Common.{◌≡◌, length}
-use Rattle.pass_name.specs.Duplicates as spec
+use Rattle.pass_name.specs.BanDuplicateColumnAssignments as spec
 use Rattle.pass_name.proofs.deletions.first_comment.Given as goal
 
 abbrev pub invariant-loop-tok : goal.invariant-loop-tok

@@ -1,6 +1,6 @@
 use Rattle.std.proofs.Common.{◌∙◌, sym, ◌+◌, arith}
 use Rattle.std.specs.List.{list_any}
-use Rattle.pass_name.specs.LongNames.{is_long_at, token_numbers}
+use Rattle.pass_name.specs.IdentifierTooLong.{is_long_at, token_numbers}
 use Rattle.pass_name.proofs.LongTokens.{any_found, any_next, any_none}
 use Rattle.pass_name.proofs.identifier_too_long.has_long_token.Goals as goal
 

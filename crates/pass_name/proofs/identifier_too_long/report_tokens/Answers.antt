@@ -1,6 +1,6 @@
 use Rattle.std.proofs.Common.{◌+◌, arith}
 use Rattle.lint_pass.specs.Those.{that}
-use Rattle.pass_name.specs.LongNames as spec
+use Rattle.pass_name.specs.IdentifierTooLong as spec
 use Rattle.pass_name.proofs.NameCuts.{number_next, numbers_done}
 use Rattle.pass_name.proofs.identifier_too_long.report_tokens.Goals as goal
 

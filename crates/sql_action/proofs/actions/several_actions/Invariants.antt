@@ -1,11 +1,11 @@
 use Rattle.std.proofs.Common.{◌≡◌, length}
 use Rattle.sql_tree.specs.Split.{all_of, split, comma}
 use Rattle.sql_tree.specs.Action.{action}
-use Rattle.sql_action.proofs.Front.{with_front}
+use Rattle.sql_mark.proofs.Front.{with_prefix}
 use Rattle.sql_action.proofs.actions.several_actions.Given as goal
 
 abbrev pub invariant-loop-part : goal.invariant-loop-part
-invariant-loop-part l = with_front l.actions.items (all_of (action l.kind) l.parts) ≡ all_of (action l.kind) (split comma l.tail)
+invariant-loop-part l = with_prefix l.actions.items (all_of (action l.kind) l.parts) ≡ all_of (action l.kind) (split comma l.tail)
 
 abbrev pub decreases-loop-part : goal.decreases-loop-part
 decreases-loop-part l = length l.parts

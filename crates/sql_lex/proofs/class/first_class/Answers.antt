@@ -1,9 +1,10 @@
 use Rattle.std.proofs.Common.{◌<◌, ◌==◌, not, refl, arith}
+use Rattle.std.proofs.lemmas.Bool.{not-true}
 use Rattle.std.specs.Char.{is_ascii_digit}
 use Rattle.sql_lex.specs.declared.class.TheConstants.{FIRST}
 use Rattle.sql_token.specs.Token.{is_blank, is_op, is_punct, begins_word}
 use Rattle.sql_lex.proofs.Firsts.{plain_tests, plain, prefix_tests, no_prefix, digit_tests, no_digit, sign_tests, sign}
-use Rattle.sql_lex.proofs.Tables.{all_below, from_class, not_true, same_number}
+use Rattle.sql_lex.proofs.Tables.{all_below, from_class, same_number}
 use Rattle.sql_lex.proofs.class.first_class.Goals as goal
 
 pub returns : goal.returns
@@ -33,7 +34,7 @@ returns c =
       );
       punct = λ is. (
         sign b (no_prefix b (plain b (from_class FIRST 112 plain_tests b byte refl is)) (from_class FIRST 112 prefix_tests b byte refl is)) (from_class FIRST 112 sign_tests b byte refl is),
-        not_true (is_op b) (from_class FIRST 112 (λ x. not (is_op x)) b byte refl is),
+        not-true (is_op b) (from_class FIRST 112 (λ x. not (is_op x)) b byte refl is),
         from_class FIRST 112 is_punct b byte refl is,
       );
       quote = λ is. same_number b 39 (from_class FIRST 113 (λ x. x == 39) b byte refl is);

@@ -29,10 +29,10 @@ pub loop-depth-preserved : goal.loop-depth-preserved
 loop-depth-preserved c =
     let plain = at_byte c.args.z.now c.loop-depth.depth c.loop-depth.at (omega arith) (omega arith) (sym c.if-opens.ensures.value) (sym c.if-closes.ensures.value) in
     record {
-      same = keeps_on c.loop-depth.invariant.same (keeps_on plain (over_bytes c.args.z.now c.loop-depth.depth (c.loop-depth.at + 1) c.next_mark-at.result (omega arith) c.next_mark-at.ensures.within.0 c.next_mark-at.ensures.within.1 c.next_mark-at.ensures.opens c.next_mark-at.ensures.closes));
-      shallow = omega (arith, c.next_mark-at.ensures.within);
-      begun = omega (arith, c.next_mark-at.ensures.within);
-      within = c.next_mark-at.ensures.within.1;
+      same = keeps_on c.loop-depth.invariant.same (keeps_on plain (over_bytes c.args.z.now c.loop-depth.depth (c.loop-depth.at + 1) c.next_delimiter-at.result (omega arith) c.next_delimiter-at.ensures.within.0 c.next_delimiter-at.ensures.within.1 c.next_delimiter-at.ensures.opens c.next_delimiter-at.ensures.closes));
+      shallow = omega (arith, c.next_delimiter-at.ensures.within);
+      begun = omega (arith, c.next_delimiter-at.ensures.within);
+      within = c.next_delimiter-at.ensures.within.1;
     }
 
 pub returns-clause-found : goal.returns-clause-found

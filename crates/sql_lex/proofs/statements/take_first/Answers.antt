@@ -26,27 +26,27 @@ marks-preserved-then-not-is_punct c =
       same = rw c.in_ok-push.ensures.items (goes_over c.push_words.new.statement.items c.marks.opened c.marks.closed c.other_terminal.result _ _ _ begins (no_mark _ _ _ _ c.other_terminal.ensures (c.if-not-is_punct.ensures.other refl)) (over.same c.marks.opened c.marks.closed ∙ c.marks.invariant.same));
     }
 
-pub mark_terminal-terminal-requires-clause-within : goal.mark_terminal-terminal-requires-clause-within
-mark_terminal-terminal-requires-clause-within c = lies_at _ c.args.toks.now c.in_ok-number.number _ c.requires.walk.lie (omega arith)
+pub punct_terminal-terminal-requires-clause-within : goal.punct_terminal-terminal-requires-clause-within
+punct_terminal-terminal-requires-clause-within c = lies_at _ c.args.toks.now c.in_ok-number.number _ c.requires.walk.lie (omega arith)
 
 pub returns-in_default : goal.returns-in_default
 returns-in_default c =
     let over = c.in_ok-number.ensures in
     let less : c.in_ok-number.number < length c.args.toks.now = omega arith in
-    let begins = after_some c.args.text.now c.args.toks.now c.in_ok-number.number _ less (over.stops (record { kind = Blank; start = 0; end = 0 }) less).0 ∙ ap (λ t. t ∷ terminals_after c.args.text.now c.args.toks.now (c.in_ok-number.number + 1)) (sym c.mark_terminal-terminal.ensures) in
+    let begins = after_some c.args.text.now c.args.toks.now c.in_ok-number.number _ less (over.stops (record { kind = Blank; start = 0; end = 0 }) less).0 ∙ ap (λ t. t ∷ terminals_after c.args.text.now c.args.toks.now (c.in_ok-number.number + 1)) (sym c.punct_terminal-terminal.ensures) in
     record {
       within = omega arith;
-      step = rw c.in_ok-push-2.ensures.items (ends c.push_words.new.statement.items c.marks.opened c.marks.closed c.mark_terminal-terminal.result _ _ _ begins c.in_default.ensures.ends (over.same c.marks.opened c.marks.closed ∙ c.marks.invariant.same));
+      step = rw c.in_ok-push-2.ensures.items (ends c.push_words.new.statement.items c.marks.opened c.marks.closed c.punct_terminal-terminal.result _ _ _ begins c.in_default.ensures.ends (over.same c.marks.opened c.marks.closed ∙ c.marks.invariant.same));
     }
 
 pub marks-preserved : goal.marks-preserved
 marks-preserved c =
     let over = c.in_ok-number.ensures in
     let less : c.in_ok-number.number < length c.args.toks.now = omega arith in
-    let begins = after_some c.args.text.now c.args.toks.now c.in_ok-number.number _ less (over.stops (record { kind = Blank; start = 0; end = 0 }) less).0 ∙ ap (λ t. t ∷ terminals_after c.args.text.now c.args.toks.now (c.in_ok-number.number + 1)) (sym c.mark_terminal-terminal.ensures) in
+    let begins = after_some c.args.text.now c.args.toks.now c.in_ok-number.number _ less (over.stops (record { kind = Blank; start = 0; end = 0 }) less).0 ∙ ap (λ t. t ∷ terminals_after c.args.text.now c.args.toks.now (c.in_ok-number.number + 1)) (sym c.punct_terminal-terminal.ensures) in
     record {
       within = omega arith;
       opened = omega (arith, over.begun, c.in-Some.ensures.small);
       closed = omega (arith, over.begun, c.in-Some.ensures.small);
-      same = rw (c.in_ok-push-3.ensures.items, c.in-Some.ensures.counts.0, c.in-Some.ensures.counts.1) (goes_on c.push_words.new.statement.items c.marks.opened c.marks.closed c.mark_terminal-terminal.result _ _ _ begins c.in-Some.ensures.on (over.same c.marks.opened c.marks.closed ∙ c.marks.invariant.same));
+      same = rw (c.in_ok-push-3.ensures.items, c.in-Some.ensures.counts.0, c.in-Some.ensures.counts.1) (goes_on c.push_words.new.statement.items c.marks.opened c.marks.closed c.punct_terminal-terminal.result _ _ _ begins c.in-Some.ensures.on (over.same c.marks.opened c.marks.closed ∙ c.marks.invariant.same));
     }

@@ -1,5 +1,5 @@
 use Rattle.std.proofs.Common.{◌≡◌, Some, arith, rules}
-use Rattle.squawk_cli.specs.Asked.{given_text, groups_asked}
+use Rattle.squawk_cli.specs.Modes.{given_text, groups_to_make}
 use Rattle.squawk_cli.specs.Config.{config_of}
 use Rattle.squawk_cli.specs.Outcome.{InputFor, WrittenFor}
 use Rattle.squawk_cli.specs.declared.status.Status.TheVariants.{Clean, Found, WriteFault}
@@ -7,7 +7,7 @@ use Rattle.squawk_cli.proofs.Inputs.{all_appended, input_refused, no_reports, no
 use Rattle.squawk_cli.proofs.command.work.Goals as goal
 
 pub returns-in-Err-clause-read : goal.returns-in-Err-clause-read
-returns-in-Err-clause-read g c = unread_at_first (groups_asked c.args.words.now) (g.S.Source.left c.args.src.now)
+returns-in-Err-clause-read g c = unread_at_first (groups_to_make c.args.words.now) (g.S.Source.left c.args.src.now)
 
 pub returns-in-Err-lint_input-clause-input : goal.returns-in-Err-lint_input-clause-input
 returns-in-Err-lint_input-clause-input g c =

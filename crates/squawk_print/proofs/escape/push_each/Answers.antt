@@ -1,7 +1,7 @@
 use Rattle.std.proofs.Common.{◌++◌, get_or, arith}
 use Rattle.std.proofs.lemmas.List.{get_or_default}
 use Rattle.squawk_print.specs.Escaped.{escaped, escaped_byte}
-use Rattle.lint_base.specs.Grown.{at_err}
+use Rattle.lint_base.specs.GrownLaws.{at_err}
 use Rattle.squawk_print.specs.Room.{LacksRoom}
 use Rattle.squawk_print.proofs.Pushes.{each_pushed, each_lacks, each_end}
 use Rattle.squawk_print.proofs.escape.push_each.Goals as goal

@@ -1,7 +1,7 @@
 use Rattle.std.proofs.Common.{◌++◌, arith}
 use Rattle.std.specs.List.{flat_map}
 use Rattle.squawk_print.specs.Printed.{printed_edit}
-use Rattle.lint_base.specs.Grown.{at_err}
+use Rattle.lint_base.specs.GrownLaws.{at_err}
 use Rattle.squawk_print.specs.Room.{LacksRoom}
 use Rattle.squawk_print.proofs.Pushes.{each_pushed, each_lacks, each_end}
 use Rattle.squawk_print.proofs.report.push_edits.Goals as goal

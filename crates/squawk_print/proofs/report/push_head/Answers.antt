@@ -3,7 +3,7 @@ use Rattle.lint_base.specs.Rules.{name_of}
 use Rattle.lint_base.specs.declared.violation.Violation.{Violation}
 use Rattle.squawk_print.specs.Escaped.{escaped}
 use Rattle.squawk_print.specs.Printed.{printed_head, printed_range}
-use Rattle.lint_base.specs.Grown.{at_err}
+use Rattle.lint_base.specs.GrownLaws.{at_err}
 use Rattle.squawk_print.specs.Room.{LacksRoom}
 use Rattle.squawk_print.proofs.Pushes.{pushed}
 use Rattle.squawk_print.proofs.report.push_head.Goals as goal

@@ -1,7 +1,7 @@
 use Rattle.std.proofs.Common.{◌≡◌, ℕ, ◌+◌, List, ◌++◌, codes, ap, ◌∙◌, length, length-append, arith}
 use Rattle.lint_base.specs.declared.violation.Violation.{Violation}
 use Rattle.squawk_print.specs.Printed.{printed_violation, printed_head, printed_fix, labelled}
-use Rattle.lint_base.specs.Grown.{at_err}
+use Rattle.lint_base.specs.GrownLaws.{at_err}
 use Rattle.squawk_print.specs.Room.{LacksRoom}
 use Rattle.squawk_print.proofs.Pushes.{pushed}
 use Rattle.squawk_print.proofs.report.push_violation.Goals as goal

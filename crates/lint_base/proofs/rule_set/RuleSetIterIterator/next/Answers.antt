@@ -1,10 +1,11 @@
 use Rattle.std.proofs.Common.{◌≡◌, ◌∙◌, ◌<◌, sym, arith, []}
+use Rattle.lint_base.specs.Rules.{rule_count}
 use Rattle.lint_base.specs.RuleSets.{rules_from}
 use Rattle.lint_base.proofs.RuleSets.{fewer, place-lt, rules_from-in, rules_from-out, rules_from-end}
 use Rattle.lint_base.proofs.rule_set.RuleSetIterIterator.next.Goals as goal
 
 pub overflow_add-self : goal.overflow_add-self
-overflow_add-self c = let low : c.loop-rule.self-inside.next < 78 = place-lt c.loop-rule.self-inside.next c.in-Some.rule (sym c.in-Some.ensures) in grind arith
+overflow_add-self c = let low : c.loop-rule.self-inside.next < rule_count = place-lt c.loop-rule.self-inside.next c.in-Some.rule (sym c.in-Some.ensures) in grind arith
 
 pub returns-then-contains-clause-steps : goal.returns-then-contains-clause-steps
 returns-then-contains-clause-steps c =
@@ -15,7 +16,7 @@ returns-then-contains-clause-goes c =
     record { on = λ _. (tt, tt, fewer _ _ _ (returns-then-contains-clause-steps c)); keeps = tt; rests = λ _. tt }
 
 pub loop-rule-smaller : goal.loop-rule-smaller
-loop-rule-smaller c = let low : c.loop-rule.self-inside.next < 78 = place-lt c.loop-rule.self-inside.next c.in-Some.rule (sym c.in-Some.ensures) in omega arith
+loop-rule-smaller c = let low : c.loop-rule.self-inside.next < rule_count = place-lt c.loop-rule.self-inside.next c.in-Some.rule (sym c.in-Some.ensures) in omega arith
 
 pub loop-rule-preserved : goal.loop-rule-preserved
 loop-rule-preserved c =

@@ -1,4 +1,5 @@
 use Rattle.std.proofs.Common.{◌≡◌, ◌-◌}
+use Rattle.lint_base.specs.Rules.{rule_count}
 use Rattle.lint_base.specs.RuleSets.{rules_from}
 use Rattle.lint_base.proofs.rule_set.RuleSetIterIterator.next.Given as goal
 
@@ -7,4 +8,4 @@ abbrev pub invariant-loop-rule : goal.invariant-loop-rule
 invariant-loop-rule l = rules_from l.self-inside.set l.self-inside.next ≡ l.fn.self
 
 abbrev pub decreases-loop-rule : goal.decreases-loop-rule
-decreases-loop-rule l = 78 - l.self-inside.next
+decreases-loop-rule l = rule_count - l.self-inside.next

@@ -1,6 +1,6 @@
 use Rattle.std.proofs.Common.{arith}
 use Rattle.std.proofs.lemmas.Grind.{common_steps}
-use Rattle.lint_base.specs.Grown.{at_err}
+use Rattle.lint_base.specs.GrownLaws.{at_err}
 use Rattle.lint_pass.specs.PairLaws.{pair_kept}
 use Rattle.lint_pass.proofs.pair.PairStepPass.finish.Goals as goal
 

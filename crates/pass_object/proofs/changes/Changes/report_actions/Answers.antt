@@ -1,4 +1,4 @@
-use Rattle.lint_base.specs.Grown.{at_err}
+use Rattle.lint_base.specs.GrownLaws.{at_err}
 use Rattle.lint_pass.proofs.PartLaws.{part_refused_in}
 use Rattle.pass_object.specs.Changes.{at_action, by}
 use Rattle.pass_object.proofs.changes.Changes.report_actions.Goals as goal

@@ -1,4 +1,4 @@
-use Rattle.lint_base.specs.Grown.{at_err}
+use Rattle.lint_base.specs.GrownLaws.{at_err}
 use Rattle.pass_object.specs.Changes.{by_row, lent}
 use Rattle.lint_pass.proofs.PartLaws.{lent_all, lent_refused}
 use Rattle.pass_object.proofs.changes.Changes.report_node.Goals as goal

@@ -1,7 +1,8 @@
 use Rattle.std.proofs.Common.{◌∙◌, sym, ap, ◌++◌, List}
 use Rattle.std.proofs.lemmas.List.{append-nil}
 use Rattle.lint_base.specs.declared.violation.Violation.{Violation}
-use Rattle.lint_base.specs.Grown.{GrownBy, at_err, grown_by_all}
+use Rattle.lint_base.specs.Grown.{GrownBy}
+use Rattle.lint_base.specs.GrownLaws.{at_err, grown_by_all}
 use Rattle.pass_object.specs.ChangeLaws.{existing_off}
 use Rattle.pass_object.proofs.ObjectLaws.{reported}
 use Rattle.pass_object.proofs.existing_object_compatibility.ExistingObjectCompatibilityStepPass.step.Goals as goal

@@ -1,0 +1,91 @@
+//! The linter's programs over memory, as what cases are about. The first word of a case chooses: `tree` is the printed tree,
+//! `words` is the configuration that a row of words names, `works` and `plain` are what `--locks` adds to a run with the other
+//! words, and anything else is a run of the command with those words.
+#![tactic(auto)]
+
+mod config;
+mod runs;
+
+use case_format::{Answer, Fault, Subject};
+use case_trees::Trees;
+use config::configured;
+use runs::{Kept, row_of};
+use squawk_cli::{MemSink, SliceSource, Words, run};
+use std::alloc::Global;
+
+/// How many bytes a sink holds.
+const ROOM: usize = 65536;
+
+/// All programs that cases are about.
+pub struct Programs;
+
+fn words_of(alloc: Global, given: &[String]) -> Result<Words, Fault> {
+    let mut words = Words::new(alloc);
+    for word in given {
+        words.push(word.as_str())?;
+    }
+    Ok(words)
+}
+
+/// The first word, and the other words.
+fn split_first(words: &[String]) -> (&str, &[String]) {
+    match words.split_first() {
+        Some((first, rest)) => (first.as_str(), rest),
+        None => ("", words),
+    }
+}
+
+fn answer_of(alloc: Global, status: u8, out: &[u8], err: &[u8]) -> Result<Answer, Fault> {
+    Ok(Answer {
+        status,
+        out: Vec::from_slice(alloc, out)?,
+        err: Vec::from_slice(alloc, err)?,
+    })
+}
+
+/// A run of the command.
+fn ran(alloc: Global, words: &Words, text: &[u8]) -> Result<Answer, Fault> {
+    let mut out = MemSink::new(alloc, ROOM, &[])?;
+    let mut err = MemSink::new(alloc, ROOM, &[])?;
+    let status = run(
+        alloc,
+        words,
+        &mut SliceSource::new(text),
+        &mut out,
+        &mut err,
+    );
+    answer_of(alloc, status.code(), out.bytes(), err.bytes())
+}
+
+/// A run of the command, on one line.
+fn row_of_run(alloc: Global, words: &[String], text: &str) -> Result<String, Fault> {
+    let words = words_of(alloc, words)?;
+    row_of(alloc, Kept::Reports, &ran(alloc, &words, text.as_bytes())?)
+}
+
+/// A run of the command with `--locks` beside other words.
+fn row_of_locks(alloc: Global, kept: Kept, words: &[String], text: &str) -> Result<String, Fault> {
+    let mut words = words_of(alloc, words)?;
+    words.push("--locks")?;
+    row_of(alloc, kept, &ran(alloc, &words, text.as_bytes())?)
+}
+
+impl Subject for Programs {
+    fn answer(&self, alloc: Global, words: &[String], text: &[u8]) -> Result<Answer, Fault> {
+        match split_first(words) {
+            ("tree", rest) => Trees.answer(alloc, rest, text),
+            _ => ran(alloc, &words_of(alloc, words)?, text),
+        }
+    }
+
+    fn row(&self, alloc: Global, words: &[String], text: &str) -> Result<String, Fault> {
+        let (first, rest) = split_first(words);
+        match first {
+            "tree" => Trees.row(alloc, rest, text),
+            "words" => configured(alloc, text),
+            "works" => row_of_locks(alloc, Kept::Works, rest, text),
+            "plain" => row_of_locks(alloc, Kept::Plainness, rest, text),
+            _ => row_of_run(alloc, words, text),
+        }
+    }
+}

@@ -1,0 +1,9 @@
+mod Each
+mod Shape
+mod Put
+mod RuleLaws
+mod PartLaws
+mod DiagnosticLaws
+mod Back
+mod RuleFound
+mod ItemCount

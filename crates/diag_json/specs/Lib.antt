@@ -1,0 +1,10 @@
+pub mod Fix
+pub mod Equality
+pub mod EqualityLaws
+pub mod Json
+pub mod Left
+pub mod Reading
+pub mod Answers
+pub mod Putting
+pub mod PlaceValue
+pub mod MessageValue

@@ -1,0 +1,17 @@
+pub mod Statements
+pub mod Tokens
+pub mod TakenConcurrently
+pub mod Apart
+pub mod Leading
+pub mod Indexes
+pub mod Reindexes
+pub mod IndexShapes
+pub mod DropShapes
+pub mod ReindexShapes
+pub mod AlterShapes
+pub mod ActionPlaces
+pub mod Detaches
+pub mod Inserted
+pub mod Fields
+pub mod DetachFields
+pub mod Sets

@@ -1,0 +1,11 @@
+pub mod Same
+pub mod KindOf
+pub mod Near
+pub mod Ops
+pub mod Prefix
+pub mod After
+pub mod Made
+pub mod Last
+pub mod Edits
+pub mod Terminals
+pub mod Beside

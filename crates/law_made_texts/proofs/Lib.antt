@@ -1,0 +1,4 @@
+pub mod Names
+pub mod Groups
+pub mod Readings
+pub mod Grown

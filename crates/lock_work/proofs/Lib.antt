@@ -1,8 +1,0 @@
-pub mod ActionLaws
-pub mod ArrayLevels
-pub mod AssumedLaws
-pub mod BeginLaws
-pub mod BirthLaws
-pub mod MachineLaws
-pub mod NameSearch
-pub mod SteadyLevels

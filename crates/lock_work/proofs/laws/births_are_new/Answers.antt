@@ -1,5 +1,0 @@
-use Rattle.lock_work.proofs.BirthLaws as law
-use Rattle.lock_work.proofs.laws.births_are_new.Goals as goal
-
-pub returns : goal.returns
-returns c = law.births_are_new

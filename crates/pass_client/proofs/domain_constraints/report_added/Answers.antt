@@ -1,0 +1,11 @@
+use Rattle.lint_base.specs.GrownLaws.{at_err}
+use Rattle.lint_pass.proofs.PartLaws.{prefix_refused}
+use Rattle.lint_pass.specs.Those.{that}
+use Rattle.pass_client.specs.DomainConstraints.{added_report, adds_constraint}
+use Rattle.pass_client.proofs.domain_constraints.report_added.Goals as goal
+
+pub returns-in_err-report_action-clause-err : goal.returns-in_err-report_action-clause-err
+returns-in_err-report_action-clause-err c =
+    at_err _
+    (prefix_refused (that adds_constraint (added_report c.args.p.now)) c.args.actions.now c.loop-a.a-index c.args.out.now c.loop-a.out c.report_action.new.out
+    c.loop-a.invariant c.in_err-report_action.ensures.err)

@@ -1,0 +1,9 @@
+pub mod Columns
+pub mod DomainConstraints
+pub mod DomainConstraintsLaws
+pub mod Renames
+pub mod SecurityCompatibility
+pub mod SecurityCompatibilityLaws
+pub mod Services
+pub mod RequireTableSchema
+pub mod RequireTableSchemaLaws

@@ -1,0 +1,10 @@
+pub mod BuildLaws
+pub mod Concurrently
+pub mod ConcurrentlyLaws
+pub mod RequireConcurrentIndexCreation
+pub mod RequireConcurrentIndexDeletion
+pub mod RequireConcurrentIndexDeletionLaws
+pub mod RequireConcurrentPartitionDetach
+pub mod RequireConcurrentPartitionDetachLaws
+pub mod RequireConcurrentReindex
+pub mod RequireConcurrentReindexLaws

@@ -1,5 +1,0 @@
-use Rattle.std.proofs.Common.{arith}
-use Rattle.pass_constraint.proofs.constraint_rows.has_mark.Goals as goal
-
-pub returns-in-ByIndex : goal.returns-in-ByIndex
-returns-in-ByIndex c = grind arith

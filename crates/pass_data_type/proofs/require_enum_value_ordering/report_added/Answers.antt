@@ -1,0 +1,12 @@
+use Rattle.lint_base.specs.GrownLaws.{at_err}
+use Rattle.lint_pass.proofs.PartLaws.{prefix_refused}
+use Rattle.lint_pass.specs.Those.{that}
+use Rattle.pass_data_type.specs.RequireEnumValueOrdering as spec
+use Rattle.pass_data_type.specs.RequireEnumValueOrdering.{adds_last}
+use Rattle.pass_data_type.proofs.require_enum_value_ordering.report_added.Goals as goal
+
+pub returns-in_err-report_action-clause-err : goal.returns-in_err-report_action-clause-err
+returns-in_err-report_action-clause-err c =
+    at_err _
+    (prefix_refused (that adds_last (spec.report c.args.p.now)) c.args.actions.now c.loop-a.a-index c.args.out.now c.loop-a.out c.report_action.new.out
+    c.loop-a.invariant c.in_err-report_action.ensures.err)

@@ -1,0 +1,15 @@
+pub mod TypedKinds
+pub mod BanCharField
+pub mod BanCharFieldLaws
+pub mod ChangingColumnType
+pub mod PreferIdentity
+pub mod PreferIdentityLaws
+pub mod PreferTextField
+pub mod PreferTextFieldLaws
+pub mod PreferTimestamptz
+pub mod PreferTimestamptzLaws
+pub mod RequireEnumValueOrdering
+pub mod RequireEnumValueOrderingLaws
+pub mod TypeNames
+pub mod WiderIntegers
+pub mod WiderIntegersLaws

@@ -1,5 +1,0 @@
-use Rattle.std.proofs.Common.{arith}
-use Rattle.pass_lock.proofs.concurrently.concurrently_after.Goals as goal
-
-pub returns : goal.returns
-returns c = grind arith

@@ -1,9 +1,0 @@
-//! What no tree lacks.
-
-ghost use Rattle.sql_law.specs.Whole.{AlterTablesHavePaths, AddedIsKnown};
-
-/// An ALTER TABLE has a path, an action that adds a column has a column, and one that adds a constraint has a constraint.
-pub fn nothing_is_missing()
-    ensures path { AlterTablesHavePaths }
-    ensures added { AddedIsKnown }
-{}

@@ -1,6 +1,0 @@
-pub mod Marks
-pub mod Shapes
-pub mod Actions
-pub mod Apart
-pub mod Built
-pub mod SetInFront

@@ -1,7 +1,0 @@
-use Rattle.sql_retable.proofs.Added.{added_type_reads}
-use Rattle.sql_retable.proofs.Altered.{set_type_reads}
-use Rattle.sql_retable.proofs.Created.{created_type_reads}
-use Rattle.sql_retable.proofs.laws.types_become_words.Goals as goal
-
-pub returns : goal.returns
-returns c = record { added = added_type_reads; set = set_type_reads; created = created_type_reads }

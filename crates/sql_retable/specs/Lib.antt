@@ -1,3 +1,0 @@
-pub mod Altered
-pub mod Created
-pub mod Named

@@ -1,9 +1,0 @@
-pub mod TypeRuns
-pub mod Runs
-pub mod Counts
-pub mod TypeShapes
-pub mod TypeWords
-pub mod TypeParts
-pub mod ColumnTypes
-pub mod TypePlaces
-pub mod TypeNames

@@ -1,0 +1,79 @@
+//! What `--generate` and `--locks` change of a run: which text is linted, and what is written of what is found in it.
+ghost use Rattle.std.specs.Prelude.{◌≡◌, ◌<◌, ◌≤◌, ◌^◌, length, IfOk, IfErr, IfSome, IsSome, OnOk, Err};
+ghost use Rattle.std.specs.Io.KnownBytes.{Appends};
+ghost use Rattle.squawk_stream.specs.Faults.{Rose};
+ghost use Rattle.squawk_stream.specs.Parts.{AppendsPart};
+ghost use Rattle.squawk_print.specs.declared.write.WriteError.TheVariants as WriteError;
+ghost use Rattle.squawk_cli.specs.declared.status.Status.TheVariants as Status;
+ghost use Rattle.squawk_cli.specs.Modes.{printed_findings, text_by, shown_by};
+ghost use Rattle.squawk_cli.specs.Outcome.{ReadBy, SourceCause, IsStop};
+
+use crate::findings::Findings;
+use crate::status::Status;
+use squawk_generate::{made_text, write_summary};
+use squawk_print::{WriteError, write_violations};
+use squawk_print_locks::write_with_locks;
+use squawk_stream::{ReadError, Sink, Source, read_to_end};
+use std::alloc::Global;
+use text_pos::NoMemory;
+
+/// The made text of so many groups, for which nothing is read, or else all of the input.
+pub(crate) fn text_for<S: Source>(
+    alloc: Global,
+    generate: Option<u32>,
+    src: &mut S,
+) -> Result<Vec<u8>, Status>
+    requires few { IfSome generate (λ n. n ≤ 100000) }
+    ensures text { IfOk result (λ text. IfSome (text_by generate (S.left src.old)) (λ t. t ≡ text.items)) }
+    ensures short { IfOk result (λ text. length text.items < 2 ^ 32) }
+    ensures read { IfOk result (λ _. ReadBy generate Status.Clean (S.left src.old) (S.left src.new)) }
+    ensures unread { IsSome generate → src.new ≡ src.old }
+    ensures stop { IfErr result IsStop }
+    ensures stop_read { IfErr result (λ s. ReadBy generate s (S.left src.old) (S.left src.new)) }
+    ensures stop_source { IfErr result (λ s. SourceCause s (S.faults src.old) (S.faults src.new)) }
+{
+    match generate {
+        Some(groups) => match made_text(alloc, groups) {
+            Ok(text) => Ok(text),
+            Err(NoMemory) => Err(Status::NoMemory),
+        },
+        None => match read_to_end(alloc, src) {
+            Ok(input) => Ok(input),
+            Err(ReadError::TooLong) => Err(Status::TooLong),
+            Err(ReadError::Fault) => Err(Status::ReadFault),
+            Err(ReadError::NoMemory) => Err(Status::NoMemory),
+        },
+    }
+}
+
+/// Writes the printed reports, and after them the locks that were asked for.
+fn write_printed<K: Sink>(alloc: Global, out: &mut K, found: &Findings) -> Result<(), WriteError>
+    ensures whole { OnOk result (Appends (K.held out.old) (K.held out.new) (printed_findings found.now.violations found.now.locks)) }
+    ensures part { AppendsPart (K.held out.old) (K.held out.new) (printed_findings found.now.violations found.now.locks) }
+    ensures fault { result ≡ Err WriteError.Fault → Rose (K.faults out.old) (K.faults out.new) }
+    ensures no_memory { result ≡ Err WriteError.NoMemory → out.new ≡ out.old }
+{
+    let reports = found.violations.as_slice();
+    match &found.locks {
+        Some(locks) => write_with_locks(alloc, out, reports, locks.works.as_slice(), locks.plain),
+        None => write_violations(alloc, out, reports),
+    }
+}
+
+/// Writes the summary of the reports where made groups were asked for, or else the printed form of all that was found.
+pub(crate) fn write_found<K: Sink>(
+    alloc: Global,
+    generate: Option<u32>,
+    out: &mut K,
+    found: &Findings,
+) -> Result<(), WriteError>
+    ensures whole { OnOk result (Appends (K.held out.old) (K.held out.new) (shown_by generate found.now)) }
+    ensures part { AppendsPart (K.held out.old) (K.held out.new) (shown_by generate found.now) }
+    ensures fault { result ≡ Err WriteError.Fault → Rose (K.faults out.old) (K.faults out.new) }
+    ensures no_memory { result ≡ Err WriteError.NoMemory → out.new ≡ out.old }
+{
+    match generate {
+        Some(_) => write_summary(alloc, out, found.violations.as_slice()),
+        None => write_printed(alloc, out, found),
+    }
+}

@@ -1,0 +1,3 @@
+mod Placing
+mod Answered
+mod Complete

@@ -1,0 +1,21 @@
+//! Diagnostics for editors: the reports on a text, with positions as editors count them, as JSON.
+//!
+//! - [`PosIndex`] puts places of a text as positions, and positions as places.
+//! - [`diagnose`] lints a text and gives its diagnostics.
+//! - [`write_json`] writes diagnostics as JSON, and [`read_json`] reads them back.
+//! - [`diag_run`] does all of it for an input, as the program `squawk_diag_main` does over the standard streams.
+#![tactic(auto)]
+
+mod answer;
+mod choose;
+mod command;
+mod text;
+
+pub use command::diag_run;
+pub use diag_command::{Status, say};
+pub use diag_json::{DiagEdit, DiagError, DiagFix, Diagnostic, read_json, write_json};
+pub use squawk_linter::{LintError, Linter};
+pub use squawk_stream::{MemSink, MemSource, Sink, SliceSource, Source, StdSink, StdSource};
+pub use squawk_words::Words;
+pub use text::diagnose;
+pub use text_utf16::{Pos, PosIndex};

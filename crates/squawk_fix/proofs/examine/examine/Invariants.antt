@@ -1,9 +1,0 @@
-use Rattle.std.proofs.Common.{◌≡◌}
-use Rattle.squawk_fix.specs.Faults.{AreGoodBelow, end_before}
-use Rattle.squawk_fix.proofs.examine.examine.Given as goal
-
-abbrev pub invariant-loop-number : goal.invariant-loop-number
-invariant-loop-number l = record {
-  good : AreGoodBelow l.text l.edits l.number;
-  place : l.place ≡ end_before l.edits l.number;
-}

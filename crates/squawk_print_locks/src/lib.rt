@@ -1,0 +1,11 @@
+//! The printed form of work under locks, as `--locks` asks for it after the reports.
+//!
+//! Each work is a line with the number of its statement, its lock, its table and its age. A last line says whether the text is
+//! plain. `specs/PrintedLocks.antt` has the form. The parts of a line are public for other programs that print work.
+#![tactic(auto)]
+
+mod lines;
+mod write;
+
+pub use lines::{push_lock, push_table};
+pub use write::write_with_locks;

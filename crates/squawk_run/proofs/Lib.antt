@@ -1,0 +1,3 @@
+pub mod OwnWords
+pub mod Runs
+pub mod Search

@@ -1,0 +1,56 @@
+//! The line that a run writes to the error sink.
+
+ghost use Rattle.std.specs.Prelude.{OnOk};
+ghost use Rattle.std.specs.Io.KnownBytes.{Appends};
+ghost use Rattle.squawk_stream.specs.Faults.{Rose, HasCause};
+ghost use Rattle.squawk_stream.specs.Parts.{AppendsPart};
+ghost use Rattle.squawk_run.specs.Lines.{numbered};
+ghost use Rattle.squawk_run.specs.Stops.{line_of};
+
+use crate::stop::Stop;
+use itoa::Buffer;
+use squawk_stream::{Failed, Sink, write_all};
+
+fn write_numbered<E: Sink>(err: &mut E, text: &[u8], number: u64) -> Result<(), Failed>
+    ensures whole { OnOk result (Appends (E.held err.old) (E.held err.new) (numbered text.now number)) }
+    ensures part { AppendsPart (E.held err.old) (E.held err.new) (numbered text.now number) }
+    ensures cause { HasCause (E.faults err.old) (E.faults err.new) result }
+{
+    let mut buffer = Buffer::new();
+    write_all(err, text)?;
+    write_all(err, buffer.format(number).as_bytes())?;
+    write_all(err, b"\n")?;
+    Ok(())
+}
+
+/// Writes a line, which has its line feed.
+pub fn say_line<E: Sink>(err: &mut E, line: &str)
+    ensures part { AppendsPart (E.held err.old) (E.held err.new) line.now }
+    ensures whole { ¬ (Rose (E.faults err.old) (E.faults err.new)) → Appends (E.held err.old) (E.held err.new) line.now }
+{
+    let _ = write_all(err, line.as_bytes());
+}
+
+/// Writes a line of a text and a count, to which it adds the line feed.
+pub fn say_count<E: Sink>(err: &mut E, text: &str, count: u64)
+    ensures part { AppendsPart (E.held err.old) (E.held err.new) (numbered text.now count) }
+    ensures whole { ¬ (Rose (E.faults err.old) (E.faults err.new)) → Appends (E.held err.old) (E.held err.new) (numbered text.now count) }
+{
+    let _ = write_numbered(err, text.as_bytes(), count);
+}
+
+/// Writes a line of a text and a place, to which it adds the line feed.
+pub fn say_line_at<E: Sink>(err: &mut E, text: &str, at: u32)
+    ensures part { AppendsPart (E.held err.old) (E.held err.new) (numbered text.now at) }
+    ensures whole { ¬ (Rose (E.faults err.old) (E.faults err.new)) → Appends (E.held err.old) (E.held err.new) (numbered text.now at) }
+{
+    say_count(err, text, u64::from(at))
+}
+
+/// Writes the line of a stop.
+pub fn say_stop<E: Sink>(err: &mut E, stop: Stop)
+    ensures part { AppendsPart (E.held err.old) (E.held err.new) (line_of stop) }
+    ensures whole { ¬ (Rose (E.faults err.old) (E.faults err.new)) → Appends (E.held err.old) (E.held err.new) (line_of stop) }
+{
+    say_line(err, stop.line())
+}
