@@ -10,8 +10,9 @@ they are of words and programs that are not built yet. The examples of README.md
 block that begins with `$ echo 'TEXT' | ./squawk WORDS` or `$ printf 'TEXT' | ./squawk WORDS` is what the program prints. In docs/RULES.md
 there are two kinds more:
 
-- of a rule's section, each SQL text under *Write*: neither the rules that are on nor the rule itself report anything of it. The SQL under
-  *Instead of* is the text of an example of the section, and the script refuses the page where it is not;
+- of a rule's section, each SQL text under *Write*: neither the rules that are on nor the rule itself report anything of it. The script
+  refuses the page where the SQL under *Instead of* is not the text of an example of the section, or where the rule's row in the tables at
+  the head of the page is not what the section says;
 - each statement of the table of what a clean answer does not see: no rule that is on reports it, but for those that ask for a transaction
   or for timeouts.
 """
@@ -25,6 +26,9 @@ CASES = TOP / 'cases'
 RULES = 'docs/RULES.md'
 PAGES = ['README.md', RULES]
 RUNNER = TOP / 'crates' / 'case_runner'
+
+# The first line of a rule's section: whether it is on, its fix, its lock.
+HEAD = re.compile(r'\*\*(On|Off)\*\* · (?:no fix|fix: ([a-z ]+?)(?: \(.*?\))?) · lock: (.*?)(?: · manual: .*)?$')
 
 
 def sources():
@@ -59,6 +63,12 @@ def clean(page, number, words, sql):
     return [(line, page, number) for line in lines]
 
 
+def row_of(rule, head):
+    """The row of a rule in the tables at the head of the page, by the first line of its section."""
+    default, fix, lock = HEAD.match(head).groups()
+    return f'| [`{rule}`](#{rule}) | {default.lower()} | {fix or "none"} | {lock} |'
+
+
 def written(page):
     """The texts of a page's rules under *Write*, as cases."""
     text = (TOP / page).read_text(encoding='utf-8')
@@ -68,6 +78,8 @@ def written(page):
         bad = re.search(r'^\*\*Instead of\*\*\n\n```sql\n(.*?)\n```', part[0], re.M | re.S)
         if bad is None or bad[1] not in [(one or other).replace('\\n', '\n').rstrip('\n') for one, other, _ in shown]:
             sys.exit(f'{page}: {part[1]}: its bad example is the text of no run in its details')
+        if row_of(part[1], part[0].split('\n')[2]) not in text:
+            sys.exit(f'{page}: {part[1]}: its row at the head of the page is not what the section says')
         words = [f'--include {part[1]}'] * (part[2] == 'Off') + re.findall(r'--pg-major \d+', shown[0][2])
         write, details = part[0].index('\n**Write**'), part[0].index('\n**Details**')
         for found in re.finditer(r'^```sql\n(.*?)\n```$', part[0][write:details], re.M | re.S):
