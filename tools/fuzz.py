@@ -303,10 +303,10 @@ EDGES = [b"'", b'"', b"$", b"-", b"/", b"*", b";", b"(", b")", b"[", b"]", b"\\"
 
 
 def rule_names():
-    """The rules of README.md's table that can be reported, and those among them that are off by default."""
-    found = re.findall(r"\[`([a-z-]+)`\]\(docs/RULES\.md#[a-z-]+\)( ○)?", (TOP / "README.md").read_text("utf-8"))
-    rules = [name for name, _ in found if name not in ("unused-ignore", "require-timeout-settings")]
-    return rules, [name for name, mark in found if mark and name in rules]
+    """The rules of the tables of docs/RULES.md that can be named, and those among them that are off by default."""
+    found = re.findall(r"^\| \[`([a-z-]+)`\]\(#[a-z-]+\) \| (on|off) \|", (TOP / "docs" / "RULES.md").read_text("utf-8"), re.M)
+    rules = [name for name, _ in found if name != "unused-ignore"]
+    return rules, [name for name, default in found if default == "off"]
 
 
 RULES, OFF_BY_DEFAULT = rule_names()

@@ -7,7 +7,14 @@
 
 The files are joined in the order of their paths, each under a line `// cases/PATH`. Those of `cases/pending` are left out:
 they are of words and programs that are not built yet. The examples of README.md and docs/RULES.md follow as cases of their own: a
-block that begins with `$ echo 'TEXT' | ./squawk WORDS` or `$ printf 'TEXT' | ./squawk WORDS` is what the program prints.
+block that begins with `$ echo 'TEXT' | ./squawk WORDS` or `$ printf 'TEXT' | ./squawk WORDS` is what the program prints. In docs/RULES.md
+there are two kinds more:
+
+- of a rule's section, each SQL text under *Write*: neither the rules that are on nor the rule itself report anything of it. The script
+  refuses the page where the SQL under *Instead of* is not the text of an example of the section, or where the rule's row in the tables at
+  the head of the page is not what the section says;
+- each statement of the table of what a clean answer does not see: no rule that is on reports it, but for those that ask for a transaction
+  or for timeouts.
 """
 import pathlib
 import re
@@ -16,8 +23,12 @@ import sys
 
 TOP = pathlib.Path(__file__).resolve().parent.parent
 CASES = TOP / 'cases'
-PAGES = ['README.md', 'docs/RULES.md']
+RULES = 'docs/RULES.md'
+PAGES = ['README.md', RULES]
 RUNNER = TOP / 'crates' / 'case_runner'
+
+# The first line of a rule's section: whether it is on, its fix, its lock.
+HEAD = re.compile(r'\*\*(On|Off)\*\* · (?:no fix|fix: ([a-z ]+?)(?: \(.*?\))?) · lock: (.*?)(?: · manual: .*)?$')
 
 
 def sources():
@@ -46,6 +57,48 @@ def examples(page):
     return lines
 
 
+def clean(page, number, words, sql):
+    """The lines of a case: a text of which nothing is reported."""
+    lines = [f'# what to write, of {page}'] + [f'$ {words}'] * bool(words) + sql.split('\n') + ['---', 'violations: 0', 'status 0', '']
+    return [(line, page, number) for line in lines]
+
+
+def row_of(rule, head):
+    """The row of a rule in the tables at the head of the page, by the first line of its section."""
+    default, fix, lock = HEAD.match(head).groups()
+    return f'| [`{rule}`](#{rule}) | {default.lower()} | {fix or "none"} | {lock} |'
+
+
+def written(page):
+    """The texts of a page's rules under *Write*, as cases."""
+    text = (TOP / page).read_text(encoding='utf-8')
+    lines = []
+    for part in re.finditer(r'^### `([a-z-]+)`\n\n\*\*(On|Off)\*\*.*?(?=^##|\Z)', text, re.M | re.S):
+        shown = re.findall(r"^\$ (?:echo|printf(?: --)?) (?:'([^']*)'|\"([^\"]*)\") \| \./squawk(.*)$", part[0], re.M)
+        bad = re.search(r'^\*\*Instead of\*\*\n\n```sql\n(.*?)\n```', part[0], re.M | re.S)
+        if bad is None or bad[1] not in [(one or other).replace('\\n', '\n').rstrip('\n') for one, other, _ in shown]:
+            sys.exit(f'{page}: {part[1]}: its bad example is the text of no run in its details')
+        if row_of(part[1], part[0].split('\n')[2]) not in text:
+            sys.exit(f'{page}: {part[1]}: its row at the head of the page is not what the section says')
+        words = [f'--include {part[1]}'] * (part[2] == 'Off') + re.findall(r'--pg-major \d+', shown[0][2])
+        write, details = part[0].index('\n**Write**'), part[0].index('\n**Details**')
+        for found in re.finditer(r'^```sql\n(.*?)\n```$', part[0][write:details], re.M | re.S):
+            number = text.count('\n', 0, part.start() + write + found.start()) + 2
+            lines += clean(page, number, ' '.join(words), found[1])
+    return lines
+
+
+def unseen(page):
+    """The statements of a page's table of what a clean answer does not see, as cases."""
+    text = (TOP / page).read_text(encoding='utf-8')
+    heading = '\n## What a clean answer does not see\n'
+    part = text[text.index(heading):].split('\n## ')[1]
+    rows = [found[1] + ' ==>' for found in re.finditer(r'^\| `([^`]*)` \|', part, re.M)]
+    lines = [f'# what a clean answer does not see, of {page}', '$ rows --exclude prefer-robust-stmts,require-timeout-settings']
+    number = text.count('\n', 0, text.index(heading)) + 2
+    return [(line, page, number) for line in lines + rows + ['===', 'status 0', '']]
+
+
 def joined():
     """The lines of the joined file, each with the file and the line that it comes from."""
     lines = []
@@ -56,6 +109,7 @@ def joined():
         lines += [(line, name, number) for number, line in enumerate(text.split('\n'), 1)]
     for page in PAGES:
         lines += [(f'// {page}', page, 0)] + examples(page)
+    lines += written(RULES) + unseen(RULES)
     return lines
 
 
