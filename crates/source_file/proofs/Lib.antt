@@ -1,0 +1,6 @@
+pub mod Feeds
+pub mod Pushes
+pub mod Blocks
+pub mod Widths
+pub mod Showing
+pub mod Hinting

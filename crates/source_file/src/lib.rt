@@ -1,0 +1,21 @@
+//! A file as a report shows it: its name, the place of each byte as a line and a column, the lines of a range, the columns that a
+//! piece takes in a terminal, why a file could not be linted, and what may help.
+#![tactic(auto)]
+
+mod columns;
+mod file;
+mod hints;
+mod level;
+mod line;
+mod place;
+mod refusal;
+mod shown;
+
+pub use columns::width;
+pub use file::SourceFile;
+pub use hints::{Hint, begins_with, hint_for};
+pub use level::Level;
+pub use line::{block, front, line_end, line_start, lines};
+pub use place::Place;
+pub use refusal::Refusal;
+pub use shown::push_shown;
