@@ -1,6 +1,6 @@
 //! The linter's programs over memory, as what cases are about. The first word of a case chooses: `tree` is the printed tree,
 //! `words` is the configuration that a row of words names, `works` and `plain` are what `--locks` adds to a run with the other
-//! words, and anything else is a run of the command with those words.
+//! words, `gate` is a run of the gate and `diag` one of the diagnostics, and anything else is a run of the command with those words.
 #![tactic(auto)]
 
 mod config;
@@ -9,8 +9,10 @@ mod runs;
 use case_format::{Answer, Fault, Subject};
 use case_trees::Trees;
 use config::configured;
+use migration_gate::gate_run;
 use runs::{Kept, row_of};
 use squawk_cli::{MemSink, SliceSource, Words, run};
+use squawk_diag::diag_run;
 use std::alloc::Global;
 
 /// How many bytes a sink holds.
@@ -57,6 +59,26 @@ fn ran(alloc: Global, words: &Words, text: &[u8]) -> Result<Answer, Fault> {
     answer_of(alloc, status.code(), out.bytes(), err.bytes())
 }
 
+/// A run of the gate.
+fn gate_ran(alloc: Global, words: &[String], bundle: &[u8]) -> Result<Answer, Fault> {
+    let words = words_of(alloc, words)?;
+    let mut src = SliceSource::new(bundle);
+    let mut out = MemSink::new(alloc, ROOM, &[])?;
+    let mut err = MemSink::new(alloc, ROOM, &[])?;
+    let status = gate_run(alloc, &words, &mut src, &mut out, &mut err);
+    answer_of(alloc, status.code(), out.bytes(), err.bytes())
+}
+
+/// A run of the diagnostics.
+fn diag_ran(alloc: Global, words: &[String], text: &[u8]) -> Result<Answer, Fault> {
+    let words = words_of(alloc, words)?;
+    let mut src = SliceSource::new(text);
+    let mut out = MemSink::new(alloc, ROOM, &[])?;
+    let mut err = MemSink::new(alloc, ROOM, &[])?;
+    let status = diag_run(alloc, &words, &mut src, &mut out, &mut err);
+    answer_of(alloc, status.code(), out.bytes(), err.bytes())
+}
+
 /// A run of the command, on one line.
 fn row_of_run(alloc: Global, words: &[String], text: &str) -> Result<String, Fault> {
     let words = words_of(alloc, words)?;
@@ -74,6 +96,8 @@ impl Subject for Programs {
     fn answer(&self, alloc: Global, words: &[String], text: &[u8]) -> Result<Answer, Fault> {
         match split_first(words) {
             ("tree", rest) => Trees.answer(alloc, rest, text),
+            ("gate", rest) => gate_ran(alloc, rest, text),
+            ("diag", rest) => diag_ran(alloc, rest, text),
             _ => ran(alloc, &words_of(alloc, words)?, text),
         }
     }

@@ -1,4 +1,4 @@
--- What stands against a text that has a tree.
+-- Why a text that has a tree does not pass.
 use Rattle.std.proofs.Common.{◌≡◌, ℕ, Bool, true, false, List, [], ◌∷◌, Option, Some, None}
 use Rattle.std.specs.Str.{IsUtf8}
 use Rattle.sql_token.specs.Token.{Text}

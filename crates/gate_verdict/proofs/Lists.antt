@@ -30,7 +30,7 @@ use Rattle.gate_machine.specs.Run.{by_file, in_file, settings_for}
 use Rattle.gate_verdict.specs.Verdicts.{ArePassing}
 use Rattle.gate_machine.proofs.Ages.{files_are_apart}
 
--- ---- what stands against a tree
+-- ---- why a tree does not pass
 
 neither_some : {X : Type 0} (o : Option X) (s : ℕ) (rest : Option ℕ) → (if is_some o then Some s else rest) ≡ None → (o ≡ None) × (rest ≡ None)
 neither_some None s rest e = (refl, e)

@@ -19,7 +19,7 @@ SameButFlag old new = record new { assume_in_transaction = old.assume_in_transac
 abbrev pub HasWorks : LinterSettings → Tree → ℕ → List GateWork → List GateWork → Type 0
 HasWorks settings tree file old new = new ≡ old ++ in_file file (works tree (settings_for settings tree))
 
--- Nothing stands against the tree, and its works were added; or this does.
+-- The tree passes, and its works were added; or this is why it does not.
 abbrev pub IsJudged : Rules → LinterSettings → Tree → ℕ → List GateWork → List GateWork → Option Why → Type 0
 IsJudged rules settings tree file old new None = (why_in rules settings tree ≡ None) × HasWorks settings tree file old new
 IsJudged rules settings tree file old new (Some w) = why_in rules settings tree ≡ Some w

@@ -52,7 +52,7 @@ abbrev pub why_in : Rules → LinterSettings → Tree → Option Why
 why_in rules settings tree =
     either_of (ignored (first_ignore tree.text tree.toks)) (either_of (unplain (plain tree)) (first_found (reports tree rules settings)))
 
--- the text has a tree, and this is what stands against it
+-- the text has a tree, and this is why it does not pass
 pub record IsAgainst (rules : Rules) (settings : LinterSettings) (text : Text) (w : Why) : Type 0 where
   pub tree : Tree
   pub of_text : IsTreeOf text tree

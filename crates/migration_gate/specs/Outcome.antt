@@ -44,7 +44,7 @@ pub record PrintsRejected (linter : Linter) (texts : List Text) (names : List (L
   pub verdict : IsVerdict linter.rules linter.settings texts (Err (file, why))
   pub appended : Appends old new (printed_rejected (name_at names file) why)
 
--- A front of the printed verdict was appended.
+-- The beginning of the printed verdict was appended.
 pub record PrintsPart (linter : Linter) (texts : List Text) (names : List (List ℕ)) (old new : Option (List ℕ)) : Type 0 where
   pub shown : Shown
   pub verdict : IsVerdict linter.rules linter.settings texts shown

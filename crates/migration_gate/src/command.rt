@@ -43,7 +43,7 @@ fn work<S: Source, K: Sink>(alloc: Global, words: &Words, src: &mut S, out: &mut
 /// the words choose. The printed verdict goes to `out`, and the line of the status to `err`, where a failure changes no status.
 ///
 /// The clauses say by each status what the words are (`words`), what was read (`read`, `unread`), what the verdict is, what it means and that it
-/// was written (`judged`), where nothing was written (`kept`), which failure a fault stands for (`source`, `sink`), and what the error sink
+/// was written (`judged`), where nothing was written (`kept`), which failure a fault means (`source`, `sink`), and what the error sink
 /// gets (`line`, `whole_line`). Where nothing fails, a bundle is judged (`complete`); only running out of memory is free.
 pub fn gate_run<S: Source, K: Sink, E: Sink>(
     alloc: Global,

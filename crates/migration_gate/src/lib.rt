@@ -1,7 +1,7 @@
 //! The migration gate: whether an ordered list of migration files, given as one bundle, runs clean, one file after another.
 //!
 //! [`gate_run`] is the gate as a command: it reads the words after the program's name and a bundle from any source, and writes the verdict and
-//! the line of its status to any sinks. The parts of it have the same names here as in the crates that they stand in:
+//! the line of its status to any sinks. Its parts have the same names here as in their own crates:
 //! [`read_bundle`] reads a bundle, [`gate`] judges its files, [`print_verdict`] prints what it answers, and [`ends_in_transaction`] tells
 //! whether a file leaves a transaction open, of which the gate says nothing.
 #![tactic(auto)]

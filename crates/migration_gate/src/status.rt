@@ -68,8 +68,8 @@ impl GateStatus {
     }
 }
 
-/// Writes the line of a status, which is empty for `Accepted` and `Rejected`. It takes no memory. Where a write fails the sink has a front
-/// part of the line, and nothing else comes of it.
+/// Writes the line of a status, which is empty for `Accepted` and `Rejected`. It takes no memory. Where a write fails the sink has the
+/// beginning of the line, and nothing else comes of it.
 pub fn say<E: Sink>(err: &mut E, status: &GateStatus)
     ensures part { AppendsPart (E.held err.old) (E.held err.new) (line_of status.now) }
     ensures whole { ¬ (Rose (E.faults err.old) (E.faults err.new))

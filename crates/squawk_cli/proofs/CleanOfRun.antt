@@ -6,8 +6,8 @@ use Rattle.sql_tree.specs.Statement.{Tree}
 use Rattle.squawk_linter.specs.Assessments.{Assessment, assessment}
 use Rattle.squawk_linter.specs.CleanAnswers.{CleanAnswersWorkAlone, IsCleanAnswer, WorksAlone}
 use Rattle.squawk_cli.specs.declared.config.Config.{Config}
-use Rattle.squawk_cli.specs.declared.status.Status.{Status}
-use Rattle.squawk_cli.specs.declared.status.Status.TheVariants.{Clean, Found, BadArguments, NotUtf8, TooLong, Unterminated, Syntax, ReadFault, WriteFault, NoMemory}
+use Rattle.squawk_run.specs.declared.status.Status.{Status}
+use Rattle.squawk_run.specs.declared.status.Status.TheVariants.{Clean, Found, BadArguments, NotUtf8, TooLong, Unterminated, Syntax, ReadFault, WriteFault, NoMemory}
 use Rattle.squawk_cli.specs.CleanRun.{CleanFor, PrintsWorkAlone}
 use Rattle.squawk_cli.specs.Findings.{FindingsValue, findings_by}
 use Rattle.squawk_cli.specs.Outcome.{AppendsFindings, InputFor, WrittenFor}

@@ -1,24 +1,21 @@
 -- Where nothing fails, a valid text is linted.
-use Rattle.std.proofs.Common.{◌≡◌, ℕ, ◌≤◌, ◌^◌, List, length, None, Some, IfSome, ap, refl, subst, arith, length-append}
+use Rattle.std.proofs.Common.{◌≡◌, ℕ, ◌≤◌, ◌^◌, List, length, None, Some, IfSome, ap, refl, subst, arith}
 use Rattle.std.specs.declared.option.Option.{Option}
 use Rattle.std.specs.Str.{IsUtf8}
 use Rattle.squawk_stream.specs.Faults.{Rose}
-use Rattle.squawk_stream.specs.Reading.{Took}
 use Rattle.squawk_words.specs.Choices.{IsAccepted}
 use Rattle.squawk_generate.specs.Made.{made}
 use Rattle.sql_token.specs.Token.{Text, Lexed}
 use Rattle.sql_token.proofs.TokenLaws as tokens
 use Rattle.sql_tree.specs.Statement.{IsValid}
 use Rattle.sql_tree.proofs.TreeLaws as tree
+use Rattle.squawk_run.proofs.Runs.{took_fits}
+use Rattle.squawk_run.specs.Ends as ends
+use Rattle.squawk_run.specs.Statuses.{end_of}
 use Rattle.squawk_cli.specs.Modes.{text_by}
-use Rattle.squawk_cli.specs.Outcome.{WordsFor, ReadBy, ReadForMade, ReadOfInput, InputFor, SourceCause, SinkCause, IsDone}
-use Rattle.squawk_cli.specs.declared.status.Status.{Status}
-use Rattle.squawk_cli.specs.declared.status.Status.TheVariants.{Clean, Found, BadArguments, NotUtf8, TooLong, Unterminated, Syntax, ReadFault, WriteFault, NoMemory}
-
--- what was taken of a text is no longer than the text
-took_fits : (t : List ℕ) (b : Option (List ℕ)) (n : ℕ) → Took (Some t) b n → n ≤ length t
-took_fits t None n k = absurd k.taken
-took_fits t (Some y) n k = omega (arith, k.many, ap length k.taken, length-append k.bytes y)
+use Rattle.squawk_cli.specs.Outcome.{WordsFor, ReadBy, ReadForMade, InputFor, SourceCause, SinkCause, IsDone}
+use Rattle.squawk_run.specs.declared.status.Status.{Status}
+use Rattle.squawk_run.specs.declared.status.Status.TheVariants.{Clean, Found, BadArguments, NotUtf8, TooLong, Unterminated, Syntax, ReadFault, WriteFault, NoMemory}
 
 done_at : (s : Status) (words : List (List ℕ)) (t : List ℕ) (f g h k : ℕ) → WordsFor s words → (s ≡ TooLong → 2 ^ 32 ≤ length t)
     → InputFor s words t → SourceCause s f g → SinkCause s h k → IsAccepted words → ¬ (Rose f g) → ¬ (Rose h k)
@@ -44,4 +41,4 @@ is_done s words (Some n) a b f g h k w r i source sink taken ns nk =
     done_at s words (made n) f g h k w (λ e. absurd (subst (λ x. ReadForMade x a b) e r)) i source sink taken ns nk
 is_done s words None None b f g h k w r i source sink taken ns nk = tt
 is_done s words None (Some t) b f g h k w r i source sink taken ns nk =
-    done_at s words t f g h k w (λ e. took_fits t b (2 ^ 32) (subst (λ x. ReadOfInput x (Some t) b) e r)) i source sink taken ns nk
+    done_at s words t f g h k w (λ e. took_fits t b (2 ^ 32) (subst (λ x. ends.ReadFor (end_of x) (Some t) b) e r)) i source sink taken ns nk

@@ -9,8 +9,8 @@ use Rattle.squawk_linter.specs.Assessments.{Assessment, assessment}
 use Rattle.squawk_linter.specs.Headline.{headline_of}
 use Rattle.squawk_linter.specs.Laws.{HeadlineHolds}
 use Rattle.squawk_cli.specs.declared.config.Config.{Config}
-use Rattle.squawk_cli.specs.declared.status.Status.{Status}
-use Rattle.squawk_cli.specs.declared.status.Status.TheVariants.{Clean, Found, BadArguments, NotUtf8, TooLong, Unterminated, Syntax, ReadFault, WriteFault, NoMemory}
+use Rattle.squawk_run.specs.declared.status.Status.{Status}
+use Rattle.squawk_run.specs.declared.status.Status.TheVariants.{Clean, Found, BadArguments, NotUtf8, TooLong, Unterminated, Syntax, ReadFault, WriteFault, NoMemory}
 use Rattle.squawk_cli.specs.Answer.{AreFindings, AreReports}
 use Rattle.squawk_cli.specs.Findings.{FindingsValue, findings_by}
 use Rattle.squawk_cli.specs.Headline.{CountFor, HeadlineFor, PrintsHeadline}

@@ -1,35 +1,29 @@
 -- What is found in an input, and what that says of a run.
-use Rattle.std.proofs.Common.{◌≡◌, ◌≢◌, ◌∙◌, ◌<◌, ◌^◌, sym, ap, refl, subst, ℕ, Bool, true, false, true≢false, List, [], ◌++◌, append-nil, Option, Some, None}
+use Rattle.std.proofs.Common.{◌≡◌, ◌≢◌, ◌∙◌, ◌<◌, ◌^◌, sym, ap, refl, subst, ℕ, Bool, true, false, true≢false, List, [], Option, Some, None}
 use Rattle.std.specs.Prelude.{◌↔◌, IfSome, IsTrue, length, option_and_then}
 use Rattle.sql_tree.specs.Statement.{IsValid}
-use Rattle.std.specs.Io.KnownBytes.{Appends, Consumes, IsAtEnd}
+use Rattle.std.specs.Io.KnownBytes.{Appends}
 use Rattle.squawk_stream.specs.Parts.{AppendsPart}
 use Rattle.lint_base.specs.declared.settings.LinterSettings.{LinterSettings}
 use Rattle.lint_base.specs.declared.violation.Violation.{Violation}
 use Rattle.lint_base.specs.RuleSets.{Rules}
 use Rattle.squawk_linter.specs.Answers.{IsAnswer}
+use Rattle.squawk_run.proofs.Runs.{where_same}
 use Rattle.squawk_cli.specs.declared.config.Config.{Config}
 use Rattle.squawk_cli.specs.Config.{config_of}
 use Rattle.squawk_cli.specs.Answer.{AreFindings, AreReports}
 use Rattle.squawk_cli.specs.Modes.{given_text, groups_to_make, shown_by, text_by}
 use Rattle.squawk_cli.specs.Findings.{AreFoundIn, FindingsValue}
-use Rattle.squawk_cli.specs.declared.status.Status.{Status}
-use Rattle.squawk_cli.specs.declared.status.Status.TheVariants.{NotUtf8, Unterminated, Syntax, NoMemory}
+use Rattle.squawk_run.specs.declared.status.Status.{Status}
+use Rattle.squawk_run.specs.declared.status.Status.TheVariants.{NotUtf8, Unterminated, Syntax, NoMemory}
 use Rattle.squawk_cli.specs.Outcome.{HasReports, AppendsFindings, AppendsPartOfFindings, InputFor, ReadBy, RefusalFits, WrittenFor}
-
--- the input that was read to its end is all that was left
-pub all_taken : (a b : Option (List ℕ)) (input : List ℕ) → Consumes a b input → IsAtEnd b → IfSome a (λ t. t ≡ input)
-all_taken None b input taken ended = tt
-all_taken (Some t) None input taken ended = absurd taken
-all_taken (Some t) (Some y) input taken ended = taken ∙ ap (λ z. input ++ z) ended ∙ append-nil input
 
 -- what the words ask for is what their configuration says
 pub asked : (words : List (List ℕ)) (config : Config) → Some config ≡ config_of words → config.generate ≡ groups_to_make words
 asked words config named = ap (option_and_then (λ c. c.generate)) named
 
 holds : (given : Option (List ℕ)) (text s : List ℕ) (P : List ℕ → Type 0) → IfSome given (λ t. t ≡ text) → s ≡ text → P s → IfSome given P
-holds None text s P is same h = tt
-holds (Some t) text s P is same h = subst P (same ∙ sym is) h
+holds given text s P is same h = where_same given text P is (subst P same h)
 
 -- what holds of the text that was linted holds of the text of the run
 pub of_text : (words : List (List ℕ)) (config : Config) (left : Option (List ℕ)) (text s : List ℕ) (P : List ℕ → Type 0) → Some config ≡ config_of words

@@ -11,8 +11,8 @@ use Rattle.law_made_texts.specs.Valid.{MadeIsValid}
 use Rattle.squawk_words.specs.declared.choices.Choices.{Choices}
 use Rattle.squawk_words.specs.Choices.{IsAccepted, choices_of}
 use Rattle.squawk_cli.specs.declared.config.Config.{Config}
-use Rattle.squawk_cli.specs.declared.status.Status.{Status}
-use Rattle.squawk_cli.specs.declared.status.Status.TheVariants.{Clean, Found, BadArguments, NotUtf8, TooLong, Unterminated, Syntax, ReadFault, WriteFault, NoMemory}
+use Rattle.squawk_run.specs.declared.status.Status.{Status}
+use Rattle.squawk_run.specs.declared.status.Status.TheVariants.{Clean, Found, BadArguments, NotUtf8, TooLong, Unterminated, Syntax, ReadFault, WriteFault, NoMemory}
 use Rattle.squawk_cli.specs.Modes.{given_text, groups_to_make, text_by}
 use Rattle.squawk_cli.specs.Config.{config_by, config_of}
 use Rattle.squawk_cli.specs.Outcome.{EndForMade, InputFor, ReadBy, ReadFor, ReadForMade, WordsFor}

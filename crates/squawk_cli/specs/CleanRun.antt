@@ -7,8 +7,8 @@ use Rattle.sql_tree.specs.Statement.{Tree}
 use Rattle.sql_read.specs.Cause.{IsTreeOf}
 use Rattle.squawk_linter.specs.CleanAnswers.{IsCleanAnswer, WorksAlone}
 use Rattle.squawk_cli.specs.declared.config.Config.{Config}
-use Rattle.squawk_cli.specs.declared.status.Status.{Status}
-use Rattle.squawk_cli.specs.declared.status.Status.TheVariants.{Clean}
+use Rattle.squawk_run.specs.declared.status.Status.{Status}
+use Rattle.squawk_run.specs.declared.status.Status.TheVariants.{Clean}
 use Rattle.squawk_cli.specs.Answer.{AreFindings}
 use Rattle.squawk_cli.specs.Modes.{shown}
 use Rattle.squawk_cli.specs.Config.{config_of}

@@ -9,8 +9,8 @@ use Rattle.lint_base.specs.declared.violation.Violation.{Violation}
 use Rattle.squawk_linter.specs.Headline.{HasNoIgnoreComment, headline_of, headline_reports}
 use Rattle.squawk_linter.specs.Reports.{cleared}
 use Rattle.squawk_cli.specs.declared.config.Config.{Config}
-use Rattle.squawk_cli.specs.declared.status.Status.{Status}
-use Rattle.squawk_cli.specs.declared.status.Status.TheVariants.{Clean, Found}
+use Rattle.squawk_run.specs.declared.status.Status.{Status}
+use Rattle.squawk_run.specs.declared.status.Status.TheVariants.{Clean, Found}
 use Rattle.squawk_cli.specs.Answer.{AreFindings}
 use Rattle.squawk_cli.specs.Modes.{shown}
 use Rattle.squawk_cli.specs.Config.{config_of}

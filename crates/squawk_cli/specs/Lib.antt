@@ -5,5 +5,4 @@ pub mod Modes
 pub mod Outcome
 pub mod Headline
 pub mod CleanRun
-pub mod StatusLine
 pub mod PrintedAnswers

@@ -2,34 +2,23 @@
 use Rattle.std.specs.Prelude.{◌≡◌, ◌≢◌, ℕ, ◌^◌, ◌<◌, List, [], length, Some, None, ⊤}
 use Rattle.std.specs.declared.option.Option.{Option}
 use Rattle.std.specs.Str.{IsUtf8}
-use Rattle.std.specs.Io.KnownBytes.{Appends, Keeps, IsAtEnd}
-use Rattle.squawk_stream.specs.Faults.{Rose}
+use Rattle.std.specs.Io.KnownBytes.{Appends}
 use Rattle.squawk_stream.specs.Parts.{AppendsPart}
-use Rattle.squawk_stream.specs.Reading.{Took}
 use Rattle.sql_token.specs.Token.{OpenAt}
 use Rattle.sql_tree.specs.Statement.{IsValid, IsSyntaxAt}
 use Rattle.lint_base.specs.declared.violation.Violation.{Violation}
 use Rattle.squawk_words.specs.Choices.{IsAccepted}
+use Rattle.squawk_run.specs.Ends as ends
+use Rattle.squawk_run.specs.Statuses.{end_of}
 use Rattle.squawk_cli.specs.Answer.{AreFindings, AreReports}
 use Rattle.squawk_cli.specs.Modes.{groups_to_make, shown}
 use Rattle.squawk_cli.specs.Findings.{FindingsValue}
-use Rattle.squawk_cli.specs.declared.status.Status.{Status}
-use Rattle.squawk_cli.specs.declared.status.Status.TheVariants.{Clean, Found, BadArguments, NotUtf8, TooLong, Unterminated, Syntax, ReadFault, WriteFault, NoMemory}
+use Rattle.squawk_run.specs.declared.status.Status.{Status}
+use Rattle.squawk_run.specs.declared.status.Status.TheVariants.{Clean, Found, BadArguments, NotUtf8, TooLong, Unterminated, Syntax, ReadFault, WriteFault, NoMemory}
 
 -- what the words are
 abbrev pub WordsFor : Status → List (List ℕ) → Type 0
-WordsFor BadArguments words = ¬ (IsAccepted words)
-WordsFor NoMemory words = ⊤
-WordsFor _ words = IsAccepted words
-
--- what was read of an input: mostly everything, before words that are refused nothing, and of a text that is too long 2^32
--- bytes
-abbrev pub ReadOfInput : Status → Option (List ℕ) → Option (List ℕ) → Type 0
-ReadOfInput BadArguments old new = new ≡ old
-ReadOfInput TooLong old new = Took old new (2 ^ 32)
-ReadOfInput ReadFault old new = ⊤
-ReadOfInput NoMemory old new = ⊤
-ReadOfInput _ old new = IsAtEnd new
+WordsFor status words = ends.WordsFor (end_of status) (IsAccepted words)
 
 -- nothing is read for a made text, so no read ends the run
 abbrev pub ReadForMade : Status → Option (List ℕ) → Option (List ℕ) → Type 0
@@ -37,10 +26,10 @@ ReadForMade TooLong old new = ⊥
 ReadForMade ReadFault old new = ⊥
 ReadForMade _ old new = new ≡ old
 
--- what was read where so many made groups are asked for, if any are
+-- what was read where so many made groups are asked for, or else of the input
 abbrev pub ReadBy : Option ℕ → Status → Option (List ℕ) → Option (List ℕ) → Type 0
 ReadBy (Some n) status old new = ReadForMade status old new
-ReadBy None status old new = ReadOfInput status old new
+ReadBy None status old new = ends.ReadFor (end_of status) old new
 
 -- what was read
 abbrev pub ReadFor : Status → List (List ℕ) → Option (List ℕ) → Option (List ℕ) → Type 0
@@ -81,27 +70,19 @@ WrittenFor _ words t old new = ⊤
 
 -- nothing was written but where the reports were
 abbrev pub KeptFor : Status → Option (List ℕ) → Option (List ℕ) → Type 0
-KeptFor Clean old new = ⊤
-KeptFor Found old new = ⊤
-KeptFor WriteFault old new = ⊤
-KeptFor _ old new = Keeps old new
+KeptFor status old new = ends.KeptFor (end_of status) old new
 
 -- a failed read shows in the count of the source
 abbrev pub SourceCause : Status → ℕ → ℕ → Type 0
-SourceCause ReadFault before now = Rose before now
-SourceCause _ before now = ⊤
+SourceCause status before now = ends.SourceCause (end_of status) before now
 
 -- a failed write shows in the count of the sink
 abbrev pub SinkCause : Status → ℕ → ℕ → Type 0
-SinkCause WriteFault before now = Rose before now
-SinkCause _ before now = ⊤
+SinkCause status before now = ends.SinkCause (end_of status) before now
 
 -- the text was linted, or memory ran out
 abbrev pub IsDone : Status → Type 0
-IsDone Clean = ⊤
-IsDone Found = ⊤
-IsDone NoMemory = ⊤
-IsDone _ = ⊥
+IsDone status = ends.IsDone (end_of status)
 
 -- a made text is valid, so nothing of it ends a run: only a failed write does, or running out of memory
 abbrev pub EndForMade : Status → Type 0
@@ -110,13 +91,6 @@ EndForMade Found = ⊤
 EndForMade WriteFault = ⊤
 EndForMade NoMemory = ⊤
 EndForMade _ = ⊥
-
--- why there is no text to lint
-abbrev pub IsStop : Status → Type 0
-IsStop TooLong = ⊤
-IsStop ReadFault = ⊤
-IsStop NoMemory = ⊤
-IsStop _ = ⊥
 
 -- why a text has no reports
 abbrev pub RefusalFits : Status → List ℕ → Type 0

@@ -6,7 +6,7 @@ ghost use Rattle.squawk_stream.specs.Faults.{Rose};
 ghost use Rattle.squawk_stream.specs.Parts.{AppendsPart};
 ghost use Rattle.squawk_words.specs.Choices.{IsAccepted};
 ghost use Rattle.sql_tree.specs.Statement.{IsValid};
-ghost use Rattle.squawk_cli.specs.StatusLine.{line_of};
+ghost use Rattle.squawk_run.specs.Statuses.{line_of};
 ghost use Rattle.squawk_cli.specs.Modes.{given_text, groups_to_make};
 ghost use Rattle.squawk_cli.specs.CleanRun.{CleanFor};
 ghost use Rattle.squawk_cli.specs.Headline.{HeadlineFor};
@@ -15,12 +15,11 @@ ghost use Rattle.squawk_cli.specs.Outcome.{WordsFor, ReadFor, InputFor, WrittenF
 use crate::config::read_words;
 use crate::input::lint_input;
 use crate::modes::{text_for, write_found};
-use crate::status::Status;
-use crate::status_line::say;
 use law_made_texts::laws::made_is_valid;
 use squawk_linter::clean::clean_answers;
 use squawk_linter::laws::headline;
 use squawk_print::WriteError;
+use squawk_run::{Status, say};
 use squawk_stream::{Sink, Source};
 use squawk_words::Words;
 use std::alloc::Global;
@@ -43,7 +42,7 @@ fn work<S: Source, K: Sink>(alloc: Global, words: &Words, src: &mut S, out: &mut
     };
     let text = match text_for(alloc, generate, src) {
         Ok(text) => text,
-        Err(stopped) => return stopped,
+        Err(stop) => return Status::from(stop),
     };
     let found = match lint_input(alloc, &mut linter, locks, text.as_slice()) {
         Ok(found) => found,

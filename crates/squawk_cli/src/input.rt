@@ -5,8 +5,8 @@ ghost use Rattle.squawk_cli.specs.Findings.{AreFoundIn};
 ghost use Rattle.squawk_cli.specs.Outcome.{RefusalFits};
 
 use crate::findings::{Findings, find};
-use crate::status::Status;
 use squawk_linter::{LintError, Linter};
+use squawk_run::{Status, text_in};
 use std::alloc::Global;
 
 fn lint_short(
@@ -40,8 +40,8 @@ pub(crate) fn lint_input(
     ensures found { IfOk result (λ f. AreFoundIn locks input.now linter.old.rules linter.old.settings f) }
     ensures refusal { IfErr result (λ s. RefusalFits s input.now) }
 {
-    match simdutf8::compat::from_utf8(input) {
+    match text_in(input) {
         Ok(text) => lint_short(alloc, linter, locks, text),
-        Err(_) => Err(Status::NotUtf8),
+        Err(stop) => Err(Status::from(stop)),
     }
 }

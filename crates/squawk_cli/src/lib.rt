@@ -8,15 +8,12 @@ mod findings;
 mod input;
 pub mod laws;
 mod modes;
-mod status;
-mod status_line;
 
 pub use command::run;
 pub use config::{Config, read_words};
 pub use squawk_print::{WriteError, print_violations, printed_form_is_exact, write_violations};
+pub use squawk_run::{Status, say};
 pub use squawk_stream::{
     Failed, MemSink, MemSource, Sink, SliceSource, Source, StdSink, StdSource,
 };
 pub use squawk_words::Words;
-pub use status::Status;
-pub use status_line::say;

@@ -4,16 +4,18 @@ ghost use Rattle.std.specs.Io.KnownBytes.{Appends};
 ghost use Rattle.squawk_stream.specs.Faults.{Rose};
 ghost use Rattle.squawk_stream.specs.Parts.{AppendsPart};
 ghost use Rattle.squawk_print.specs.declared.write.WriteError.TheVariants as WriteError;
-ghost use Rattle.squawk_cli.specs.declared.status.Status.TheVariants as Status;
+ghost use Rattle.squawk_run.specs.declared.status.Status.TheVariants as Status;
+ghost use Rattle.squawk_run.specs.Statuses.{of_stop};
+ghost use Rattle.squawk_run.specs.Stops.{IsReadStop};
 ghost use Rattle.squawk_cli.specs.Modes.{printed_findings, text_by, shown_by};
-ghost use Rattle.squawk_cli.specs.Outcome.{ReadBy, SourceCause, IsStop};
+ghost use Rattle.squawk_cli.specs.Outcome.{ReadBy, SourceCause};
 
 use crate::findings::Findings;
-use crate::status::Status;
 use squawk_generate::{made_text, write_summary};
 use squawk_print::{WriteError, write_violations};
-use squawk_print_locks::write_with_locks;
-use squawk_stream::{ReadError, Sink, Source, read_to_end};
+use squawk_print_locks::write_works_after_reports;
+use squawk_run::{Stop, read_input};
+use squawk_stream::{Sink, Source};
 use std::alloc::Global;
 use text_pos::NoMemory;
 
@@ -22,27 +24,22 @@ pub(crate) fn text_for<S: Source>(
     alloc: Global,
     generate: Option<u32>,
     src: &mut S,
-) -> Result<Vec<u8>, Status>
+) -> Result<Vec<u8>, Stop>
     requires few { IfSome generate (λ n. n ≤ 100000) }
     ensures text { IfOk result (λ text. IfSome (text_by generate (S.left src.old)) (λ t. t ≡ text.items)) }
     ensures short { IfOk result (λ text. length text.items < 2 ^ 32) }
     ensures read { IfOk result (λ _. ReadBy generate Status.Clean (S.left src.old) (S.left src.new)) }
     ensures unread { IsSome generate → src.new ≡ src.old }
-    ensures stop { IfErr result IsStop }
-    ensures stop_read { IfErr result (λ s. ReadBy generate s (S.left src.old) (S.left src.new)) }
-    ensures stop_source { IfErr result (λ s. SourceCause s (S.faults src.old) (S.faults src.new)) }
+    ensures stop { IfErr result IsReadStop }
+    ensures stop_read { IfErr result (λ stop. ReadBy generate (of_stop stop) (S.left src.old) (S.left src.new)) }
+    ensures stop_source { IfErr result (λ stop. SourceCause (of_stop stop) (S.faults src.old) (S.faults src.new)) }
 {
     match generate {
         Some(groups) => match made_text(alloc, groups) {
             Ok(text) => Ok(text),
-            Err(NoMemory) => Err(Status::NoMemory),
+            Err(NoMemory) => Err(Stop::NoMemory),
         },
-        None => match read_to_end(alloc, src) {
-            Ok(input) => Ok(input),
-            Err(ReadError::TooLong) => Err(Status::TooLong),
-            Err(ReadError::Fault) => Err(Status::ReadFault),
-            Err(ReadError::NoMemory) => Err(Status::NoMemory),
-        },
+        None => read_input(alloc, src),
     }
 }
 
@@ -55,7 +52,13 @@ fn write_printed<K: Sink>(alloc: Global, out: &mut K, found: &Findings) -> Resul
 {
     let reports = found.violations.as_slice();
     match &found.locks {
-        Some(locks) => write_with_locks(alloc, out, reports, locks.works.as_slice(), locks.plain),
+        Some(locks) => write_works_after_reports(
+            alloc,
+            out,
+            reports,
+            locks.works.as_slice(),
+            locks.plain,
+        ),
         None => write_violations(alloc, out, reports),
     }
 }

@@ -44,7 +44,7 @@ fn work<S: Source, K: Sink>(alloc: Global, words: &Words, src: &mut S, out: &mut
 /// the status goes to `err`, and a failure there changes no status.
 ///
 /// The clauses say by each status what the words are (`words`), what was read (`read`, `unread`), what the input is and what was
-/// written of it (`answered`), where nothing was written (`kept`), which failure a fault stands for (`source`, `sink`), and what the
+/// written of it (`answered`), where nothing was written (`kept`), which failure a fault means (`source`, `sink`), and what the
 /// error sink gets (`line`, `whole_line`). Where nothing fails, a valid text is answered (`complete`); only running out of memory is
 /// free.
 pub fn diag_run<S: Source, K: Sink, E: Sink>(

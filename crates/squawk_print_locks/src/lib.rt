@@ -8,4 +8,4 @@ mod lines;
 mod write;
 
 pub use lines::{push_lock, push_table};
-pub use write::write_with_locks;
+pub use write::write_works_after_reports;

@@ -40,7 +40,7 @@ fn write_both<K: Sink>(
 /// the text is plain.
 ///
 /// All memory is taken before the first write: that of the reports' pieces, and that of all lines of works.
-pub fn write_with_locks<K: Sink>(
+pub fn write_works_after_reports<K: Sink>(
     alloc: Global,
     out: &mut K,
     violations: &[Violation],

@@ -2,7 +2,7 @@ use Rattle.std.proofs.Common.{◌≡◌, Some, arith, rules}
 use Rattle.squawk_cli.specs.Modes.{given_text, groups_to_make}
 use Rattle.squawk_cli.specs.Config.{config_of}
 use Rattle.squawk_cli.specs.Outcome.{InputFor, WrittenFor}
-use Rattle.squawk_cli.specs.declared.status.Status.TheVariants.{Clean, Found, WriteFault}
+use Rattle.squawk_run.specs.declared.status.Status.TheVariants.{Clean, Found, WriteFault}
 use Rattle.squawk_cli.proofs.Inputs.{all_appended, input_refused, no_reports, none_where, of_any, of_text, part_appended, some_reports, some_where, unread_at_first, valid_text, written_refused}
 use Rattle.squawk_cli.proofs.command.work.Goals as goal
 

@@ -1,5 +1,5 @@
 use Rattle.std.proofs.Common.{rules}
-use Rattle.squawk_print_locks.proofs.write.write_with_locks.Goals as goal
+use Rattle.squawk_print_locks.proofs.write.write_works_after_reports.Goals as goal
 
 pub returns-in-Err-clause-whole : goal.returns-in-Err-clause-whole
 returns-in-Err-clause-whole g c = search rules
