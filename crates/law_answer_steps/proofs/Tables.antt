@@ -1,5 +1,5 @@
 -- The report of an answer is in the table of its rule, of which each fix is a step.
-use Rattle.std.proofs.Common.{◌≡◌, true, sym, IfSome}
+use Rattle.std.proofs.Common.{◌≡◌, true, IfSome}
 use Rattle.std.proofs.lemmas.Bool.{false≢true}
 use Rattle.std.proofs.lemmas.List.Elements.{All-contains, All-weaker}
 use Rattle.std.specs.Prelude.{Contains}
