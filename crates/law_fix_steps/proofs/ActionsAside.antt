@@ -1,5 +1,5 @@
 -- An action that detaches a partition does not begin in the tokens of a column type.
-use Rattle.std.proofs.Common.{◌≡◌, ℕ, zero, suc, ◌+◌, ◌<◌, ◌≤◌, ◌⊎◌, inl, inr, Bool, true, false, cond, List, [], ◌∷◌, ◌++◌, map, length, sym, refl, ap, ◌∙◌, subst, arith, Option, Some, None}
+use Rattle.std.proofs.Common.{◌≡◌, ℕ, suc, ◌<◌, ◌≤◌, ◌⊎◌, inl, inr, true, List, [], ◌∷◌, ◌++◌, map, sym, refl, ap, ◌∙◌, subst, arith, Option, Some, None}
 use Rattle.std.proofs.lemmas.List.Elements.{All-nil, All-cons, All-head, All-tail}
 use Rattle.std.specs.Prelude.{All}
 use Rattle.std.specs.Option.{option_map}
@@ -15,7 +15,6 @@ use Rattle.sql_tree.specs.Action.{action, several_actions}
 use Rattle.sql_tree.specs.Split.{all_of, and_others, comma, split}
 use Rattle.sql_tree.specs.Statement.{Tree, IsTree, without_semicolon}
 use Rattle.law_renumber.specs.Moved.{action_moved, type_moved}
-use Rattle.law_renumber.specs.Renumber.{renumber}
 use Rattle.law_renumber.proofs.Actions.{action_numbers}
 use Rattle.law_renumber.proofs.NodeOrder.{Fixes, Sliced, fixed, split_sliced}
 use Rattle.law_renumber.proofs.Ordered.{Numbered, numbered_le}
@@ -25,7 +24,7 @@ use Rattle.law_edit_inserts.specs.Concurrently.{key}
 use Rattle.law_edit_inserts.proofs.AlterShapes.{alter_table_shows}
 use Rattle.law_edit_inserts.proofs.Apart.{stays_within}
 use Rattle.law_edit_inserts.proofs.Detaches.{detach_shows}
-use Rattle.lint_node.specs.ColumnTypes.{action_types, column_types}
+use Rattle.lint_node.specs.ColumnTypes.{action_types}
 use Rattle.lint_node.specs.Plain.{is_plain_detach}
 use Rattle.law_fixes.proofs.Detached.{is_plain}
 use Rattle.law_type_fixes.proofs.ColumnTypes.{action_types_moved}

@@ -1,13 +1,11 @@
 -- The statements of a tree are seen alike one by one, or with one more statement at the start.
-use Rattle.std.proofs.Common.{◌≡◌, ℕ, zero, suc, Bool, true, false, cond, List, [], ◌∷◌, map, length, sym, refl, ap, ◌∙◌, subst}
+use Rattle.std.proofs.Common.{◌≡◌, ℕ, zero, suc, Bool, true, false, List, [], ◌∷◌, length, sym, refl, ap, ◌∙◌, subst}
 use Rattle.std.proofs.lemmas.List.Elements.{All-nil, All-cons, All-head}
-use Rattle.std.specs.Prelude.{All, ◌&&◌, ◌||◌, not}
+use Rattle.std.specs.Prelude.{◌&&◌, ◌||◌, not}
 use Rattle.sql_tree.specs.Statement.{Tree}
-use Rattle.lint_base.specs.declared.violation.Violation.{Violation}
 use Rattle.lint_transaction.specs.Earlier.{any_below, concat_below, since}
-use Rattle.lint_transaction.specs.Transaction.{begins, chains, creates, creates_at, ends, ends_at, is_new, is_open, opens_at, stmt_at}
-use Rattle.pass_session.specs.RequireTimeoutSettings.{is_first_slow, is_set, sets_at, slow_at}
-use Rattle.lint_lock.specs.Slow.{is_slow}
+use Rattle.lint_transaction.specs.Transaction.{creates, creates_at, ends_at, is_open, opens_at, stmt_at}
+use Rattle.pass_session.specs.RequireTimeoutSettings.{sets_at, slow_at}
 use Rattle.law_fix_steps.specs.Kept.{Kept}
 use Rattle.law_fix_steps.proofs.Earlier.{any_shifted, since_shifted}
 use Rattle.law_fix_steps.proofs.Kept.{pieces_kept, shifted_kept}

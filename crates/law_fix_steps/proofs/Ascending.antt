@@ -1,16 +1,12 @@
 -- The terminals of a statement ascend.
-use Rattle.std.proofs.Common.{◌≡◌, ℕ, suc, ◌+◌, ◌<◌, ◌≤◌, Bool, true, false, cond, List, [], ◌∷◌, ◌++◌, length, sym, refl, ap, ◌∙◌, subst, arith, Some, Ok}
-use Rattle.std.proofs.lemmas.Bool.Decides.{nat_tests}
+use Rattle.std.proofs.Common.{◌≡◌, ℕ, suc, ◌+◌, ◌≤◌, List, [], ◌∷◌, ◌++◌, length, sym, refl, ap, ◌∙◌, subst, arith, Ok}
 use Rattle.sql_token.specs.declared.terminal.Terminal.{Terminal}
-use Rattle.sql_token.specs.declared.token.Tok.{Tok}
 use Rattle.sql_token.specs.Depth.{statements}
-use Rattle.sql_token.specs.Terminal.{is_significant, symbol_of, terminals, terminals_from}
-use Rattle.sql_token.specs.Token.{Text, text_of}
+use Rattle.sql_token.specs.Terminal.{terminals}
 use Rattle.sql_tree.specs.declared.nodes.Stmt.{Stmt}
-use Rattle.sql_tree.specs.Statement.{Tree, IsTree, statement, without_semicolon}
-use Rattle.law_renumber.proofs.Ordered.{Numbered, numbered_le, numbered_lower}
+use Rattle.sql_tree.specs.Statement.{Tree, IsTree, without_semicolon}
+use Rattle.law_renumber.proofs.Ordered.{Numbered}
 use Rattle.law_edit_cuts.specs.Exchanges.{joined}
-use Rattle.law_edit_inserts.specs.Apart.{outside}
 use Rattle.law_edit_inserts.proofs.Fields.{ended}
 use Rattle.law_edit_inserts.proofs.TakenConcurrently.{Read, parts_of}
 use Rattle.law_edit_inserts.proofs.Statements.{joined_append, of_read, statements_join, stmt_at_place}

@@ -1,15 +1,14 @@
 -- The word CONCURRENTLY was put into a text: what is reported then by all listed rules.
-use Rattle.std.proofs.Common.{◌≡◌, ℕ, zero, suc, ◌+◌, ◌-◌, ◌<◌, ◌≤◌, ◌⊎◌, inl, inr, Bool, true, false, cond, List, [], ◌∷◌, ◌++◌, map, length, length-append, get_or, append_assoc, sym, refl, ap, ◌∙◌, subst, arith, Option, Some, None}
+use Rattle.std.proofs.Common.{◌≡◌, ℕ, ◌+◌, ◌<◌, ◌≤◌, ◌⊎◌, inl, inr, Bool, true, false, cond, List, [], ◌∷◌, ◌++◌, map, length, length-append, sym, refl, ap, ◌∙◌, subst, arith, Option, None}
 use Rattle.std.proofs.lemmas.Bool.{cases_lt}
 use Rattle.std.proofs.lemmas.Bool.Decides.{nat_tests}
 use Rattle.std.proofs.lemmas.List.{length-map, map-append}
 use Rattle.std.proofs.lemmas.List.Elements.{All-nil, All-cons, All-tail, All-weaker}
-use Rattle.std.specs.Prelude.{All, ◌==◌, ◌&&◌, ◌||◌, not}
+use Rattle.std.specs.Prelude.{All, ◌==◌, ◌&&◌}
 use Rattle.std.specs.List.{flat_map}
-use Rattle.std.specs.Option.{option_map}
 use Rattle.sql_token.specs.declared.token.Span.{Span}
 use Rattle.sql_token.specs.declared.token.Tok.{Tok}
-use Rattle.sql_token.specs.Token.{Text, text_of}
+use Rattle.sql_token.specs.Token.{text_of}
 use Rattle.sql_tree.specs.declared.kinds.ActionKind.TheVariants as action
 use Rattle.sql_tree.specs.declared.kinds.StmtKind.{StmtKind}
 use Rattle.sql_tree.specs.declared.kinds.StmtKind.TheVariants as stmt
@@ -21,9 +20,9 @@ use Rattle.sql_tree.specs.declared.nodes.Stmt.{Stmt}
 use Rattle.sql_tree.specs.Nodes.{actions_in, elements_in}
 use Rattle.sql_tree.specs.Range.{token_at}
 use Rattle.sql_tree.specs.Statement.{Tree, IsTree}
-use Rattle.law_renumber.specs.Moved.{action_moved, body_moved, span_moved, stmt_moved, type_moved}
+use Rattle.law_renumber.specs.Moved.{action_moved, body_moved, stmt_moved, type_moved}
 use Rattle.law_edit_tokens.specs.Edits.{concurrently_made}
-use Rattle.law_edit_tokens.specs.Exchange.{exchanged, made_text}
+use Rattle.law_edit_tokens.specs.Exchange.{made_text}
 use Rattle.law_edit_tokens.proofs.After.{exchanged_after, exchanged_agrees}
 use Rattle.law_edit_inserts.specs.Apart.{outside}
 use Rattle.law_edit_inserts.specs.Built.{concurrently_tree, detached_stmt, concurrent_stmt, room_after, DetachTakesConcurrently, TakesConcurrently}
@@ -34,15 +33,15 @@ use Rattle.lint_base.specs.declared.settings.LinterSettings.{LinterSettings}
 use Rattle.lint_base.specs.declared.violation.Violation.{Violation}
 use Rattle.lint_lock.specs.Slow.{has_reference, is_slow}
 use Rattle.lint_node.specs.ColumnTypes.{action_types, column_types, element_types}
-use Rattle.lint_node.specs.Plain.{drops_plainly, is_plain_detach, is_plain_drop, is_plain_reindex, rebuilds_plainly}
+use Rattle.lint_node.specs.Plain.{drops_plainly, is_plain_detach, rebuilds_plainly}
 use Rattle.lint_node.specs.Same.{same_action, same_kind}
 use Rattle.lint_pass.specs.Those.{that, those}
-use Rattle.lint_transaction.specs.Transaction.{begins, chains, created_by, creates, ends, is_path, no_stmt, stmt_at}
+use Rattle.lint_transaction.specs.Transaction.{begins, created_by, is_path, stmt_at}
 use Rattle.pass_concurrent.specs.RequireConcurrentIndexCreation as build
 use Rattle.pass_concurrent.specs.RequireConcurrentIndexDeletion as drops
 use Rattle.pass_concurrent.specs.RequireConcurrentPartitionDetach as detaches
 use Rattle.pass_concurrent.specs.RequireConcurrentReindex as reindexes
-use Rattle.pass_session.specs.RequireTimeoutSettings.{is_parameter, parameter_by, sets}
+use Rattle.pass_session.specs.RequireTimeoutSettings.{is_parameter, parameter_by}
 use Rattle.law_fixes.specs.Moved.{start_moved}
 use Rattle.law_fixes.specs.Stays.{place_of, inserted}
 use Rattle.law_fixes.proofs.Detached.{all_after, all_before, stmt_actions_fixed}
@@ -54,7 +53,7 @@ use Rattle.law_fixes.proofs.Words.{start_low, start_high}
 use Rattle.law_type_fixes.specs.Rules.{TypeRule, reports_on}
 use Rattle.law_type_fixes.proofs.ColumnTypes.{types_moved}
 use Rattle.law_type_fixes.proofs.Homes.{flat_append}
-use Rattle.law_fix_steps.specs.Kept.{SameAt, Kept}
+use Rattle.law_fix_steps.specs.Kept.{Kept}
 use Rattle.law_fix_steps.proofs.Alignments.{one_by_one}
 use Rattle.law_fix_steps.proofs.Kept.{NodeKept, kept_after, kept_append, those_kept}
 use Rattle.law_fix_steps.proofs.Like.{Aligned, Like, type_rules}

@@ -1,6 +1,5 @@
 -- The path of a table that is created comes before the types of its columns.
-use Rattle.std.proofs.Common.{◌≡◌, ℕ, zero, suc, ◌+◌, ◌-◌, ◌<◌, ◌≤◌, Bool, true, false, cond, List, [], ◌∷◌, ◌++◌, map, length, take, drop, sym, refl, ap, ◌∙◌, subst, arith, Option, Some, None}
-use Rattle.std.specs.Prelude.{◌==◌, ◌&&◌}
+use Rattle.std.proofs.Common.{◌≡◌, ℕ, suc, ◌-◌, ◌<◌, ◌≤◌, Bool, true, false, cond, List, [], ◌∷◌, ◌++◌, map, take, sym, refl, ap, ◌∙◌, subst, arith, Option, Some, None}
 use Rattle.std.specs.List.{flat_map}
 use Rattle.std.specs.Option.{option_map, option_to_list}
 use Rattle.sql_keyword.specs.declared.words.TheConstants.Keyword as keyword
@@ -18,7 +17,7 @@ use Rattle.sql_tree.specs.declared.nodes.ColType.{ColType}
 use Rattle.sql_tree.specs.declared.nodes.Elem.{Elem}
 use Rattle.sql_tree.specs.declared.nodes.Elem.TheVariants as elem
 use Rattle.sql_tree.specs.declared.nodes.Stmt.{Stmt}
-use Rattle.sql_tree.specs.Column.{column, element, elements, listed, type_in, drops_on_commit}
+use Rattle.sql_tree.specs.Column.{element, elements, listed, type_in}
 use Rattle.sql_tree.specs.ColumnType.{type_len}
 use Rattle.sql_tree.specs.Groups.{inside_list, is_empty}
 use Rattle.sql_tree.specs.Nodes as node
@@ -42,10 +41,9 @@ use Rattle.law_edit_types.proofs.CreateFronts.{create_table_shows}
 use Rattle.lint_node.specs.ColumnTypes.{column_types, element_type, element_types}
 use Rattle.law_type_fixes.proofs.Inners.{made_types, none_of}
 use Rattle.law_type_fixes.proofs.Ranged.{Ranged, ranged_le, ranged_parts, walk_ranged}
-use Rattle.law_type_fixes.proofs.Walk.{Walks}
 use Rattle.law_type_fixes.proofs.TypesApart.{numbered_parts}
 use Rattle.law_edit_inserts.proofs.Apart.{stays}
-use Rattle.law_fix_steps.proofs.Ascending.{Ascends, ascends, numbered_one}
+use Rattle.law_fix_steps.proofs.Ascending.{ascends, numbered_one}
 
 -- ---- the types of elements
 

@@ -1,26 +1,25 @@
 -- A Set at the start of a text: what is reported then by all listed rules.
-use Rattle.std.proofs.Common.{◌≡◌, ℕ, zero, suc, ◌+◌, ◌-◌, ◌<◌, ◌≤◌, Bool, true, false, cond, List, [], ◌∷◌, ◌++◌, map, length, length-append, append_assoc, get_or, drop, sym, refl, ap, ◌∙◌, subst, arith, Some, Ok}
+use Rattle.std.proofs.Common.{◌≡◌, ℕ, zero, suc, ◌+◌, ◌-◌, ◌<◌, ◌≤◌, Bool, true, false, cond, List, [], ◌∷◌, ◌++◌, map, length, length-append, append_assoc, get_or, sym, refl, ap, ◌∙◌, subst, arith, Some, Ok}
 use Rattle.std.proofs.lemmas.Bool.Decides.{nat_tests}
 use Rattle.std.proofs.lemmas.List.{get_or-append_right, get_or-map, length-map}
-use Rattle.std.proofs.lemmas.List.Elements.{All-nil, All-cons, All-head, All-tail}
+use Rattle.std.proofs.lemmas.List.Elements.{All-nil, All-cons}
 use Rattle.std.specs.Prelude.{All, ◌==◌, ◌&&◌}
 use Rattle.sql_token.specs.declared.terminal.Terminal.{Terminal}
 use Rattle.sql_token.specs.declared.token.Span.{Span}
 use Rattle.sql_token.specs.declared.token.Tok.{Tok}
-use Rattle.sql_token.specs.Depth.{statements, nothing}
+use Rattle.sql_token.specs.Depth.{statements}
 use Rattle.sql_token.specs.Terminal.{terminals, terminals_from}
 use Rattle.sql_token.specs.Token.{Leads, Text, text_of}
 use Rattle.sql_tree.specs.declared.nodes.ColType.{ColType}
 use Rattle.sql_tree.specs.declared.nodes.Stmt.{Stmt}
 use Rattle.sql_tree.specs.Range.{token_at}
 use Rattle.sql_tree.specs.Statement.{Tree, IsTree, no_token, statement}
-use Rattle.law_renumber.specs.Moved.{span_moved, stmt_moved}
+use Rattle.law_renumber.specs.Moved.{stmt_moved}
 use Rattle.law_edit_cuts.specs.Exchanges.{joined}
 use Rattle.law_edit_tokens.specs.Edits.{set_made}
 use Rattle.law_edit_tokens.specs.Exchange.{made_text, made_toks, tok_moved}
 use Rattle.law_edit_tokens.proofs.After.{exchanged_after, leads_split, leads_within}
 use Rattle.law_edit_tokens.proofs.Terminals.{quiet_terms, terms_append}
-use Rattle.law_edit_inserts.specs.Apart.{outside}
 use Rattle.law_edit_inserts.specs.SetInFront.{room_before, set_stmt, set_tree}
 use Rattle.law_edit_inserts.proofs.Apart.{span_is, stays_within, statements_apart}
 use Rattle.law_edit_inserts.proofs.Statements.{full_parts, joined_append, of_read, statements_join, stmt_at_place}
@@ -28,12 +27,9 @@ use Rattle.law_renumber.proofs.Readings.{NoneEmpty, statements_full}
 use Rattle.law_edit_inserts.proofs.Tokens.{AtLeast, least_parts, terms_least}
 use Rattle.lint_base.specs.declared.violation.Violation.{Violation}
 use Rattle.lint_node.specs.ColumnTypes.{column_types}
-use Rattle.lint_node.specs.Parts.{table_actions}
 use Rattle.lint_node.specs.Same.{same_kind}
-use Rattle.lint_transaction.specs.Transaction.{no_stmt, stmt_at}
+use Rattle.lint_transaction.specs.Transaction.{no_stmt}
 use Rattle.pass_concurrent.specs.RequireConcurrentIndexDeletion as drops
-use Rattle.pass_concurrent.specs.RequireConcurrentPartitionDetach as detaches
-use Rattle.sql_tree.specs.declared.kinds.StmtKind.{StmtKind}
 use Rattle.sql_tree.specs.declared.kinds.StmtKind.TheVariants as stmt
 use Rattle.law_fixes.specs.Moved.{start_moved}
 use Rattle.law_fixes.proofs.TimeoutFixes.{FirstOf}

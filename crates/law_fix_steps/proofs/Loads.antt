@@ -1,5 +1,5 @@
 -- A text has no more reports of a listed table than tokens, or twice as many.
-use Rattle.std.proofs.Common.{◌≡◌, ℕ, zero, suc, ◌+◌, ◌<◌, ◌≤◌, ◌^◌, Bool, true, false, cond, List, [], ◌∷◌, ◌++◌, map, length, length-append, append_assoc, sym, refl, ap, ◌∙◌, subst, arith, Option, Some, None}
+use Rattle.std.proofs.Common.{◌≡◌, ℕ, suc, ◌+◌, ◌<◌, ◌≤◌, Bool, true, false, cond, List, [], ◌∷◌, ◌++◌, map, length, length-append, append_assoc, sym, refl, ap, ◌∙◌, subst, arith, Option, Some, None}
 use Rattle.std.proofs.lemmas.List.{length-map}
 use Rattle.std.proofs.lemmas.List.Elements.{All-nil, All-cons, All-weaker}
 use Rattle.std.specs.Prelude.{All}
@@ -30,14 +30,13 @@ use Rattle.lint_node.specs.ColumnTypes.{column_types}
 use Rattle.lint_node.specs.Plain.{is_plain_detach, is_plain_drop, is_plain_reindex}
 use Rattle.lint_node.specs.Same.{same_kind}
 use Rattle.lint_pass.specs.RuleTables.{enabled_reports}
-use Rattle.lint_transaction.specs.Earlier.{concat_below}
 use Rattle.lint_transaction.specs.Transaction.{no_stmt, is_new, stmt_at}
 use Rattle.pass_concurrent.specs.RequireConcurrentIndexCreation as build
 use Rattle.pass_concurrent.specs.RequireConcurrentIndexDeletion as drops
 use Rattle.pass_concurrent.specs.RequireConcurrentPartitionDetach as detaches
 use Rattle.pass_concurrent.specs.RequireConcurrentReindex as reindexes
 use Rattle.pass_session.specs.RequireTimeoutSettings.{both_reports, is_first_slow, is_set, lock_report, lock_reports, lock_timeout, statement_report, statement_reports, statement_timeout, timeouts_at, unless}
-use Rattle.law_fixes.specs.Mended.{Reports, Table, table_by, builds_of, deletions_of, rebuilds_of, detachments_of, builds, dropped, rebuilt, detached}
+use Rattle.law_fixes.specs.Mended.{Reports, table_by, builds_of, deletions_of, rebuilds_of, detachments_of, builds, dropped, rebuilt, detached}
 use Rattle.law_fixes.proofs.Detached.{stmt_actions_fixed}
 use Rattle.law_type_fixes.specs.Rules.{TypeRule, type_reports, type_table, ints, smallints, timestamps, varchars}
 use Rattle.law_type_fixes.proofs.Bodies.{statement_walk}

@@ -1,21 +1,19 @@
 -- A statement under other numbers is seen alike.
-use Rattle.std.proofs.Common.{◌≡◌, ℕ, suc, ◌+◌, ◌<◌, ◌≤◌, Bool, true, false, cond, List, [], ◌∷◌, ◌++◌, map, length, sym, refl, ap, ◌∙◌, subst, Option, Some, None}
+use Rattle.std.proofs.Common.{◌≡◌, ℕ, ◌<◌, ◌≤◌, Bool, true, false, cond, List, [], ◌∷◌, map, sym, refl, ap, ◌∙◌, subst, Option, Some, None}
 use Rattle.std.proofs.lemmas.List.Elements.{All-nil, All-cons, All-head, All-tail, All-weaker}
-use Rattle.std.specs.Prelude.{All, ◌&&◌, ◌||◌, ◌==◌, not, is_none}
+use Rattle.std.specs.Prelude.{All, ◌&&◌, ◌||◌, ◌==◌}
 use Rattle.std.specs.List.{list_any}
 use Rattle.std.specs.Option.{option_map}
 use Rattle.std.specs.Str.{bytes_eq}
 use Rattle.sql_name.specs.Name.{full_name}
 use Rattle.sql_token.specs.declared.token.Span.{Span}
 use Rattle.sql_token.specs.Token.{text_of}
-use Rattle.sql_tree.specs.declared.kinds.ActionKind.TheVariants as action
 use Rattle.sql_tree.specs.declared.kinds.StmtKind.{StmtKind}
 use Rattle.sql_tree.specs.declared.kinds.StmtKind.TheVariants as stmt
 use Rattle.sql_tree.specs.declared.nodes.Action.{Action}
 use Rattle.sql_tree.specs.declared.nodes.Body.{Body}
 use Rattle.sql_tree.specs.declared.nodes.Body.TheVariants as body
 use Rattle.sql_tree.specs.declared.nodes.ColType.{ColType}
-use Rattle.sql_tree.specs.declared.nodes.Constraint.{Constraint}
 use Rattle.sql_tree.specs.declared.nodes.Elem.{Elem}
 use Rattle.sql_tree.specs.declared.nodes.Elem.TheVariants as elem
 use Rattle.sql_tree.specs.declared.nodes.Stmt.{Stmt}
@@ -28,27 +26,25 @@ use Rattle.law_edit_inserts.specs.Apart.{outside}
 use Rattle.law_edit_inserts.proofs.Apart.{stays_within}
 use Rattle.lint_base.specs.declared.settings.LinterSettings.{LinterSettings}
 use Rattle.lint_base.specs.declared.violation.Violation.{Violation}
-use Rattle.lint_lock.specs.Slow.{has_reference, is_reference, is_slow, refers, slow_by}
+use Rattle.lint_lock.specs.Slow.{has_reference, is_reference, refers, slow_by}
 use Rattle.lint_node.specs.ColumnTypes.{column_types}
-use Rattle.lint_node.specs.Parts.{table_actions}
 use Rattle.lint_node.specs.Plain.{drops_plainly, is_plain_detach, is_plain_drop, is_plain_reindex, rebuilds_plainly}
-use Rattle.lint_node.specs.Same.{same_action, same_kind}
+use Rattle.lint_node.specs.Same.{same_kind}
 use Rattle.lint_pass.specs.Those.{those}
-use Rattle.lint_transaction.specs.Names.{name_at}
-use Rattle.lint_transaction.specs.Transaction.{begins, ends, chains, created, created_by, creates, is_foreign_kind, is_new, is_path, same_path}
+use Rattle.lint_transaction.specs.Transaction.{ends, chains, created, creates, is_new, is_path, same_path}
 use Rattle.pass_concurrent.specs.RequireConcurrentIndexCreation as build
 use Rattle.pass_concurrent.specs.RequireConcurrentIndexDeletion as drops
 use Rattle.pass_concurrent.specs.RequireConcurrentPartitionDetach as detaches
 use Rattle.pass_concurrent.specs.RequireConcurrentReindex as reindexes
 use Rattle.pass_session.specs.RequireTimeoutSettings.{is_parameter, parameter_by, sets}
-use Rattle.law_fixes.specs.Mended.{builds_of, deletions_of, rebuilds_of}
+use Rattle.law_fixes.specs.Mended.{builds_of}
 use Rattle.law_fixes.proofs.Detached.{actions_of_body, stmt_actions_fixed}
 use Rattle.law_type_fixes.specs.Rules.{TypeRule, reports_on}
 use Rattle.law_type_fixes.proofs.ColumnTypes.{types_moved}
 use Rattle.law_fixes.proofs.DetachStays.{plain_moved}
 use Rattle.law_fixes.proofs.Statements.{created_moved}
 use Rattle.law_fix_steps.specs.Kept.{SameAt, Kept}
-use Rattle.law_fix_steps.proofs.Kept.{NodeKept, kept_one, kept_where, that_kept, those_kept}
+use Rattle.law_fix_steps.proofs.Kept.{NodeKept, kept_one, those_kept}
 use Rattle.law_fix_steps.proofs.Like.{Like, type_rules}
 use Rattle.law_fix_steps.proofs.TypeNames.{SeesNames, all_see}
 

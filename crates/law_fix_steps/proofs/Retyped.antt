@@ -1,46 +1,35 @@
 -- Tokens of a column type became a word: what is reported then by all listed rules.
-use Rattle.std.proofs.Common.{◌≡◌, ℕ, zero, suc, ◌+◌, ◌<◌, ◌≤◌, ◌⊎◌, inl, inr, ◌^◌, Bool, true, false, cond, List, [], ◌∷◌, ◌++◌, map, length, append_assoc, sym, refl, ap, ◌∙◌, subst, arith, Option, Some, None}
-use Rattle.std.proofs.lemmas.Bool.{cases_lt}
-use Rattle.std.proofs.lemmas.List.{map-append}
-use Rattle.std.proofs.lemmas.List.Elements.{All-nil, All-cons, All-head, All-tail, All-append, All-weaker}
-use Rattle.std.specs.Prelude.{All, ◌&&◌, ◌||◌, is_none}
-use Rattle.std.specs.List.{flat_map, list_any}
-use Rattle.std.specs.Option.{option_map, option_to_list}
+use Rattle.std.proofs.Common.{◌≡◌, ℕ, suc, ◌+◌, ◌<◌, ◌≤◌, ◌⊎◌, inl, Bool, true, false, cond, List, [], ◌∷◌, ◌++◌, map, length, sym, refl, ap, ◌∙◌, subst, arith, Option, None}
+use Rattle.std.proofs.lemmas.List.Elements.{All-nil, All-cons, All-head, All-tail, All-weaker}
+use Rattle.std.specs.Prelude.{All, ◌&&◌}
+use Rattle.std.specs.List.{list_any}
+use Rattle.std.specs.Option.{option_map}
 use Rattle.sql_name.specs.Name.{full_name}
 use Rattle.sql_token.specs.declared.token.Span.{Span}
 use Rattle.sql_token.specs.Token.{Text}
-use Rattle.sql_tree.specs.declared.kinds.ActionKind.{ActionKind}
-use Rattle.sql_tree.specs.declared.kinds.ActionKind.TheVariants as action
-use Rattle.sql_tree.specs.declared.kinds.PieceKind.TheVariants as piece
 use Rattle.sql_tree.specs.declared.kinds.StmtKind.{StmtKind}
 use Rattle.sql_tree.specs.declared.kinds.StmtKind.TheVariants as stmt
 use Rattle.sql_tree.specs.declared.nodes.Action.{Action}
 use Rattle.sql_tree.specs.declared.nodes.Body.{Body}
 use Rattle.sql_tree.specs.declared.nodes.Body.TheVariants as body
 use Rattle.sql_tree.specs.declared.nodes.ColType.{ColType}
-use Rattle.sql_tree.specs.declared.nodes.Column.{Column}
 use Rattle.sql_tree.specs.declared.nodes.Elem.{Elem}
-use Rattle.sql_tree.specs.declared.nodes.Elem.TheVariants as elem
 use Rattle.sql_tree.specs.declared.nodes.Stmt.{Stmt}
-use Rattle.sql_tree.specs.declared.nodes.TyKind.TheVariants as kind
-use Rattle.sql_tree.specs.Nodes.{actions_in, elements_in}
+use Rattle.sql_tree.specs.Nodes.{actions_in}
 use Rattle.sql_tree.specs.Path.{path_cuts}
 use Rattle.sql_tree.specs.Range.{token_at}
 use Rattle.sql_tree.specs.Statement.{Tree, IsTree}
-use Rattle.law_renumber.specs.Moved.{action_moved, body_moved, column_moved, elem_moved, span_moved, stmt_moved, type_moved}
+use Rattle.law_renumber.specs.Moved.{action_moved, span_moved, stmt_moved, type_moved}
 use Rattle.law_edit_inserts.specs.Apart.{outside}
 use Rattle.law_edit_inserts.proofs.Apart.{stays_within, statements_apart}
 use Rattle.law_edit_types.specs.Runs.{fused, worded_tree}
-use Rattle.law_edit_types.specs.Types.{retyped_column}
-use Rattle.law_edit_types.specs.Altered.{ActionNow, IsRetyped, retyped_action, retyped_in}
-use Rattle.law_edit_types.specs.Altered.IsRetyped.{column, constraint}
-use Rattle.law_edit_types.specs.Created.{TableHead, head_moved, retyped_table, table_of}
+use Rattle.law_edit_types.specs.Created.{TableHead, head_moved, table_of}
 use Rattle.lint_base.specs.declared.settings.LinterSettings.{LinterSettings}
 use Rattle.lint_base.specs.declared.violation.Violation.{Violation}
 use Rattle.lint_lock.specs.Slow.{has_reference, is_slow, refers}
-use Rattle.lint_node.specs.ColumnTypes.{action_types, column_types, element_type}
-use Rattle.lint_node.specs.Plain.{drops_plainly, is_plain_detach, is_plain_drop, is_plain_reindex, rebuilds_plainly}
-use Rattle.lint_node.specs.Same.{same_action, same_kind}
+use Rattle.lint_node.specs.ColumnTypes.{column_types}
+use Rattle.lint_node.specs.Plain.{drops_plainly, is_plain_detach, rebuilds_plainly}
+use Rattle.lint_node.specs.Same.{same_kind}
 use Rattle.lint_pass.specs.Those.{that, those}
 use Rattle.lint_transaction.specs.Names.{name_at}
 use Rattle.lint_transaction.specs.Transaction.{begins, chains_by, created_by, creates, ends_by, is_path, same_path}
@@ -49,24 +38,19 @@ use Rattle.pass_concurrent.specs.RequireConcurrentIndexDeletion as drops
 use Rattle.pass_concurrent.specs.RequireConcurrentPartitionDetach as detaches
 use Rattle.pass_concurrent.specs.RequireConcurrentReindex as reindexes
 use Rattle.pass_session.specs.RequireTimeoutSettings.{is_parameter, parameter_by}
-use Rattle.law_fixes.proofs.Detached.{all_after, all_before, both_all, stmt_actions_fixed}
+use Rattle.law_fixes.proofs.Detached.{all_after, all_before, both_all}
 use Rattle.law_type_fixes.specs.Rules.{TypeRule, reports_on}
-use Rattle.law_type_fixes.specs.Words.{AreWord}
-use Rattle.law_type_fixes.specs.Words.AreWord.{path as named, none as gone}
-use Rattle.law_type_fixes.proofs.TypesApart.{types_apart}
-use Rattle.law_type_fixes.proofs.ColumnTypes.{types_moved}
 use Rattle.law_type_fixes.proofs.Tokens.{word_number, word_text, fused_low}
 use Rattle.law_type_fixes.proofs.Homes.{flat_append}
 use Rattle.law_fixes.proofs.DetachStays.{plain_moved}
-use Rattle.law_fix_steps.specs.Kept.{SameAt, Kept}
+use Rattle.law_fix_steps.specs.Kept.{Kept}
 use Rattle.law_fix_steps.proofs.Kept.{NodeKept, kept_after, kept_append, that_kept, those_kept}
-use Rattle.law_fix_steps.proofs.Like.{Aligned, Like, type_rules}
+use Rattle.law_fix_steps.proofs.Like.{Like, type_rules}
 use Rattle.law_fix_steps.proofs.Concurrently as concurrently
-use Rattle.law_fix_steps.proofs.Moved.{Follows, TypeFollows, detach_node, fixed_types, refers_same, slow_same, types_kept}
+use Rattle.law_fix_steps.proofs.Moved.{Follows, TypeFollows, fixed_types, slow_same, types_kept}
 use Rattle.law_fix_steps.proofs.Paths.{path_follows}
-use Rattle.law_fix_steps.proofs.TypeNames.{IsNewName, all_see, all_silent}
+use Rattle.law_fix_steps.proofs.TypeNames.{all_see}
 use Rattle.law_fix_steps.proofs.CreatedPaths.{Below}
-use Rattle.law_fix_steps.proofs.ActionsAside.{Aside}
 use Rattle.law_fix_steps.proofs.Worded as worded
 
 -- ---- tables and alterations: bodies in which the other rules see nothing

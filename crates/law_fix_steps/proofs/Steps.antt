@@ -1,5 +1,5 @@
 -- Each fix of a listed rule is a step.
-use Rattle.std.proofs.Common.{◌≡◌, ◌≢◌, ℕ, zero, suc, ◌+◌, ◌<◌, ◌≤◌, ◌⊎◌, ◌^◌, inl, inr, Bool, true, false, List, [], ◌∷◌, ◌++◌, map, length, append_assoc, sym, refl, ap, ◌∙◌, subst, arith, Some}
+use Rattle.std.proofs.Common.{◌≡◌, ◌≢◌, ℕ, ◌<◌, ◌≤◌, ◌^◌, true, List, [], ◌∷◌, ◌++◌, length, append_assoc, sym, refl, ◌∙◌, subst, arith, Some}
 use Rattle.std.proofs.lemmas.List.Elements.{All-nil, All-cons, All-head, All-tail, All-weaker}
 use Rattle.std.specs.Prelude.{All}
 use Rattle.sql_tree.specs.Statement.{Tree, IsTree}
@@ -11,7 +11,7 @@ use Rattle.lint_base.specs.Fixes.{FixValue}
 use Rattle.lint_base.specs.RuleSets.{Rules}
 use Rattle.lint_ignore.specs.Comment.{has_disable_comment}
 use Rattle.law_fixes.specs.Edited.{edited, place_moved}
-use Rattle.law_fixes.specs.Mended.{FixMends, Mended, Table}
+use Rattle.law_fixes.specs.Mended.{Mended, Table}
 use Rattle.law_fix_steps.specs.Kept.{SameAt, Kept}
 use Rattle.law_fix_steps.specs.Step.{listed_tables, load_of, FixSteps, FixesStep, JoinNoWord, Steps}
 use Rattle.law_fix_steps.proofs.Fits.{Anywhere, StepsIf}

@@ -1,47 +1,27 @@
 -- The fixes that set a timeout at the start of a text are steps.
-use Rattle.std.proofs.Common.{◌≡◌, ◌≢◌, ◌⊎◌, inl, inr, ℕ, zero, suc, ◌+◌, ◌-◌, ◌<◌, ◌≤◌, ◌^◌, Bool, true, false, cond, List, [], ◌∷◌, ◌++◌, map, length, length-append, get_or, take, drop, append_assoc, append-nil, sym, refl, ap, ◌∙◌, subst, arith, Some, None, Result, Ok}
-use Rattle.std.proofs.lemmas.Bool.Decides.{nat_tests}
-use Rattle.std.proofs.lemmas.Bool.{and_from}
-use Rattle.std.proofs.lemmas.List.{drop-drop, drop_at, take_at, get_or-append-add, get_or_at}
+use Rattle.std.proofs.Common.{◌≡◌, ◌≢◌, ◌⊎◌, inl, inr, ℕ, ◌<◌, ◌^◌, Bool, true, List, [], ◌∷◌, ◌++◌, length, sym, refl, ap, ◌∙◌, subst, Some}
 use Rattle.std.proofs.lemmas.List.Elements.{All-nil, All-append}
-use Rattle.std.specs.Prelude.{All, ◌==◌, ◌&&◌, ◌||◌, not, nat_le, nat_lt, codes}
-use Rattle.std.specs.List.{position_or_len}
-use Rattle.std.specs.Str.{bytes_eq}
-use Rattle.text_pos.specs.declared.ending.LineEnding.{LineEnding}
-use Rattle.text_pos.specs.declared.ending.LineEnding.TheVariants.{Lf, CrLf}
+use Rattle.std.specs.Prelude.{All, codes}
 use Rattle.text_pos.specs.Line.{ending_bytes, line_ending_of}
-use Rattle.sql_name.specs.Name.{full_name}
-use Rattle.sql_token.specs.Token.{Text, Leads, text_of}
-use Rattle.sql_token.specs.Terminal.{is_significant, is_significant_token, symbol_of, terminals}
-use Rattle.sql_token.specs.declared.terminal.Symbol.TheVariants as s
-use Rattle.sql_token.specs.declared.token.Tok.{Tok}
-use Rattle.sql_token.specs.declared.token.TokKind.TheVariants.{Word}
-use Rattle.sql_token.proofs.Statements.{by_counts}
+use Rattle.sql_token.specs.Token.{Text}
 use Rattle.sql_tree.specs.declared.nodes.Stmt.{Stmt}
-use Rattle.sql_tree.specs.Range.{token_at}
-use Rattle.sql_tree.specs.Statement.{Tree, IsTree, all_statements, no_token}
-use Rattle.law_edit_tokens.specs.Edits.{IsEnding, all_quiet, set_made}
-use Rattle.law_edit_tokens.specs.Exchange.{IsPlainWord, Made, exchanged, made_text, made_toks, tok_moved}
-use Rattle.law_edit_tokens.proofs.After.{exchanged_at, leads_split, leads_within}
-use Rattle.law_edit_tokens.proofs.Terminals.{quiet_terms}
+use Rattle.sql_tree.specs.Statement.{Tree, IsTree}
+use Rattle.law_edit_tokens.specs.Edits.{all_quiet, set_made}
+use Rattle.law_edit_tokens.specs.Exchange.{exchanged, made_text}
 use Rattle.law_edit_inserts.specs.SetInFront.{set_tree}
-use Rattle.law_edit_inserts.proofs.Sets.{set_in_front, timeouts_are_words}
-use Rattle.law_edit_inserts.proofs.Statements.{of_read}
+use Rattle.law_edit_inserts.proofs.Sets.{set_in_front}
 use Rattle.lint_base.specs.declared.edit.Edit.{Edit}
-use Rattle.lint_base.specs.declared.rule.Rule.{Rule}
 use Rattle.lint_base.specs.declared.rule.Rule.TheVariants as rule
 use Rattle.lint_base.specs.declared.violation.Violation.{Violation}
 use Rattle.lint_base.specs.Edits.{insertion}
 use Rattle.lint_base.specs.Fixes.{FixValue}
 use Rattle.lint_base.specs.RuleSets.{Rules, has}
-use Rattle.lint_transaction.specs.Earlier.{any_below, concat_below}
-use Rattle.lint_transaction.specs.Names.{name_at}
+use Rattle.lint_transaction.specs.Earlier.{concat_below}
 use Rattle.lint_transaction.specs.Transaction.{stmt_at}
 use Rattle.lint_pass.specs.RuleLaws.{one_all, pieces_all, unless_all}
-use Rattle.pass_session.specs.RequireTimeoutSettings.{is_first_slow, is_set, lock_report, lock_timeout, setting_fix, sets_at, statement_report, statement_timeout, timeouts_at, reports_of_require_timeout_settings, both_reports}
-use Rattle.pass_session.specs.Tokens.{first_place, first_significant, or_first}
+use Rattle.pass_session.specs.RequireTimeoutSettings.{is_first_slow, is_set, lock_report, lock_timeout, setting_fix, statement_report, statement_timeout, timeouts_at, reports_of_require_timeout_settings, both_reports}
 use Rattle.law_fixes.specs.Edited.{edited}
-use Rattle.law_fixes.specs.Timeouts.{SetMended, TimeoutsMend}
+use Rattle.law_fixes.specs.Timeouts.{SetMended}
 use Rattle.law_fixes.proofs.Fixed.{inside_some, one_edited, one_moved}
 use Rattle.law_fixes.proofs.Detached.{where_list}
 use Rattle.std.proofs.lemmas.List.Elements.{All-weaker}

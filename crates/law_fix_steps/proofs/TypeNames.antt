@@ -1,17 +1,14 @@
 -- What the four rules on column types see of a type: nothing of the text but its name.
-use Rattle.std.proofs.Common.{◌≡◌, ℕ, Bool, true, false, cond, List, sym, refl, ap, ◌∙◌, subst, Option, Some, None}
+use Rattle.std.proofs.Common.{◌≡◌, ℕ, Bool, true, false, cond, List, sym, refl, ap, ◌∙◌, subst, None}
 use Rattle.std.proofs.lemmas.List.Elements.{All-nil, All-cons}
 use Rattle.std.specs.Prelude.{All, ◌&&◌, ◌||◌, not, codes, is_some, [], ◌∷◌}
-use Rattle.std.specs.Option.{option_map}
 use Rattle.std.specs.Str.{bytes_eq}
 use Rattle.sql_name.specs.Name.{full_name}
-use Rattle.sql_token.specs.declared.token.Span.{Span}
 use Rattle.sql_tree.specs.declared.nodes.ColType.{ColType}
-use Rattle.sql_tree.specs.declared.nodes.TyKind.{TyKind}
 use Rattle.sql_tree.specs.declared.nodes.TyKind.TheVariants as kind
 use Rattle.sql_tree.specs.Range.{token_at}
 use Rattle.sql_tree.specs.Statement.{Tree}
-use Rattle.law_renumber.specs.Moved.{span_moved, type_moved}
+use Rattle.law_renumber.specs.Moved.{type_moved}
 use Rattle.lint_node.specs.ColumnTypes.{has_arguments, is_of_kind, is_without_zone}
 use Rattle.lint_node.specs.Same.{same_type}
 use Rattle.lint_transaction.specs.Names.{name_at}
@@ -19,7 +16,7 @@ use Rattle.pass_data_type.specs.declared.wider_integers.WideInteger.{WideInteger
 use Rattle.pass_data_type.specs.declared.wider_integers.WideInteger.TheVariants as wide
 use Rattle.pass_data_type.specs.PreferTextField as varchar
 use Rattle.pass_data_type.specs.PreferTimestamptz as timestamp
-use Rattle.pass_data_type.specs.TypeNames.{is_named, row_for, row_of}
+use Rattle.pass_data_type.specs.TypeNames.{row_for, row_of}
 use Rattle.pass_data_type.specs.WiderIntegers as integer
 use Rattle.law_type_fixes.specs.Rules.{TypeRule, varchars, timestamps, ints, smallints}
 use Rattle.law_type_fixes.proofs.Reports.{arguments_stay, row_stays}

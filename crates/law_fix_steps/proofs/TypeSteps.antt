@@ -1,15 +1,13 @@
 -- The fixes of column types: the tree that each makes is seen alike.
-use Rattle.std.proofs.Common.{◌≡◌, ℕ, zero, suc, ◌+◌, ◌<◌, ◌≤◌, ◌⊎◌, inl, inr, ◌^◌, Bool, true, false, cond, List, [], ◌∷◌, ◌++◌, map, length, append_assoc, sym, refl, ap, ◌∙◌, subst, arith, Option, Some, None}
+use Rattle.std.proofs.Common.{◌≡◌, ℕ, ◌+◌, ◌<◌, ◌≤◌, ◌⊎◌, inl, inr, ◌^◌, Bool, true, false, List, [], ◌∷◌, ◌++◌, map, length, sym, refl, ap, ◌∙◌, subst, arith, Option}
 use Rattle.std.proofs.lemmas.Bool.{cases_lt}
 use Rattle.std.proofs.lemmas.List.{map-append}
 use Rattle.std.proofs.lemmas.List.Elements.{All-nil, All-cons, All-head, All-tail, All-weaker}
 use Rattle.std.specs.Prelude.{All, ◌&&◌, ◌||◌, is_none}
 use Rattle.std.specs.List.{flat_map, list_any}
 use Rattle.std.specs.Option.{option_map}
-use Rattle.sql_name.specs.Name.{full_name}
 use Rattle.sql_token.specs.declared.token.Span.{Span}
 use Rattle.sql_token.specs.Token.{Text}
-use Rattle.sql_tree.specs.declared.kinds.ActionKind.{ActionKind}
 use Rattle.sql_tree.specs.declared.kinds.ActionKind.TheVariants as action
 use Rattle.sql_tree.specs.declared.kinds.StmtKind.TheVariants as stmt
 use Rattle.sql_tree.specs.declared.nodes.Action.{Action}
@@ -19,7 +17,6 @@ use Rattle.sql_tree.specs.declared.nodes.ColType.{ColType}
 use Rattle.sql_tree.specs.declared.nodes.Column.{Column}
 use Rattle.sql_tree.specs.declared.nodes.Elem.{Elem}
 use Rattle.sql_tree.specs.declared.nodes.Elem.TheVariants as elem
-use Rattle.sql_tree.specs.declared.nodes.Piece.{Piece}
 use Rattle.sql_tree.specs.declared.nodes.Stmt.{Stmt}
 use Rattle.sql_tree.specs.declared.nodes.TyKind.TheVariants as kind
 use Rattle.sql_tree.specs.Nodes.{actions_in}
@@ -51,8 +48,8 @@ use Rattle.law_type_fixes.specs.Rules.{reports_on}
 use Rattle.law_type_fixes.specs.Words.{AddsConstraint, AreWord, WordNow}
 use Rattle.law_type_fixes.specs.Words.AreWord.{path as named, none as gone}
 use Rattle.law_type_fixes.proofs.ColumnTypes.{types_moved}
-use Rattle.law_type_fixes.proofs.Homes.{Home, home}
-use Rattle.law_type_fixes.proofs.Inners.{altered_types, inners_become_words}
+use Rattle.law_type_fixes.proofs.Homes.{home}
+use Rattle.law_type_fixes.proofs.Inners.{altered_types}
 use Rattle.law_type_fixes.proofs.TypesApart.{types_apart}
 use Rattle.sql_tree.proofs.TreeLaws.{one_tree}
 use Rattle.law_type_fixes.proofs.Tables.{one_of}

@@ -1,6 +1,6 @@
 -- The fixes of column types are steps.
-use Rattle.std.proofs.Common.{◌≡◌, ℕ, ◌<◌, ◌≤◌, ◌⊎◌, ◌^◌, inl, inr, Bool, true, false, cond, List, [], ◌∷◌, ◌++◌, map, length, append_assoc, sym, refl, ap, ◌∙◌, subst, arith, Option, Some, None}
-use Rattle.std.proofs.lemmas.List.Elements.{All-nil, All-cons, All-head, All-append, All-weaker}
+use Rattle.std.proofs.Common.{◌≡◌, ℕ, ◌<◌, ◌≤◌, ◌⊎◌, ◌^◌, inl, inr, Bool, true, false, cond, List, [], ◌∷◌, ◌++◌, length, sym, refl, ap, ◌∙◌, subst, arith, Some, None}
+use Rattle.std.proofs.lemmas.List.Elements.{All-nil, All-cons, All-head, All-weaker}
 use Rattle.std.specs.Prelude.{All, codes}
 use Rattle.std.specs.Option.{unwrap_or}
 use Rattle.text_pos.specs.Range.{Range}
@@ -9,9 +9,8 @@ use Rattle.sql_tree.specs.declared.nodes.ColType.{ColType}
 use Rattle.sql_tree.specs.declared.nodes.Stmt.{Stmt}
 use Rattle.sql_tree.specs.Range.{span_range_of}
 use Rattle.sql_tree.specs.Statement.{Tree, IsTree}
-use Rattle.law_renumber.specs.Moved.{stmt_moved}
 use Rattle.law_edit_inserts.proofs.Apart.{stays_within}
-use Rattle.law_edit_types.specs.Runs.{fused, worded_tree}
+use Rattle.law_edit_types.specs.Runs.{worded_tree}
 use Rattle.lint_base.specs.declared.edit.Edit.{Edit}
 use Rattle.lint_base.specs.declared.settings.LinterSettings.{LinterSettings}
 use Rattle.lint_base.specs.declared.violation.Violation.{Violation}
@@ -20,23 +19,20 @@ use Rattle.lint_base.specs.Fixes.{FixValue}
 use Rattle.lint_base.specs.RuleSets.{Rules, has}
 use Rattle.lint_node.specs.ColumnTypes.{column_types, is_without_zone}
 use Rattle.lint_pass.specs.Fixes.{replacement_fix}
-use Rattle.lint_pass.specs.RuleLaws.{one_all, pieces_all, where_all}
+use Rattle.lint_pass.specs.RuleLaws.{pieces_all, where_all}
 use Rattle.lint_pass.specs.RuleTables.{enabled_reports}
-use Rattle.lint_pass.specs.Those.{that}
 use Rattle.lint_transaction.specs.Transaction.{no_stmt, stmt_at}
 use Rattle.pass_data_type.specs.declared.wider_integers.WideInteger.TheVariants as wide
 use Rattle.pass_data_type.specs.PreferTextField as varchar
 use Rattle.pass_data_type.specs.PreferTimestamptz as timestamp
 use Rattle.pass_data_type.specs.TypeNames.{row_for}
 use Rattle.pass_data_type.specs.WiderIntegers as integer
-use Rattle.law_fixes.specs.Edited.{edited, place_moved}
-use Rattle.law_fixes.specs.Mended.{Mended, Table, builds, detached, dropped, rebuilt}
+use Rattle.law_fixes.specs.Mended.{Table, builds, detached, dropped, rebuilt}
 use Rattle.law_fixes.proofs.Fixed.{At, at_or_none, inside_some}
 use Rattle.law_type_fixes.specs.Mended.{AreApart, JoinsNone, TypeFixMends, TypeFixesMend, WithRun}
 use Rattle.law_type_fixes.specs.Moved.{byte_moved}
 use Rattle.law_type_fixes.specs.Rules.{TypeRule, reports_on, type_reports, type_table, ints, smallints, timestamps, varchars}
 use Rattle.law_type_fixes.specs.Stays.{replaced}
-use Rattle.law_type_fixes.specs.Words.{AreWord, TypesNow}
 use Rattle.law_type_fixes.proofs.ColumnTypes.{no_types}
 use Rattle.law_type_fixes.proofs.Edits.{puts_word}
 use Rattle.law_type_fixes.proofs.Fixes.{ints_mend, smallints_mend, timestamps_mend, varchars_mend, all_reports}
@@ -45,11 +41,10 @@ use Rattle.law_type_fixes.proofs.LastNames.{names_become_words}
 use Rattle.law_type_fixes.proofs.Tokens.{bounds}
 use Rattle.law_type_fixes.proofs.TypesApart.{types_apart}
 use Rattle.law_type_fixes.proofs.Words.{HasFix, InnerFix, NameFix, ints_fix, smallints_fix, timestamps_fix, varchars_fix}
-use Rattle.law_fix_steps.specs.Kept.{SameAt}
 use Rattle.law_fix_steps.specs.Step.{FixesStep, FixSteps, JoinNoWord, timeouts}
 use Rattle.law_fix_steps.proofs.Fits.{BetweenWords, StepsIf}
 use Rattle.law_fix_steps.proofs.Comments.{type_says}
-use Rattle.law_fix_steps.proofs.Steps.{Aligns, FixAligns, FixSilences, both_of, mended_silences, table_steps}
+use Rattle.law_fix_steps.proofs.Steps.{FixAligns, FixSilences, both_of, mended_silences, table_steps}
 use Rattle.law_fix_steps.proofs.TypeNames.{IsNewName}
 use Rattle.law_fix_steps.proofs.TypeNames.IsNewName.{text, timestamptz, wider}
 use Rattle.law_fix_steps.proofs.TypeSteps.{renamed_aligned, retyped_aligned}

@@ -1,10 +1,9 @@
 -- The fixes that put the word CONCURRENTLY into a text are steps.
-use Rattle.std.proofs.Common.{◌≡◌, ℕ, ◌<◌, ◌⊎◌, ◌^◌, inl, inr, Bool, true, false, cond, List, [], ◌∷◌, ◌++◌, map, length, append_assoc, sym, refl, ap, ◌∙◌, subst, Option, Some, None}
-use Rattle.std.proofs.lemmas.List.Elements.{All-nil, All-append, All-weaker}
+use Rattle.std.proofs.Common.{◌≡◌, ℕ, ◌<◌, ◌⊎◌, ◌^◌, inl, inr, true, List, [], ◌∷◌, ◌++◌, length, sym, refl, ap, ◌∙◌, subst, Option, Some, None}
+use Rattle.std.proofs.lemmas.List.Elements.{All-nil, All-weaker}
 use Rattle.std.specs.Prelude.{All}
 use Rattle.sql_token.specs.Token.{Text}
 use Rattle.sql_token.specs.declared.token.Span.{Span}
-use Rattle.sql_tree.specs.declared.kinds.StmtKind.{StmtKind}
 use Rattle.sql_tree.specs.declared.kinds.StmtKind.TheVariants as stmt
 use Rattle.sql_tree.specs.declared.nodes.Action.{Action}
 use Rattle.sql_tree.specs.declared.nodes.Body.{Body}
@@ -15,37 +14,33 @@ use Rattle.sql_tree.specs.Statement.{Tree, IsTree}
 use Rattle.law_edit_inserts.specs.Built.{concurrently_tree, detached_stmt, concurrent_stmt, DetachTakesConcurrently, TakesConcurrently}
 use Rattle.law_edit_inserts.proofs.DetachFields.{detach_has_path, detach_reads}
 use Rattle.law_edit_inserts.proofs.Fields.{concurrently_reads}
-use Rattle.lint_base.specs.declared.edit.Edit.{Edit}
 use Rattle.lint_base.specs.declared.rule.Rule.TheVariants as rule
 use Rattle.lint_base.specs.declared.settings.LinterSettings.{LinterSettings}
 use Rattle.lint_base.specs.declared.violation.Violation.{Violation}
-use Rattle.lint_base.specs.Fixes.{FixValue}
 use Rattle.lint_base.specs.RuleSets.{Rules, has}
 use Rattle.lint_node.specs.Plain.{is_plain_detach}
 use Rattle.lint_node.specs.Same.{same_kind}
 use Rattle.lint_pass.specs.RuleLaws.{one_all, pieces_all, unless_all, where_all}
 use Rattle.lint_pass.specs.RuleTables.{enabled_reports}
-use Rattle.lint_pass.specs.Those.{that, those}
+use Rattle.lint_pass.specs.Those.{those}
 use Rattle.lint_transaction.specs.Transaction.{no_stmt, stmt_at}
 use Rattle.pass_concurrent.specs.Concurrently.{concurrently_after}
 use Rattle.pass_concurrent.specs.RequireConcurrentPartitionDetach.{reports_of_require_concurrent_partition_detach, end_of, report}
-use Rattle.law_fixes.specs.Edited.{edited, place_moved}
-use Rattle.law_fixes.specs.Mended.{FixMends, FixesMend, Mended, Reports, Table, WithWord, table_by, builds, builds_of, deletions_of, detached, detachments_of, dropped, rebuilds_of, rebuilt}
+use Rattle.law_fixes.specs.Mended.{FixMends, FixesMend, Reports, Table, WithWord, table_by, builds, builds_of, deletions_of, detached, detachments_of, dropped, rebuilds_of, rebuilt}
 use Rattle.law_fixes.specs.Moved.{start_moved}
 use Rattle.law_fixes.specs.Stays.{inserted, place_of}
 use Rattle.law_fixes.proofs.Detached.{Alters, alters, build, detached_mend, is_plain, path_end, table_kind, those_in, where_those}
 use Rattle.law_fixes.proofs.Detached.Alters.{alter, other}
 use Rattle.law_fixes.proofs.Fixed.{At, at_or_none, builds_mend, dropped_mend, inside_some, puts_word, rebuilt_mend}
-use Rattle.law_fixes.proofs.Statements.{Added, inside}
+use Rattle.law_fixes.proofs.Statements.{inside}
 use Rattle.law_fixes.proofs.WordRules.{Same, added, builds_are, deletion_rule, deletions_are, index_rule, is_deletion_rule, is_index_rule, is_reindex_rule, rebuilds_are, reindex_rule, table_is}
 use Rattle.law_fixes.proofs.Words.{IsWordRule, Target, WordRule, is_excused, kept_is, word_report, word_reports, word_reports_at, word_reports_by, word_table}
 use Rattle.law_type_fixes.specs.Rules.{type_table, ints, smallints, timestamps, varchars}
-use Rattle.law_fix_steps.specs.Kept.{SameAt}
-use Rattle.law_fix_steps.specs.Step.{listed_tables, timeouts}
+use Rattle.law_fix_steps.specs.Step.{timeouts}
 use Rattle.law_fix_steps.proofs.Fits.{Anywhere, StepsIf}
 use Rattle.law_fix_steps.proofs.Comments.{word_says}
 use Rattle.law_fix_steps.proofs.Concurrently.{detach_aligned, word_aligned}
-use Rattle.law_fix_steps.proofs.Steps.{Aligns, FixAligns, FixSilences, mended_silences, table_steps}
+use Rattle.law_fix_steps.proofs.Steps.{FixAligns, FixSilences, mended_silences, table_steps}
 
 -- ---- CREATE INDEX, DROP INDEX and REINDEX
 
