@@ -4,9 +4,9 @@ use Rattle.std.specs.Str.{IsUtf8}
 use Rattle.std.specs.Io.KnownBytes.{Appends}
 use Rattle.squawk_linter.specs.declared.linter.Linter.{Linter}
 use Rattle.diag_json.specs.declared.diagnostic.Diagnostic.{Diagnostic}
-use Rattle.diag_command.specs.Written.{WroteAs, printed, status_by}
-use Rattle.diag_command.specs.declared.status.Status.{Status}
-use Rattle.diag_command.specs.declared.status.Status.TheVariants.{Clean, Found, BadArguments, NotUtf8, TooLong, Unterminated, Syntax, ReadFault, WriteFault, NoMemory}
+use Rattle.squawk_diag.specs.Written.{WroteAs, printed, status_by}
+use Rattle.squawk_run.specs.declared.status.Status.{Status}
+use Rattle.squawk_run.specs.declared.status.Status.TheVariants.{Clean, Found, BadArguments, NotUtf8, TooLong, Unterminated, Syntax, ReadFault, WriteFault, NoMemory}
 use Rattle.squawk_diag.specs.Chosen.{linter_of}
 use Rattle.squawk_diag.specs.Outcome.{AnsweredAs, AnsweredFor, AreFor}
 

@@ -10,10 +10,10 @@ use Rattle.sql_tree.proofs.TreeLaws as tree
 use Rattle.squawk_run.proofs.Runs.{done_by}
 use Rattle.squawk_run.specs.Ends.{Finished, Refused, Stopped, IsDone, ReadFor, SinkCause, SourceCause, WordsFor}
 use Rattle.squawk_run.specs.declared.stop.Stop.TheVariants as stop
-use Rattle.diag_command.specs.Choices.{AreTaken}
-use Rattle.diag_command.specs.Ends.{end_of}
-use Rattle.diag_command.specs.declared.status.Status.{Status}
-use Rattle.diag_command.specs.declared.status.Status.TheVariants.{Clean, Found, BadArguments, NotUtf8, TooLong, Unterminated, Syntax, ReadFault, WriteFault, NoMemory}
+use Rattle.squawk_run.specs.TextChoices.{AreTaken}
+use Rattle.squawk_run.specs.Statuses.{end_of}
+use Rattle.squawk_run.specs.declared.status.Status.{Status}
+use Rattle.squawk_run.specs.declared.status.Status.TheVariants.{Clean, Found, BadArguments, NotUtf8, TooLong, Unterminated, Syntax, ReadFault, WriteFault, NoMemory}
 use Rattle.squawk_diag.specs.Outcome.{AnsweredFor}
 
 short_of : (t : List ℕ) → IsValid t → length t < 2 ^ 32

@@ -1,3 +1,4 @@
 pub mod Chosen
 pub mod Diagnosed
+pub mod Written
 pub mod Outcome

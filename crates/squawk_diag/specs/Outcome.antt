@@ -7,9 +7,9 @@ use Rattle.sql_token.specs.Token.{OpenAt}
 use Rattle.sql_tree.specs.Statement.{IsSyntaxAt}
 use Rattle.squawk_linter.specs.declared.linter.Linter.{Linter}
 use Rattle.diag_json.specs.declared.diagnostic.Diagnostic.{Diagnostic}
-use Rattle.diag_command.specs.Written.{printed}
-use Rattle.diag_command.specs.declared.status.Status.{Status}
-use Rattle.diag_command.specs.declared.status.Status.TheVariants.{Clean, Found, NotUtf8, Unterminated, Syntax, WriteFault, NoMemory}
+use Rattle.squawk_diag.specs.Written.{printed}
+use Rattle.squawk_run.specs.declared.status.Status.{Status}
+use Rattle.squawk_run.specs.declared.status.Status.TheVariants.{Clean, Found, NotUtf8, Unterminated, Syntax, WriteFault, NoMemory}
 use Rattle.squawk_diag.specs.Chosen.{linter_of}
 use Rattle.squawk_diag.specs.Diagnosed.{AreDiagnostics}
 

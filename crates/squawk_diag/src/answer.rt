@@ -1,13 +1,13 @@
 //! From the bytes of an input to its written diagnostics.
 ghost use Rattle.std.specs.Prelude.{◌<◌, ◌^◌, length};
 ghost use Rattle.squawk_run.specs.Ends.{KeptFor, SinkCause};
-ghost use Rattle.diag_command.specs.Ends.{end_of};
+ghost use Rattle.squawk_run.specs.Statuses.{end_of};
 ghost use Rattle.squawk_diag.specs.Outcome.{AnsweredAs};
 
 use crate::text::diagnose;
-use diag_command::{Status, write_diagnostics};
+use crate::write::write_diagnostics;
 use squawk_linter::{LintError, Linter};
-use squawk_run::text_in;
+use squawk_run::{Status, text_in};
 use squawk_stream::Sink;
 use std::alloc::Global;
 

@@ -1,10 +1,10 @@
 //! The linter that words name.
 ghost use Rattle.std.specs.Prelude.{◌≡◌, ◌↔◌, IfOk, IsSome};
-ghost use Rattle.diag_command.specs.Choices.{AreTaken};
+ghost use Rattle.squawk_run.specs.TextChoices.{AreTaken};
 ghost use Rattle.squawk_diag.specs.Chosen.{linter_by, linter_of};
 
-use diag_command::read_diag_choices;
 use squawk_linter::Linter;
+use squawk_run::read_text_choices;
 use squawk_words::{Choices, Words};
 use std::alloc::Global;
 use text_pos::NoMemory;
@@ -18,13 +18,13 @@ fn linter_by(choices: Choices) -> Linter
     }
 }
 
-/// The linter that words name, or `None` exactly where the words are refused. Which words there are, [`read_diag_choices`] says. The
+/// The linter that words name, or `None` exactly where the words are refused. Which words there are, [`read_text_choices`] says. The
 /// error comes when memory runs out.
 pub(crate) fn linter_of(alloc: Global, words: &Words) -> Result<Option<Linter>, NoMemory>
     ensures value { IfOk result (λ linter. linter ≡ linter_of words.now) }
     ensures taken { IfOk result (λ linter. IsSome linter ↔ AreTaken words.now) }
 {
-    match read_diag_choices(alloc, words)? {
+    match read_text_choices(alloc, words)? {
         None => Ok(None),
         Some(choices) => Ok(Some(linter_by(choices))),
     }

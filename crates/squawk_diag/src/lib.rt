@@ -10,11 +10,12 @@ mod answer;
 mod choose;
 mod command;
 mod text;
+mod write;
 
 pub use command::diag_run;
-pub use diag_command::{Status, say};
 pub use diag_json::{DiagEdit, DiagError, DiagFix, Diagnostic, read_json, write_json};
 pub use squawk_linter::{LintError, Linter};
+pub use squawk_run::{Status, say};
 pub use squawk_stream::{MemSink, MemSource, Sink, SliceSource, Source, StdSink, StdSource};
 pub use squawk_words::Words;
 pub use text::diagnose;

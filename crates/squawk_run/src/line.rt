@@ -1,12 +1,13 @@
 //! The line that a run writes to the error sink.
-
 ghost use Rattle.std.specs.Prelude.{OnOk};
 ghost use Rattle.std.specs.Io.KnownBytes.{Appends};
 ghost use Rattle.squawk_stream.specs.Faults.{Rose, HasCause};
 ghost use Rattle.squawk_stream.specs.Parts.{AppendsPart};
 ghost use Rattle.squawk_run.specs.Lines.{numbered};
+ghost use Rattle.squawk_run.specs.Statuses as statuses;
 ghost use Rattle.squawk_run.specs.Stops.{line_of};
 
+use crate::status::Status;
 use crate::stop::Stop;
 use itoa::Buffer;
 use squawk_stream::{Failed, Sink, write_all};
@@ -53,4 +54,23 @@ pub fn say_stop<E: Sink>(err: &mut E, stop: Stop)
     ensures whole { ¬ (Rose (E.faults err.old) (E.faults err.new)) → Appends (E.held err.old) (E.held err.new) (line_of stop) }
 {
     say_line(err, stop.line())
+}
+
+/// Writes the line of a status, which is empty for `Clean` and `Found`.
+pub fn say<E: Sink>(err: &mut E, status: &Status)
+    ensures part { AppendsPart (E.held err.old) (E.held err.new) (statuses.line_of status.now) }
+    ensures whole { ¬ (Rose (E.faults err.old) (E.faults err.new))
+        → Appends (E.held err.old) (E.held err.new) (statuses.line_of status.now) }
+{
+    match status {
+        Status::Clean | Status::Found => say_line(err, ""),
+        Status::Unterminated { at } => say_line_at(err, "error: unterminated at ", *at),
+        Status::Syntax { at } => say_line_at(err, "error: syntax at ", *at),
+        Status::BadArguments => say_stop(err, Stop::BadArguments),
+        Status::NotUtf8 => say_stop(err, Stop::NotUtf8),
+        Status::TooLong => say_stop(err, Stop::TooLong),
+        Status::ReadFault => say_stop(err, Stop::ReadFault),
+        Status::WriteFault => say_stop(err, Stop::WriteFault),
+        Status::NoMemory => say_stop(err, Stop::NoMemory),
+    }
 }

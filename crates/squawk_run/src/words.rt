@@ -7,8 +7,8 @@ use crate::stop::Stop;
 use squawk_words::Words;
 use std::io::ErrorKind;
 
-/// Adds the words after the program's name. A word that is not UTF-8 is `BadArguments`, and else only memory can be
-/// wanted.
+/// Adds the words after the program's name. A word that is not UTF-8 is `BadArguments`; `NoMemory` comes when memory runs
+/// out.
 pub fn take_words(rt: &HostRuntime, words: &mut Words) -> Result<(), Stop>
     ensures { IfErr result (λ stop. (stop ≡ Stop.BadArguments) ⊎ (stop ≡ Stop.NoMemory)) }
 {

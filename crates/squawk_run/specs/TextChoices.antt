@@ -1,4 +1,4 @@
--- Which words a run that writes diagnostics takes, and what they choose.
+-- Which words a program takes that reads one text and has an output of its own, and what they choose.
 use Rattle.std.specs.Prelude.{List, [], ◌∷◌, Option, None, IsSome, codes, if◌then◌else◌}
 use Rattle.squawk_run.specs.ForeignWords.{has_foreign_word}
 use Rattle.squawk_words.specs.declared.choices.Choices.{Choices}
@@ -10,9 +10,9 @@ abbrev pub foreign_names : List Text
 foreign_names = codes "locks" ∷ codes "generate" ∷ []
 
 -- what the words choose, or nothing where the linter refuses them or one of them is such an option
-abbrev pub diag_choices_of : List Text → Option Choices
-diag_choices_of words = if has_foreign_word foreign_names words then None else choices_of words
+abbrev pub text_choices_of : List Text → Option Choices
+text_choices_of words = if has_foreign_word foreign_names words then None else choices_of words
 
 -- the words are taken
 abbrev pub AreTaken : List Text → Type 0
-AreTaken words = IsSome (diag_choices_of words)
+AreTaken words = IsSome (text_choices_of words)

@@ -1,10 +1,10 @@
-//! How a run ends.
+//! How the run of a program ends that lints one text.
 ghost use Rattle.std.specs.Prelude.{◌≡◌};
-ghost use Rattle.diag_command.specs.Ends.{code_of};
+ghost use Rattle.squawk_run.specs.Statuses.{code_of};
 
-use squawk_run::Stop;
+use crate::stop::Stop;
 
-/// How a run ends. The places are bytes of the input, counted from 0.
+/// How the run of a program ends that lints one text. The places are bytes of the input, counted from 0.
 #[derive(Clone, Copy, Debug, PartialEq, Eq)]
 pub enum Status {
     /// The input was linted, and nothing was reported.
@@ -23,7 +23,7 @@ pub enum Status {
     Syntax { at: u32 },
     /// A read failed.
     ReadFault,
-    /// A write of the diagnostics failed.
+    /// A write of what the program says of the text failed.
     WriteFault,
     /// Memory ran out.
     NoMemory,
@@ -50,7 +50,7 @@ impl Status {
 /// The status of a run that was stopped.
 impl From<Stop> for Status {
     ghost use Rattle.std.specs.Prelude.{◌≡◌};
-    ghost use Rattle.diag_command.specs.Ends.{of_stop};
+    ghost use Rattle.squawk_run.specs.Statuses.{of_stop};
 
     ghost from_gives = { λ stop status. status ≡ of_stop stop };
 

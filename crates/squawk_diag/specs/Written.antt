@@ -4,8 +4,8 @@ use Rattle.std.specs.Io.KnownBytes.{Appends}
 use Rattle.squawk_stream.specs.Parts.{AppendsPart}
 use Rattle.diag_json.specs.declared.diagnostic.Diagnostic.{Diagnostic}
 use Rattle.diag_json.specs.Json.{json_text}
-use Rattle.diag_command.specs.declared.status.Status.{Status}
-use Rattle.diag_command.specs.declared.status.Status.TheVariants.{Clean, Found, WriteFault, NoMemory}
+use Rattle.squawk_run.specs.declared.status.Status.{Status}
+use Rattle.squawk_run.specs.declared.status.Status.TheVariants.{Clean, Found, WriteFault, NoMemory}
 
 -- their JSON and a line feed
 abbrev pub printed : List Diagnostic → List ℕ

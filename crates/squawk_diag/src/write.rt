@@ -1,11 +1,11 @@
 //! Writing diagnostics to a sink.
 ghost use Rattle.std.specs.Prelude.{◌≡◌, IfOk, string_bytes};
 ghost use Rattle.squawk_run.specs.Ends.{KeptFor, SinkCause};
-ghost use Rattle.diag_command.specs.Ends.{end_of};
-ghost use Rattle.diag_command.specs.Written.{WroteAs, printed, status_by};
+ghost use Rattle.squawk_run.specs.Statuses.{end_of};
+ghost use Rattle.squawk_diag.specs.Written.{WroteAs, printed, status_by};
 
-use crate::status::Status;
 use diag_json::{Diagnostic, write_json};
+use squawk_run::Status;
 use squawk_stream::{Failed, Sink, write_all};
 use std::alloc::Global;
 use text_pos::NoMemory;

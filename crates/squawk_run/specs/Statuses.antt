@@ -1,12 +1,12 @@
--- The exit status, the line and the end of each status.
+-- The exit status, the line and the end of each status of a program that lints one text.
 use Rattle.std.specs.Prelude.{ℕ, List, [], codes}
 use Rattle.squawk_run.specs.declared.stop.Stop.{Stop}
 use Rattle.squawk_run.specs.declared.stop.Stop.TheVariants as stop
 use Rattle.squawk_run.specs.Ends.{End, Finished, Refused, Stopped}
 use Rattle.squawk_run.specs.Lines.{numbered}
 use Rattle.squawk_run.specs.Stops as stops
-use Rattle.diag_command.specs.declared.status.Status.{Status}
-use Rattle.diag_command.specs.declared.status.Status.TheVariants.{Clean, Found, BadArguments, NotUtf8, TooLong, Unterminated, Syntax, ReadFault, WriteFault, NoMemory}
+use Rattle.squawk_run.specs.declared.status.Status.{Status}
+use Rattle.squawk_run.specs.declared.status.Status.TheVariants.{Clean, Found, BadArguments, NotUtf8, TooLong, Unterminated, Syntax, ReadFault, WriteFault, NoMemory}
 
 abbrev pub of_stop : Stop → Status
 of_stop stop.BadArguments = BadArguments
@@ -16,7 +16,7 @@ of_stop stop.ReadFault = ReadFault
 of_stop stop.WriteFault = WriteFault
 of_stop stop.NoMemory = NoMemory
 
--- how a run with this status ended: the diagnostics were written, the text is refused, or the run was stopped
+-- how a run with this status ended: the text was linted and what is said of it was written, the text is refused, or the run was stopped
 abbrev pub end_of : Status → End
 end_of Clean = Finished
 end_of Found = Finished
