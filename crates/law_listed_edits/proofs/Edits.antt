@@ -1,7 +1,7 @@
 -- The edits of the fixes of the ten rules.
-use Rattle.std.proofs.Common.{◌≡◌, ℕ, ◌+◌, ◌<◌, ◌≤◌, ◌⊎◌, inl, inr, Bool, true, false, List, [], ◌∷◌, ◌++◌, length, sym, refl, ap, ◌∙◌, subst, arith, Some, None, IfSome}
+use Rattle.std.proofs.Common.{◌≡◌, ℕ, ◌<◌, ◌≤◌, ◌⊎◌, inl, inr, Bool, true, List, [], ◌∷◌, ◌++◌, length, sym, refl, ap, ◌∙◌, subst, arith, Some, None}
 use Rattle.std.proofs.lemmas.List.Elements.{All-nil, All-append}
-use Rattle.std.specs.Prelude.{All, codes}
+use Rattle.std.specs.Prelude.{All}
 use Rattle.sql_token.specs.Token.{Text}
 use Rattle.sql_tree.specs.declared.nodes.Action.{Action}
 use Rattle.sql_tree.specs.declared.nodes.Body.{Body}
@@ -11,7 +11,6 @@ use Rattle.sql_tree.specs.declared.nodes.Stmt.{Stmt}
 use Rattle.sql_tree.specs.Range.{token_at, span_range_of}
 use Rattle.sql_tree.specs.Statement.{Tree, IsTree}
 use Rattle.law_edit_inserts.proofs.Apart.{stays_within}
-use Rattle.lint_base.specs.declared.rule.Rule.{Rule}
 use Rattle.lint_base.specs.declared.rule.Rule.TheVariants as rule
 use Rattle.lint_base.specs.declared.settings.LinterSettings.{LinterSettings}
 use Rattle.lint_base.specs.declared.violation.Violation.{Violation}
@@ -23,7 +22,6 @@ use Rattle.lint_node.specs.Parts.{table_actions}
 use Rattle.lint_node.specs.Plain.{is_plain_detach, is_plain_drop, is_plain_reindex}
 use Rattle.lint_pass.specs.Fixes.{insertion_fix}
 use Rattle.lint_pass.specs.RuleLaws.{flat_all, one_all, pieces_all, rule_all, unless_all, where_all}
-use Rattle.lint_pass.specs.RuleTables.{enabled_reports}
 use Rattle.lint_pass.specs.Those.{that, those}
 use Rattle.lint_transaction.specs.Transaction.{is_new, no_stmt, stmt_at}
 use Rattle.pass_concurrent.specs.RequireConcurrentIndexCreation as index
@@ -32,10 +30,10 @@ use Rattle.pass_concurrent.specs.RequireConcurrentPartitionDetach as detachment
 use Rattle.pass_concurrent.specs.RequireConcurrentReindex as reindex
 use Rattle.pass_session.specs.RequireTimeoutSettings.{both_reports, is_first_slow, is_set, lock_report, lock_timeout, statement_report, statement_timeout, timeouts_at}
 use Rattle.sql_tree.specs.Path.{path_cuts}
-use Rattle.law_answers.specs.Tables.{mended_table, timeouts}
-use Rattle.law_fixes.specs.Mended.{Table, builds, dropped, rebuilt, detached}
+use Rattle.law_answers.specs.Tables.{timeouts}
+use Rattle.law_fixes.specs.Mended.{builds, dropped, rebuilt, detached}
 use Rattle.law_fixes.proofs.Fixed.{At, at_or_none, inside_some}
-use Rattle.law_fixes.proofs.Tokens.{placed, starts_ascend}
+use Rattle.law_fixes.proofs.Tokens.{starts_ascend}
 use Rattle.law_type_fixes.specs.Rules.{TypeRule, reports_on, type_reports, type_table, ints, smallints, timestamps, varchars}
 use Rattle.law_type_fixes.proofs.ColumnTypes.{no_types}
 use Rattle.law_type_fixes.proofs.Edits.{puts_word}

@@ -103,7 +103,7 @@ module _ (hi : ℕ) (some : 1 ≤ hi) where
   unfolding form_from
   late_from [] h = walk_ranged.none 1 hi some
   late_from (t ∷ ts) h =
-      from_there (LeftOf 1 hi) Late (kind_and_body (t ∷ ts)) (told_walk Ranged walk_ranged 1 hi (t ∷ ts) some) (front_by t.symbol ts)
+      from_there (LeftOf 1 hi) Late (kind_and_body ts) (told_walk Ranged walk_ranged 1 hi ts some) (front_by t.symbol ts)
       (front_left 1 hi t.symbol ts (numbered_lower 1 (suc t.number) ts hi (omega arith) h.1))
 
   late_form : (ts : List Terminal) → Numbered 0 ts hi → IfThere Late (form_of ts)

@@ -1,5 +1,5 @@
 -- The fixes of the rules whose fixes are known to mend a text: each has one edit.
-use Rattle.std.specs.Prelude.{◌≡◌, ◌<◌, ℕ, All, List, [], ◌∷◌, Some, IfSome}
+use Rattle.std.specs.Prelude.{◌≡◌, ◌<◌, All, [], ◌∷◌, Some, IfSome}
 use Rattle.sql_tree.specs.Statement.{Tree, IsTree}
 use Rattle.lint_base.specs.declared.edit.Edit.{Edit}
 use Rattle.lint_base.specs.declared.rule.Rule.{Rule}
