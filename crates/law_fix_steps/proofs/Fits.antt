@@ -1,0 +1,22 @@
+-- What is asked of the edits of a fix that is a step.
+use Rattle.std.specs.Prelude.{List, All}
+use Rattle.sql_tree.specs.Statement.{Tree, IsTree}
+use Rattle.lint_base.specs.declared.edit.Edit.{Edit}
+use Rattle.lint_base.specs.declared.settings.LinterSettings.{LinterSettings}
+use Rattle.lint_base.specs.RuleSets.{Rules}
+use Rattle.law_fixes.specs.Mended.{Table}
+use Rattle.law_type_fixes.specs.Mended.{AreApart}
+use Rattle.law_fix_steps.specs.Step.{FixSteps}
+
+-- The fix of each report of a table is a step, if its edits fit.
+abbrev pub StepsIf : (Tree → List Edit → Type 0) → Table → Type 0
+StepsIf Fits table =
+    (tree : Tree) (rules : Rules) (settings : LinterSettings) → IsTree tree → All (FixSteps tree rules settings (Fits tree)) (table tree rules settings)
+
+-- An insertion asks for nothing.
+abbrev pub Anywhere : Tree → List Edit → Type 0
+Anywhere tree edits = Unit {0}
+
+-- A replacement is to join no word.
+abbrev pub BetweenWords : Tree → List Edit → Type 0
+BetweenWords tree edits = AreApart tree.text edits
