@@ -23,7 +23,7 @@ use Rattle.law_fixes.specs.Mended.{Table}
 use Rattle.law_type_fixes.specs.Mended.{JoinsNone}
 use Rattle.law_fix_steps.specs.Listed.{is_listed}
 use Rattle.law_fix_steps.specs.Step.{FixSteps, JoinNoWord, Steps}
-use Rattle.law_answer_steps.specs.AnswersStep.{AnswersStep}
+use Rattle.law_answer_steps.specs.Answers.{AnswersStep}
 use Rattle.law_listed_edits.specs.OneEdit.{AreMendedByOne, HasOneEdit, IsMendedByOne, MendedByOne}
 use Rattle.fix_edit.specs.Faults.{AreGood}
 use Rattle.fix_choice.specs.Fits.{CanBeTried, ListedCanBeTried, first_fitting, fits, fitting, joins_no_word}
@@ -47,22 +47,20 @@ OfFitting text P v = is_listed v.code ≡ true → (f : FixValue) → v.fix ≡ 
 
 pub of_first : (P : FixValue → Type 0) (text : Text) (vs : List Violation) → All (OfFitting text P) vs → (f : FixValue) → first_fitting text vs ≡ Some f → P f
 of_first P text [] h f e = cc
-of_first P text (v ∷ vs) h f e = by (is_listed v.code) refl e
+of_first P text (v ∷ vs) h f e = by (is_listed v.code) refl e (of_first P text vs (All-tail (OfFitting text P) v vs h) f)
   where
-    rest : first_fitting text vs ≡ Some f → P f
-    rest g = of_first P text vs (All-tail (OfFitting text P) v vs h) f g
+    by_fit : is_listed v.code ≡ true → (g : FixValue) → v.fix ≡ Some g → (b : Bool) → fits text g ≡ b → option_or (cond b (Some g) None) (first_fitting text vs) ≡ Some f →
+        (first_fitting text vs ≡ Some f → P f) → P f
+    by_fit listed g is true fit e rest = subst P (inside e) (All-head (OfFitting text P) v vs h listed g is fit)
+    by_fit listed g is false fit e rest = rest e
 
-    by_fit : is_listed v.code ≡ true → (g : FixValue) → v.fix ≡ Some g → (b : Bool) → fits text g ≡ b → option_or (cond b (Some g) None) (first_fitting text vs) ≡ Some f → P f
-    by_fit listed g is true fit e = subst P (inside e) (All-head (OfFitting text P) v vs h listed g is fit)
-    by_fit listed g is false fit e = rest e
+    by_fix : is_listed v.code ≡ true → (o : Option FixValue) → v.fix ≡ o → option_or (fitting text o) (first_fitting text vs) ≡ Some f → (first_fitting text vs ≡ Some f → P f) → P f
+    by_fix listed None is e rest = rest e
+    by_fix listed (Some g) is e rest = by_fit listed g is (fits text g) refl e rest
 
-    by_fix : is_listed v.code ≡ true → (o : Option FixValue) → v.fix ≡ o → option_or (fitting text o) (first_fitting text vs) ≡ Some f → P f
-    by_fix listed None is e = rest e
-    by_fix listed (Some g) is e = by_fit listed g is (fits text g) refl e
-
-    by : (b : Bool) → is_listed v.code ≡ b → option_or (fitting text (cond b v.fix None)) (first_fitting text vs) ≡ Some f → P f
-    by true listed e = by_fix listed v.fix refl e
-    by false listed e = rest e
+    by : (b : Bool) → is_listed v.code ≡ b → option_or (fitting text (cond b v.fix None)) (first_fitting text vs) ≡ Some f → (first_fitting text vs ≡ Some f → P f) → P f
+    by true listed e rest = by_fix listed v.fix refl e rest
+    by false listed e rest = rest e
 
 -- ---- it joins no word
 

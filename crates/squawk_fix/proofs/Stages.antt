@@ -14,7 +14,7 @@ use Rattle.lint_base.specs.RuleSets.{Rules}
 use Rattle.lint_ignore.specs.Comment.{has_disable_comment}
 use Rattle.law_fixes.specs.Edited.{edited}
 use Rattle.law_fix_steps.specs.Step.{Steps, load}
-use Rattle.law_answer_steps.specs.AnswersStep.{AnswersStep}
+use Rattle.law_answer_steps.specs.Answers.{AnswersStep}
 use Rattle.law_listed_edits.specs.OneEdit.{MendedByOne}
 use Rattle.fix_choice.specs.Fits.{ListedCanBeTried, first_fitting, next_text, with_fix}
 use Rattle.squawk_linter.specs.Answers.{IsAnswer, reports}
@@ -108,7 +108,7 @@ module _ (file : Tree) (rules : Rules) (settings : LinterSettings) where
 
   -- ---- one fix more
 
-  stepped : MendedByOne → AnswersAreInTheirTables → AnswersStep → (made : Text) (applied : ℕ) (left : List Violation) → Stage file rules settings made applied left → (f : FixValue) →
+  stepped : MendedByOne → AnswersAreInTheirTables → AnswersStep → (made : Text) (applied : ℕ) (left : List Violation) (stage : Stage file rules settings made applied left) (f : FixValue) →
       first_fitting made left ≡ Some f → Steps stage.tree rules (cleared stage.tree set) f.edits
   stepped one tables steps made applied left stage f first =
       first_steps stage.tree rules set stage.of_text.1 one tables steps f
@@ -130,6 +130,13 @@ module _ (file : Tree) (rules : Rules) (settings : LinterSettings) where
         reached = subst (λ (n : ℕ). Reached rules set file.text n s) (sym (add-one applied)) (made, stage.reached, made_is);
         few = omega (arith, less, few);
       }
+
+  -- the same of a value that has the text as its bytes
+  pub next_made : {X : Type 0} (bytes : X → Text) → MendedByOne → AnswersAreInTheirTables → AnswersStep → (made : Text) (applied : ℕ) (left : List Violation) → Stage file rules settings made applied left →
+      (text : Text) (vs : List Violation) → text ≡ made → vs ≡ left → (o : Option X) → option_map bytes o ≡ next_text text vs → (x : X) → o ≡ Some x → Next file rules settings applied (bytes x)
+  next_made {X} bytes one tables steps made applied left stage text vs same_text same_vs o is x some =
+      next one tables steps made applied left stage (bytes x)
+      ((λ i. next_text (sym same_text i) (sym same_vs i)) ∙ sym is ∙ ap (λ (p : Option X). option_map bytes p) some)
 
   pub is_valid : (applied : ℕ) (s : Text) → Next file rules settings applied s → IsValid s
   is_valid applied s n = (n.tree, n.of_text.0, n.of_text.1)

@@ -44,4 +44,4 @@ pub record IsFixed (tree : Tree) (rules : Rules) (settings : LinterSettings) (fi
 pub record IsFixedText (t : Text) (rules : Rules) (settings : LinterSettings) (fixed : FixedValue) : Type 0 where
   pub tree : Tree
   pub of_text : IsTreeOf t tree
-  pub fixed : IsFixed tree rules settings fixed
+  pub is : IsFixed tree rules settings fixed

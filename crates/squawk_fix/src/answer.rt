@@ -12,6 +12,7 @@ use squawk_stream::{Failed, Sink, write_all};
 use std::alloc::Global;
 
 /// How a run ended, and how many fixes it made. The count is 0 where no text was fixed.
+#[derive(Clone, Copy)]
 pub(crate) struct Ended {
     pub status: Status,
     pub applied: u64,

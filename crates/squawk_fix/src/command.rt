@@ -31,7 +31,12 @@ fn work<S: Source, K: Sink>(alloc: Global, words: &Words, src: &mut S, out: &mut
 {
     let mut linter = match linter_of(alloc, words) {
         Ok(Some(linter)) => linter,
-        Ok(None) => return unfixed(Status::BadArguments),
+        Ok(None) => {
+            return Ended {
+                status: Status::BadArguments,
+                applied: 0,
+            };
+        }
         Err(NoMemory) => return unfixed(Status::NoMemory),
     };
     match read_input(alloc, src) {

@@ -5,12 +5,12 @@ use Rattle.squawk_linter.specs.Reports.{cleared}
 use Rattle.squawk_fix.proofs.Stages.{Stage}
 use Rattle.squawk_fix.proofs.fixed.fix_tree.Given as goal
 
-abbrev pub invariant-loop-next : goal.invariant-loop-next
-invariant-loop-next l = record {
+abbrev pub invariant-loop-made : goal.invariant-loop-made
+invariant-loop-made l = record {
   stage : Stage l.file l.fn.linter.rules l.fn.linter.settings (string_bytes l.made) l.applied l.left.items;
   rules : l.linter.rules ≡ l.fn.linter.rules;
   settings : l.linter.settings ≡ cleared l.file l.fn.linter.settings;
 }
 
-abbrev pub decreases-loop-next : goal.decreases-loop-next
-decreases-loop-next l = load l.file l.fn.linter.rules (cleared l.file l.fn.linter.settings) - l.applied
+abbrev pub decreases-loop-made : goal.decreases-loop-made
+decreases-loop-made l = load l.file l.fn.linter.rules (cleared l.file l.fn.linter.settings) - l.applied
