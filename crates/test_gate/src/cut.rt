@@ -5,7 +5,7 @@ use migration_gate::GateStatus;
 use std::test::Fail;
 
 /// Three files: the second has an empty text, and the name of the third has characters of two, three and four bytes.
-const BUNDLE: &[u8] = "file 9 a.sql\nselect 1;\nfile 0 b\n\nfile 7 é€😀.sql\nCLOSE;\n\n".as_bytes();
+const BUNDLE: &str = "file 9 a.sql\nselect 1;\nfile 0 b\n\nfile 7 é€😀.sql\nCLOSE;\n\n";
 
 /// Where so many entries end, what is printed of them, and the line for more bytes than these and fewer than of the next entry.
 const ENDS: [(u32, &str, &str); 4] = [
@@ -36,9 +36,10 @@ fn wanted(length: usize) -> (GateStatus, &'static str, &'static str) {
 
 #[test]
 fn cut_at_each_byte(rt: HostRuntime) -> Result<(), Fail> {
-    for length in 0..BUNDLE.len() + 1 {
+    let bundle = BUNDLE.as_bytes();
+    for length in 0..bundle.len() + 1 {
         let (status, out, err) = wanted(length);
-        let left = ran(rt.alloc(), &BUNDLE[..length], SOUND, out, err)?;
+        let left = ran(rt.alloc(), &bundle[..length], SOUND, out, err)?;
         assert!(rt; left.is_whole && left.status == status, "at {length}");
     }
     Ok(())

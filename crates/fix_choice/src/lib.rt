@@ -1,0 +1,13 @@
+//! Which fixes are made, and which one is the next.
+//!
+//! [`next_text`] makes the first fix of some reports that is of a listed rule and fits. `specs/Fits.antt` says when a fix fits: it joins no
+//! words, and the text that it makes is short enough to be read again. Which rules are listed, `is_listed` of `law_fix_steps` says: those
+//! whose fixes put CONCURRENTLY into a text, set a timeout or write another column type.
+#![tactic(auto)]
+
+mod fits;
+mod listed;
+mod next;
+
+pub use listed::is_listed;
+pub use next::next_text;

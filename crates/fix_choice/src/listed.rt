@@ -1,0 +1,24 @@
+//! The rules whose fixes are made.
+ghost use Rattle.std.specs.Prelude.{◌≡◌};
+ghost use Rattle.law_fix_steps.specs.Listed as spec;
+
+use lint_base::Rule;
+
+/// Whether the fixes of this rule are made: those that put CONCURRENTLY into a text, set a timeout or write another column type.
+pub fn is_listed(rule: Rule) -> bool
+    ensures { result ≡ spec.is_listed rule }
+{
+    matches!(
+        rule,
+        Rule::RequireConcurrentIndexCreation
+            | Rule::RequireConcurrentIndexDeletion
+            | Rule::RequireConcurrentPartitionDetach
+            | Rule::RequireConcurrentReindex
+            | Rule::RequireLockTimeout
+            | Rule::RequireStatementTimeout
+            | Rule::PreferBigintOverInt
+            | Rule::PreferBigintOverSmallint
+            | Rule::PreferTextField
+            | Rule::PreferTimestampTz
+    )
+}

@@ -1,0 +1,2 @@
+mod TypesBehind
+mod Edits

@@ -1,0 +1,4 @@
+mod Choosing
+mod Stages
+mod Answered
+mod Complete

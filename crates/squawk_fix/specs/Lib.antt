@@ -1,0 +1,4 @@
+pub mod Fixing
+pub mod Chosen
+pub mod Lines
+pub mod Outcome
