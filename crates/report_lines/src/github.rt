@@ -1,0 +1,139 @@
+//! A finding as a workflow command of GitHub.
+ghost use Rattle.std.specs.Prelude.{◌≡◌, ◌++◌, OnOk};
+ghost use Rattle.source_file.specs.File.{IsRangeIn};
+ghost use Rattle.report_lines.specs.Github.{columns_part, command, detail, escaped, escaped_byte, lines_part, opening, property, property_byte, span, titled};
+
+use crate::piece::{push, push_number};
+use lint_base::Text;
+use source_file::{Level, Place, SourceFile};
+use text_pos::{NoMemory, TextRange};
+
+// Adds a byte of a message.
+fn push_escaped_byte(to: &mut Vec<u8>, byte: u8) -> Result<(), NoMemory>
+    ensures { OnOk result (to.new.items ≡ to.old.items ++ escaped_byte byte) }
+{
+    match byte {
+        b'%' => push(to, b"%25"),
+        b'\r' => push(to, b"%0D"),
+        b'\n' => push(to, b"%0A"),
+        _ => push(to, &[byte]),
+    }
+}
+
+// Adds a byte of a property.
+fn push_property_byte(to: &mut Vec<u8>, byte: u8) -> Result<(), NoMemory>
+    ensures { OnOk result (to.new.items ≡ to.old.items ++ property_byte byte) }
+{
+    match byte {
+        b':' => push(to, b"%3A"),
+        b',' => push(to, b"%2C"),
+        _ => push_escaped_byte(to, byte),
+    }
+}
+
+// Adds a message, or a part of one.
+fn push_escaped(to: &mut Vec<u8>, text: &[u8]) -> Result<(), NoMemory>
+    ensures { OnOk result (to.new.items ≡ to.old.items ++ escaped text.now) }
+{
+    for byte in text {
+        push_escaped_byte(to, *byte)?;
+    }
+    Ok(())
+}
+
+// Adds the value of a property.
+fn push_property(to: &mut Vec<u8>, text: &[u8]) -> Result<(), NoMemory>
+    ensures { OnOk result (to.new.items ≡ to.old.items ++ property text.now) }
+{
+    for byte in text {
+        push_property_byte(to, *byte)?;
+    }
+    Ok(())
+}
+
+// Adds the lines of a range.
+fn push_lines(to: &mut Vec<u8>, first: Place, last: Place) -> Result<(), NoMemory>
+    ensures { OnOk result (to.new.items ≡ to.old.items ++ lines_part first last) }
+{
+    push(to, b",line=")?;
+    push_number(to, first.line)?;
+    push(to, b",endLine=")?;
+    push_number(to, last.line)
+}
+
+// Adds the columns of a range, which GitHub takes only where it is on one line.
+fn push_columns(to: &mut Vec<u8>, first: Place, last: Place) -> Result<(), NoMemory>
+    ensures { OnOk result (to.new.items ≡ to.old.items ++ columns_part first last) }
+{
+    if first.line != last.line {
+        return Ok(());
+    }
+    push(to, b",col=")?;
+    push_number(to, first.column)?;
+    push(to, b",endColumn=")?;
+    push_number(to, last.column)
+}
+
+// Adds the name of the command and of the file.
+#[tactic(auto, unfolding(crate::specs::Github::opening))]
+fn push_opening(to: &mut Vec<u8>, file: &SourceFile<'_>, level: Level) -> Result<(), NoMemory>
+    ensures { OnOk result (to.new.items ≡ to.old.items ++ opening file.now level) }
+{
+    push(to, b"::")?;
+    push(to, level.word().as_bytes())?;
+    push(to, b" file=")?;
+    push_property(to, file.name().as_bytes())
+}
+
+// Adds the range.
+#[tactic(auto, unfolding(crate::specs::Github::span))]
+fn push_span(to: &mut Vec<u8>, file: &SourceFile<'_>, range: TextRange) -> Result<(), NoMemory>
+    requires { IsRangeIn file.now.text range }
+    ensures { OnOk result (to.new.items ≡ to.old.items ++ span file.now range) }
+{
+    let first = file.place(range.start());
+    let last = file.place(range.end());
+    push_lines(to, first, last)?;
+    push_columns(to, first, last)
+}
+
+// Adds the rule and the message.
+#[tactic(auto, unfolding(crate::specs::Github::titled))]
+fn push_titled(to: &mut Vec<u8>, name: &[u8], message: &[u8]) -> Result<(), NoMemory>
+    ensures { OnOk result (to.new.items ≡ to.old.items ++ titled name.now message.now) }
+{
+    push(to, b",title=")?;
+    push_property(to, name)?;
+    push(to, b"::")?;
+    push_escaped(to, message)
+}
+
+/// Adds what a finding says beside its message, on a line of its own where it says that.
+pub fn push_detail(to: &mut Vec<u8>, label: &[u8], text: &Option<Text>) -> Result<(), NoMemory>
+    ensures { OnOk result (to.new.items ≡ to.old.items ++ detail label.now text.now) }
+{
+    let Some(text) = text else {
+        return Ok(());
+    };
+    push(to, b"%0A")?;
+    push(to, label)?;
+    push(to, b": ")?;
+    push_escaped(to, text.as_str().as_bytes())
+}
+
+/// Adds a finding as a workflow command, but for its details and the end of the line. The error comes when memory runs out.
+pub fn push_command(
+    to: &mut Vec<u8>,
+    file: &SourceFile<'_>,
+    range: TextRange,
+    level: Level,
+    name: &[u8],
+    message: &[u8],
+) -> Result<(), NoMemory>
+    requires { IsRangeIn file.now.text range }
+    ensures { OnOk result (to.new.items ≡ to.old.items ++ command file.now range level name.now message.now) }
+{
+    push_opening(to, file, level)?;
+    push_span(to, file, range)?;
+    push_titled(to, name, message)
+}
