@@ -1,5 +1,5 @@
 -- What holds of the first fix that fits.
-use Rattle.std.proofs.Common.{◌≡◌, ℕ, ◌+◌, ◌-◌, ◌<◌, ◌^◌, Bool, true, false, cond, List, [], ◌∷◌, length, get_or, drop, sym, refl, ap, ◌∙◌, subst, arith, Option, Some, None, IfSome}
+use Rattle.std.proofs.Common.{◌≡◌, ℕ, ◌+◌, ◌-◌, ◌<◌, ◌^◌, Bool, true, false, cond, List, [], ◌∷◌, length, get_or, sym, refl, ap, ◌∙◌, subst, arith, Option, Some, None, IfSome}
 use Rattle.std.proofs.lemmas.Bool.Decides.{nat_tests}
 use Rattle.std.proofs.lemmas.List.{get_or-drop}
 use Rattle.std.proofs.lemmas.List.Elements.{All-contains, All-head, All-tail}
@@ -17,7 +17,7 @@ use Rattle.lint_base.specs.Fixes.{FixValue}
 use Rattle.lint_base.specs.RuleSets.{Rules}
 use Rattle.lint_pass.specs.Laws.{IsRead}
 use Rattle.lint_pass.specs.RuleLaws.{one_all}
-use Rattle.law_answers.specs.Tables.{IsInItsTable, mended_table}
+use Rattle.law_answers.specs.Tables.{mended_table}
 use Rattle.law_fixes.specs.Edited.{edited}
 use Rattle.law_fixes.specs.Mended.{Table}
 use Rattle.law_type_fixes.specs.Mended.{JoinsNone}

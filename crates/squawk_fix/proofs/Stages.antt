@@ -1,5 +1,5 @@
 -- The stages of repeated fixing.
-use Rattle.std.proofs.Common.{◌≡◌, ℕ, suc, ◌+◌, ◌<◌, ◌≤◌, Bool, true, false, List, sym, refl, ap, ◌∙◌, subst, arith, add-one, Option, Some, None}
+use Rattle.std.proofs.Common.{◌≡◌, ℕ, ◌+◌, ◌<◌, ◌≤◌, Bool, true, false, List, sym, refl, ap, ◌∙◌, subst, arith, add-one, Option, Some, None}
 use Rattle.std.specs.Prelude.{All, ◌&&◌, not}
 use Rattle.std.specs.Option.{option_map}
 use Rattle.std.specs.Str.{IsUtf8}
@@ -22,7 +22,7 @@ use Rattle.squawk_linter.specs.Laws.{SecondAnswer}
 use Rattle.squawk_linter.specs.Mending.{AnswersAreInTheirTables}
 use Rattle.squawk_linter.specs.Placed.{AnsweredFixesAreGood}
 use Rattle.squawk_linter.specs.Reports.{cleared}
-use Rattle.squawk_fix.specs.Fixing.{FixedValue, IsFixed, IsStep, Reached}
+use Rattle.squawk_fix.specs.Fixing.{IsFixed, IsStep, Reached}
 use Rattle.squawk_fix.proofs.Choosing.{all_tried, first_steps}
 
 -- ---- the flag

@@ -5,7 +5,8 @@ use squawk_fix::{Linter, fix_all};
 use squawk_linter::lint_text;
 use std::test::Fail;
 
-/// Texts with fixes, and how many are made under the rules of the default set.
+/// Texts with fixes, and how many are made under the rules of the default set: two timeouts and a word for each of the three statements,
+/// and a type for each of the four columns.
 const TEXTS: &[(&str, u64)] = &[
     (
         "ALTER TABLE t DETACH PARTITION p; REINDEX INDEX i; DROP INDEX i;",
@@ -13,7 +14,7 @@ const TEXTS: &[(&str, u64)] = &[
     ),
     (
         "CREATE TABLE t (a int, b smallint, c varchar(10), d timestamp);",
-        0,
+        4,
     ),
 ];
 

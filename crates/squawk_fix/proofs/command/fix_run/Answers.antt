@@ -1,4 +1,4 @@
-use Rattle.std.proofs.Common.{ℕ, subst, sym}
+use Rattle.std.proofs.Common.{subst, sym}
 use Rattle.squawk_fix.specs.Lines.{Says}
 use Rattle.squawk_fix.proofs.Answered.{answered_weaker}
 use Rattle.squawk_fix.proofs.Complete.{is_done}

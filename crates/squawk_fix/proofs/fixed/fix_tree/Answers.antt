@@ -1,4 +1,4 @@
-use Rattle.std.proofs.Common.{◌≡◌, ◌+◌, ◌<◌, ◌≤◌, ◌^◌, List, sym, ap, ◌∙◌, subst, arith}
+use Rattle.std.proofs.Common.{List, sym, ap, ◌∙◌, subst, arith}
 use Rattle.std.specs.Prelude.{All, string_bytes}
 use Rattle.std.specs.Str.{IsUtf8}
 use Rattle.sql_token.specs.Token.{Text}
@@ -6,12 +6,11 @@ use Rattle.sql_tree.specs.Statement.{IsValid}
 use Rattle.lint_base.specs.declared.settings.LinterSettings.{LinterSettings}
 use Rattle.lint_base.specs.declared.violation.Violation.{Violation}
 use Rattle.lint_base.specs.RuleSets.{Rules}
-use Rattle.law_fix_steps.specs.Step.{load}
 use Rattle.fix_choice.specs.Fits.{ListedCanBeTried}
 use Rattle.squawk_linter.specs.declared.linter.Linter.{Linter}
 use Rattle.squawk_linter.specs.Answers.{IsAnswer}
 use Rattle.squawk_linter.specs.Reports.{cleared}
-use Rattle.squawk_fix.proofs.Stages.{Next, begun, is_valid, next_made, staged, tried}
+use Rattle.squawk_fix.proofs.Stages.{begun, is_valid, next_made, staged, tried}
 use Rattle.squawk_fix.proofs.fixed.fix_tree.Goals as goal
 
 pub loop-made-init : goal.loop-made-init
