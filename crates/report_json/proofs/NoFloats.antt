@@ -1,0 +1,34 @@
+-- No object of a finding has a float.
+use Rattle.std.proofs.Common.{◌≡◌, ℕ, false, List, [], ◌∷◌, map, Option, Some, None, refl}
+use Rattle.serde_json.specs.View.{items_of}
+use Rattle.serde_json.specs.Written.{has_float, items_have_float}
+use Rattle.lint_base.specs.declared.edit.Edit.{Edit}
+use Rattle.lint_base.specs.declared.violation.Violation.{Violation}
+use Rattle.lint_base.specs.Fixes.{FixValue}
+use Rattle.source_file.specs.declared.hints.Hint.{Hint}
+use Rattle.source_file.specs.declared.refusal.Refusal.{Refusal}
+use Rattle.source_file.specs.File.{FileValue}
+use Rattle.source_file.specs.Hints.{hint_of}
+use Rattle.report_json.specs.Objects.{edit_object, fix_data, hint_data, refusal_object, report_object, text_data}
+
+text_has_no_float : (text : Option (List ℕ)) → has_float (text_data text) ≡ false
+text_has_no_float None = refl
+text_has_no_float (Some text) = refl
+
+edits_have_no_float : (edits : List Edit) → items_have_float (items_of (map edit_object edits)) ≡ false
+edits_have_no_float [] = refl
+edits_have_no_float (e ∷ es) = edits_have_no_float es
+
+fix_has_no_float : (fix : Option FixValue) → has_float (fix_data fix) ≡ false
+fix_has_no_float None = refl
+fix_has_no_float (Some fix) = rw (edits_have_no_float fix.edits) refl
+
+hint_has_no_float : (hint : Option Hint) → has_float (hint_data hint) ≡ false
+hint_has_no_float None = refl
+hint_has_no_float (Some hint) = refl
+
+pub refusal_has_no_float : (file : FileValue) (r : Refusal) → has_float (refusal_object file r) ≡ false
+refusal_has_no_float file r = rw (hint_has_no_float (hint_of file.text r)) refl
+
+pub report_has_no_float : (file : FileValue) (v : Violation) → has_float (report_object file v) ≡ false
+report_has_no_float file v = rw (fix_has_no_float v.fix, text_has_no_float v.help, text_has_no_float v.note) refl

@@ -1,0 +1,74 @@
+-- The object of a finding.
+use Rattle.std.specs.Prelude.{ℕ, List, [], codes, map, Option, Some, None, unwrap_or}
+use Rattle.text_pos.specs.Range.{Range}
+use Rattle.serde_json.specs.Data.{Data, array, member, no_members, null, number, object, string, unsigned}
+use Rattle.serde_json.specs.View.{items_of}
+use Rattle.lint_base.specs.declared.edit.Edit.{Edit}
+use Rattle.lint_base.specs.declared.violation.Violation.{Violation}
+use Rattle.lint_base.specs.Fixes.{FixValue}
+use Rattle.lint_base.specs.Rules.{name_of}
+use Rattle.source_file.specs.declared.level.Level.TheVariants as level
+use Rattle.source_file.specs.declared.refusal.Refusal.{Refusal}
+use Rattle.source_file.specs.File.{FileValue, location}
+use Rattle.source_file.specs.declared.hints.Hint.{Hint}
+use Rattle.source_file.specs.Hints.{hint_of, text_of}
+use Rattle.source_file.specs.Levels.{word_of}
+use Rattle.source_file.specs.Refusals as refusals
+
+-- a text, or null
+abbrev pub text_data : Option (List ℕ) → Data
+text_data None = null
+text_data (Some text) = string text
+
+-- what may help, or null
+abbrev pub hint_data : Option Hint → Data
+hint_data None = null
+hint_data (Some hint) = string (text_of hint)
+
+-- an edit; its places are bytes, counted from 0
+abbrev pub edit_object : Edit → Data
+edit_object e = object
+    (member (codes "end") (number (unsigned e.text_range.end))
+    (member (codes "start") (number (unsigned e.text_range.start))
+    (member (codes "text") (string (unwrap_or e.text [])) no_members)))
+
+-- edits, in order
+abbrev pub edits_data : List Edit → Data
+edits_data edits = array (items_of (map edit_object edits))
+
+-- a fix, or null
+abbrev pub fix_data : Option FixValue → Data
+fix_data None = null
+fix_data (Some fix) = object
+    (member (codes "edits") (edits_data fix.edits)
+    (member (codes "title") (string fix.title) no_members))
+
+-- a finding: its members in the order of their keys
+abbrev pub finding_object : FileValue → Range → List ℕ → List ℕ → List ℕ → Data → Data → Data → Data
+finding_object file range level name message note help fix =
+    let first = location file.text range.start in
+    let last = location file.text range.end in
+    object
+    (member (codes "column") (number (unsigned first.column))
+    (member (codes "column_end") (number (unsigned last.column))
+    (member (codes "file") (string file.name)
+    (member (codes "fix") fix
+    (member (codes "help") help
+    (member (codes "level") (string level)
+    (member (codes "line") (number (unsigned first.line))
+    (member (codes "line_end") (number (unsigned last.line))
+    (member (codes "message") (string message)
+    (member (codes "note") note
+    (member (codes "rule_name") (string name) no_members)))))))))))
+
+-- a report
+abbrev pub report_object : FileValue → Violation → Data
+report_object file v =
+    finding_object file v.text_range (word_of level.Warning) (name_of v.code) v.message (text_data v.note) (text_data v.help) (fix_data v.fix)
+
+-- why a file could not be linted
+abbrev pub refusal_object : FileValue → Refusal → Data
+refusal_object file r =
+    let at = refusals.place_of r in
+    finding_object file (record { start = at; end = at }) (word_of level.Error) (refusals.name_of r) (refusals.message_of r) null
+    (hint_data (hint_of file.text r)) null

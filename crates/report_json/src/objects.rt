@@ -1,0 +1,165 @@
+//! The object of a finding.
+ghost use Rattle.std.specs.Prelude.{◌≡◌, IfOk};
+ghost use Rattle.std.specs.Str.{IsCharBoundary};
+ghost use Rattle.lint_base.specs.Rules.{name_of};
+ghost use Rattle.serde_json.specs.View.{view};
+ghost use Rattle.source_file.specs.File.{IsRangeIn};
+ghost use Rattle.source_file.specs.Refusals as refusals;
+ghost use Rattle.report_json.specs.Objects.{edit_object, edits_data, finding_object, fix_data, hint_data, refusal_object, report_object, text_data};
+
+use lint_base::{Edit, Fix, Text, Violation};
+use serde_json::{Value, json};
+use source_file::{Hint, Level, Refusal, SourceFile, hint_for};
+use std::alloc::{AllocError, Global};
+use text_pos::TextRange;
+
+// A text, or null.
+fn text_value(alloc: Global, text: &Option<Text>) -> Result<Value, AllocError>
+    ensures { IfOk result (λ value. view value ≡ text_data text.now) }
+{
+    match text {
+        None => Ok(Value::Null),
+        Some(text) => Value::try_from_str(alloc, text.as_str()),
+    }
+}
+
+// What may help, or null.
+fn hint_value(alloc: Global, hint: Option<Hint>) -> Result<Value, AllocError>
+    ensures { IfOk result (λ value. view value ≡ hint_data hint) }
+{
+    match hint {
+        None => Ok(Value::Null),
+        Some(hint) => Value::try_from_str(alloc, hint.text()),
+    }
+}
+
+// An edit. Its places are bytes, counted from 0.
+fn edit_value(alloc: Global, edit: &Edit) -> Result<Value, AllocError>
+    ensures { IfOk result (λ value. view value ≡ edit_object edit.now) }
+{
+    let start = edit.text_range.start().raw();
+    let end = edit.text_range.end().raw();
+    let made = match &edit.text {
+        None => "",
+        Some(text) => text.as_str(),
+    };
+    json!(in alloc; {"start": start, "end": end, "text": made})
+}
+
+// Edits, in order.
+fn edits_value(alloc: Global, edits: &[Edit]) -> Result<Value, AllocError>
+    ensures { IfOk result (λ value. view value ≡ edits_data edits.now) }
+{
+    let mut list = Vec::new(alloc);
+    for edit in edits {
+        list.push(edit_value(alloc, edit)?)?;
+    }
+    Ok(Value::Array(list))
+}
+
+// A fix, or null.
+fn fix_value(alloc: Global, fix: &Option<Fix>) -> Result<Value, AllocError>
+    ensures { IfOk result (λ value. view value ≡ fix_data fix.now) }
+{
+    let Some(fix) = fix else {
+        return Ok(Value::Null);
+    };
+    let edits = edits_value(alloc, fix.edits.as_slice())?;
+    let title = fix.title.as_str();
+    json!(in alloc; {"title": title, "edits": edits})
+}
+
+/// What a finding says beside its message.
+struct Details {
+    note: Value,
+    help: Value,
+    fix: Value,
+}
+
+// A finding.
+fn finding_value(
+    alloc: Global,
+    file: &SourceFile<'_>,
+    range: TextRange,
+    level: &str,
+    name: &str,
+    message: &str,
+    details: Details,
+) -> Result<Value, AllocError>
+    requires { IsRangeIn file.now.text range }
+    ensures { IfOk result (λ value. view value ≡ finding_object file.now range level.now name.now message.now (view details.note) (view details.help) (view details.fix)) }
+{
+    let first = file.place(range.start());
+    let last = file.place(range.end());
+    let Details { note, help, fix } = details;
+    json!(in alloc; {
+        "column": (first.column as u64),
+        "column_end": (last.column as u64),
+        "file": (file.name()),
+        "fix": fix,
+        "help": help,
+        "level": level,
+        "line": (first.line as u64),
+        "line_end": (last.line as u64),
+        "message": message,
+        "note": note,
+        "rule_name": name
+    })
+}
+
+/// A report as a value. The error comes when memory runs out.
+pub fn report_value(
+    alloc: Global,
+    file: &SourceFile<'_>,
+    violation: &Violation,
+) -> Result<Value, AllocError>
+    requires { IsRangeIn file.now.text violation.now.text_range }
+    ensures { IfOk result (λ value. view value ≡ report_object file.now violation.now) }
+{
+    let details = Details {
+        note: text_value(alloc, &violation.note)?,
+        help: text_value(alloc, &violation.help)?,
+        fix: fix_value(alloc, &violation.fix)?,
+    };
+    let level = Level::Warning.word();
+    let name = violation.code.name();
+    let message = violation.message.as_str();
+    finding_value(
+        alloc,
+        file,
+        violation.text_range,
+        level,
+        name,
+        message,
+        details,
+    )
+}
+
+/// Why a file could not be linted, as a value. The error comes when memory runs out.
+pub fn refusal_value(
+    alloc: Global,
+    file: &SourceFile<'_>,
+    refusal: &Refusal,
+) -> Result<Value, AllocError>
+    requires { IsCharBoundary file.now.text (refusals.place_of refusal.now) }
+    ensures { IfOk result (λ value. view value ≡ refusal_object file.now refusal.now) }
+{
+    let at = refusal.place();
+    let details = Details {
+        note: Value::Null,
+        help: hint_value(alloc, hint_for(file.text(), refusal))?,
+        fix: Value::Null,
+    };
+    let level = Level::Error.word();
+    let name = refusal.name();
+    let message = refusal.message();
+    finding_value(
+        alloc,
+        file,
+        TextRange::new(at, at),
+        level,
+        name,
+        message,
+        details,
+    )
+}
