@@ -1,0 +1,36 @@
+//! What is printed for `--help` and `--version`.
+
+/// What is printed for `--version`.
+pub const VERSION: &str = "lavkheto 0.1.0\n";
+
+/// What is printed for `--help`.
+pub const HELP: &str = "Lints migrations of PostgreSQL. Its answers are theorems.
+
+Usage: lavkheto check [OPTIONS] [FILES]..
+
+FILES are files, and folders for all *.sql files in them. Without FILES, or with - alone, standard input is checked.
+
+  --format FORMAT          text (default), concise, gcc, github, json
+  --color WHEN             auto (default), always, never
+  --stdin-filename NAME    what standard input is called in what is written (default: stdin)
+  --                       the words after it are files
+
+  --only RULES             exactly these rules, with commas between them
+  --include RULES          these rules too
+  --exclude RULES          without these rules
+  --non-volatile NAMES     functions that count as not volatile
+  --assume-in-transaction  the migration runs in a transaction that was begun before it
+  --pg-major N             the version of PostgreSQL (default: 15)
+  --pg-minor N             its second part (default: 0)
+  --pg-patch N             its third part (default: 0)
+
+  --help, --version        this help, and the version
+
+Status: 0 nothing is found; 1 something is found; 2 the words are not accepted; 3 a file is not UTF-8; 4 a file can't be parsed;
+5 a file can't be read; 6 a write failed; 7 out of memory. The greatest of those that apply.
+
+Examples:
+  lavkheto check migrations
+  lavkheto check --format github --exclude prefer-text-field migrations/2.sql
+  git show HEAD:migrations/2.sql | lavkheto check --stdin-filename migrations/2.sql
+";

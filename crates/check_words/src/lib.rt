@@ -1,0 +1,16 @@
+//! The words of `lavkheto check`: what they ask for, and which linter they choose.
+//!
+//! `specs/Asked.antt` says what words ask for. The words that choose rules and settings are those of `squawk_words`, and mean the same.
+#![tactic(auto)]
+
+mod asked;
+mod help;
+mod linter;
+mod read;
+mod request;
+mod step;
+
+pub use asked::{Asked, read_asked};
+pub use help::{HELP, VERSION};
+pub use linter::linter_choices;
+pub use request::{Color, Format, Request};
