@@ -1,0 +1,51 @@
+-- What comes of files.
+use Rattle.std.specs.Prelude.{◌≡◌, ◌⊎◌, ℕ, List, [], ◌∷◌, ⊤}
+use Rattle.file_store.specs.Contents.{Content, IsBytes}
+use Rattle.file_store.specs.Refused.{MayBeLong, MayMiss}
+use Rattle.file_store.specs.declared.store.FileError.{FileError}
+use Rattle.file_store.specs.declared.store.FileError.TheVariants as error
+use Rattle.checked_file.specs.declared.answer.Answer.{Answer}
+use Rattle.checked_file.specs.declared.answer.Answer.TheVariants.{Reports, Refused}
+use Rattle.checked_file.specs.declared.checked.Checked.{Checked}
+use Rattle.source_file.specs.declared.refusal.Refusal.TheVariants as refusal
+use Rattle.squawk_stream.specs.Faults.{Rose}
+use Rattle.squawk_words.specs.Words.{Text}
+
+-- which answers there are for which bytes
+abbrev pub Answers : Type 1
+Answers = List ℕ → Answer → Type 0
+
+-- why a file was not read: it is not there; or a call failed, which shows in the count of failures; or it has 2^32 bytes or more
+abbrev pub IsUnread : Content → ℕ → ℕ → Answer → Type 0
+IsUnread content before now (Reports reports) = ⊥
+IsUnread content before now (Refused refusal.Missing) = MayMiss content
+IsUnread content before now (Refused refusal.Unreadable) = Rose before now
+IsUnread content before now (Refused refusal.TooLong) = MayBeLong content
+IsUnread content before now (Refused (refusal.NotUtf8 at)) = ⊥
+IsUnread content before now (Refused (refusal.Unterminated at)) = ⊥
+IsUnread content before now (Refused (refusal.Syntax at)) = ⊥
+
+-- the answer of a file that was not read, by the error
+abbrev pub IsUnreadBy : FileError → Answer → Type 0
+IsUnreadBy error.Missing answer = answer ≡ Refused refusal.Missing
+IsUnreadBy error.Fault answer = answer ≡ Refused refusal.Unreadable
+IsUnreadBy error.TooLong answer = answer ≡ Refused refusal.TooLong
+IsUnreadBy error.NoMemory answer = ⊥
+
+-- the bytes of the file, and an answer for them
+pub record IsAnswered (answers : Answers) (content : Content) (file : Checked) : Type 0 where
+  pub bytes : IsBytes content file.bytes.items
+  pub answer : answers file.bytes.items file.answer
+
+-- this came of a name that holds this content: it was read and answered, or it was not read
+pub record IsChecked (answers : Answers) (content : Content) (before now : ℕ) (name : Text) (file : Checked) : Type 0 where
+  pub named : file.name ≡ name
+  pub came : IsAnswered answers content file ⊎ IsUnread content before now file.answer
+
+-- this came of these names, one by one
+abbrev pub AreChecked : Answers → (Text → Content) → ℕ → ℕ → List Text → List Checked → Type 0
+AreChecked answers content before now [] [] = ⊤
+AreChecked answers content before now [] (file ∷ files) = ⊥
+AreChecked answers content before now (name ∷ names) [] = ⊥
+AreChecked answers content before now (name ∷ names) (file ∷ files) =
+    IsChecked answers (content name) before now name file × AreChecked answers content before now names files

@@ -1,0 +1,4 @@
+pub mod Checks
+pub mod Inputs
+pub mod Names
+pub mod Runs

@@ -1,0 +1,112 @@
+//! Files, one by one.
+ghost use Rattle.std.specs.Prelude.{◌≡◌, ◌<◌, ◌≤◌, ◌^◌, ℕ, All, IfOk, List, length};
+ghost use Rattle.checked_file.specs.Sound.{IsSound};
+ghost use Rattle.checked_file.specs.declared.answer.Answer.{Answer};
+ghost use Rattle.file_store.specs.Contents.{KeepsContents};
+ghost use Rattle.check_run.specs.Checks.{AreChecked, IsChecked, IsUnreadBy};
+
+use crate::judge::Judge;
+use checked_file::{Answer, Checked};
+use file_store::{FileError, FileStore};
+use lint_base::Text;
+use source_file::Refusal;
+use squawk_words::Words;
+use std::alloc::Global;
+use text_pos::NoMemory;
+
+/// A file of a name, and what came of it. The error comes when memory runs out.
+pub(crate) fn named(
+    alloc: Global,
+    name: &str,
+    bytes: Vec<u8>,
+    answer: Answer,
+) -> Result<Checked, NoMemory>
+    ensures name { IfOk result (λ file. file.name ≡ name.now) }
+    ensures bytes { IfOk result (λ file. file.bytes ≡ bytes) }
+    ensures answer { IfOk result (λ file. file.answer ≡ answer) }
+{
+    let name = Text::made(String::from_str(alloc, name)?);
+    Ok(Checked {
+        name,
+        bytes,
+        answer,
+    })
+}
+
+// A file of a name that was not read, by the error. The error `NoMemory` ends the run.
+fn unread(alloc: Global, name: &str, error: FileError) -> Result<Checked, NoMemory>
+    ensures name { IfOk result (λ file. file.name ≡ name.now) }
+    ensures unread { IfOk result (λ file. IsUnreadBy error file.answer) }
+    ensures sound { IfOk result IsSound }
+{
+    let refusal = match error {
+        FileError::NoMemory => return Err(NoMemory),
+        FileError::Missing => Refusal::Missing,
+        FileError::Fault => Refusal::Unreadable,
+        FileError::TooLong => Refusal::TooLong,
+    };
+    let file = named(alloc, name, Vec::new(alloc), Answer::Refused(refusal))?;
+    Ok(file)
+}
+
+/// What comes of the bytes of a file. The error comes when memory runs out.
+pub(crate) fn answered<J: Judge>(
+    alloc: Global,
+    judge: &mut J,
+    name: &str,
+    bytes: Vec<u8>,
+) -> Result<Checked, NoMemory>
+    requires { length bytes.items < 2 ^ 32 }
+    ensures name { IfOk result (λ file. file.name ≡ name.now) }
+    ensures bytes { IfOk result (λ file. file.bytes.items ≡ bytes.items) }
+    ensures answer { IfOk result (λ file. J.answers judge.old bytes.items file.answer) }
+    ensures sound { IfOk result IsSound }
+    ensures same { (bytes : List ℕ) (answer : Answer) → J.answers judge.new bytes answer → J.answers judge.old bytes answer }
+{
+    let answer = judge.judge(alloc, bytes.as_slice())?;
+    let file = named(alloc, name, bytes, answer)?;
+    Ok(file)
+}
+
+// What comes of a file.
+fn check_file<F: FileStore, J: Judge>(
+    alloc: Global,
+    judge: &mut J,
+    files: &mut F,
+    name: &str,
+) -> Result<Checked, NoMemory>
+    ensures checked { IfOk result (IsChecked (J.answers judge.old) (F.content files.old name.now) (F.faults files.old) (F.faults files.new) name.now) }
+    ensures sound { IfOk result IsSound }
+    ensures kept { KeepsContents (F.content files.old) (F.content files.new) }
+    ensures later { F.faults files.old ≤ F.faults files.new }
+    ensures same { (bytes : List ℕ) (answer : Answer) → J.answers judge.new bytes answer → J.answers judge.old bytes answer }
+{
+    match files.read(alloc, name) {
+        Ok(bytes) => {
+            let file = answered(alloc, judge, name, bytes)?;
+            Ok(file)
+        }
+        Err(error) => {
+            let file = unread(alloc, name, error)?;
+            Ok(file)
+        }
+    }
+}
+
+/// What comes of files, in their order. A fault of one costs no other its answer. The error comes when memory runs out.
+pub fn check_files<F: FileStore, J: Judge>(
+    alloc: Global,
+    judge: &mut J,
+    files: &mut F,
+    names: &Words,
+) -> Result<Vec<Checked>, NoMemory>
+    ensures checked { IfOk result (λ all. AreChecked (J.answers judge.old) (F.content files.old) (F.faults files.old) (F.faults files.new) names.now all.items) }
+    ensures sound { IfOk result (λ all. All IsSound all.items) }
+{
+    let mut all = Vec::new(alloc);
+    for i in 0..names.len() {
+        let checked = check_file(alloc, judge, files, names.get(i))?;
+        all.push(checked)?;
+    }
+    Ok(all)
+}

@@ -1,0 +1,144 @@
+//! A run: what comes of the files or of the input, and what is written of it.
+ghost use Rattle.std.specs.Prelude.{◌≡◌, All, IfErr, IfOk, OnOk};
+ghost use Rattle.std.specs.Io.KnownBytes.{Appends};
+ghost use Rattle.checked_file.specs.Sound.{IsSound};
+ghost use Rattle.check_run.specs.Runs.{AreAnswers, AreFileAnswers, HasRun, HasStopped, IsInputAnswer, StopsWriting};
+
+use crate::expand::expanded;
+use crate::files::check_files;
+use crate::input::{check_input, reads_input};
+use crate::judge::Judge;
+use crate::printer::Printer;
+use check_words::Request;
+use checked_file::{Checked, Status, worst};
+use file_store::FileStore;
+use squawk_run::Stop;
+use squawk_stream::{Sink, Source, write_all};
+use squawk_words::Words;
+use std::alloc::Global;
+use text_pos::NoMemory;
+
+// What comes of the input alone.
+fn check_one<S: Source, J: Judge>(
+    alloc: Global,
+    judge: &mut J,
+    src: &mut S,
+    name: &str,
+) -> Result<Vec<Checked>, NoMemory>
+    ensures checked { IfOk result (λ all. IsInputAnswer (J.answers judge.old) (S.left src.old) (S.faults src.old) (S.faults src.new) name.now all.items) }
+    ensures sound { IfOk result (λ all. All IsSound all.items) }
+{
+    let file = check_input(alloc, judge, src, name)?;
+    let mut all = Vec::new(alloc);
+    all.push(file)?;
+    Ok(all)
+}
+
+// What comes of the files that words stand for.
+fn check_named<F: FileStore, J: Judge>(
+    alloc: Global,
+    judge: &mut J,
+    files: &mut F,
+    words: &Words,
+) -> Result<Vec<Checked>, NoMemory>
+    ensures checked { IfOk result (λ all. AreFileAnswers (J.answers judge.old) (F.content files.old) (F.faults files.old) (F.faults files.new) words.now all.items) }
+    ensures sound { IfOk result (λ all. All IsSound all.items) }
+{
+    let names = expanded(alloc, files, words)?;
+    check_files(alloc, judge, files, &names)
+}
+
+// What comes of the files or of the input.
+fn check_asked<F: FileStore, S: Source, J: Judge>(
+    alloc: Global,
+    request: &Request,
+    judge: &mut J,
+    files: &mut F,
+    src: &mut S,
+) -> Result<Vec<Checked>, NoMemory>
+    ensures checked { IfOk result (λ all. AreAnswers (J.answers judge.old)
+        (record {
+          content = F.content files.old;
+          files_before = F.faults files.old;
+          files_now = F.faults files.new;
+          left = S.left src.old;
+          input_before = S.faults src.old;
+          input_now = S.faults src.new;
+        })
+        request.now all.items) }
+    ensures sound { IfOk result (λ all. All IsSound all.items) }
+{
+    if reads_input(&request.files) {
+        check_one(alloc, judge, src, request.stdin_name.as_str())
+    } else {
+        check_named(alloc, judge, files, &request.files)
+    }
+}
+
+// Writes what came of files.
+fn write_checked<P: Printer, K: Sink>(
+    alloc: Global,
+    printer: &P,
+    files: &[Checked],
+    out: &mut K,
+) -> Result<(), Stop>
+    requires { All IsSound files.now }
+    ensures whole { OnOk result (Appends (K.held out.old) (K.held out.new) (P.printed printer.now files.now)) }
+    ensures stop { IfErr result (λ stop. StopsWriting stop (P.printed printer.now files.now) (K.held out.old) (K.held out.new) (K.faults out.old) (K.faults out.new)) }
+{
+    match printer.print(alloc, files) {
+        Err(NoMemory) => Err(Stop::NoMemory),
+        Ok(bytes) => match write_all(out, bytes.as_slice()) {
+            Ok(()) => Ok(()),
+            Err(_) => Err(Stop::WriteFault),
+        },
+    }
+}
+
+/// Checks what a request asks for: the files that its words stand for, or the input; writes to `out` what comes of them, and gives the
+/// greatest status of them.
+///
+/// Each file has its answer, whatever came of the others. All memory is taken before the first write, so a run that lacks it writes
+/// nothing. The error is `WriteFault` or `NoMemory`.
+pub fn check<F: FileStore, S: Source, K: Sink, J: Judge, P: Printer>(
+    alloc: Global,
+    request: &Request,
+    judge: &mut J,
+    printer: &P,
+    files: &mut F,
+    src: &mut S,
+    out: &mut K,
+) -> Result<Status, Stop>
+    ensures done { IfOk result (HasRun (AreAnswers (J.answers judge.old)
+        (record {
+          content = F.content files.old;
+          files_before = F.faults files.old;
+          files_now = F.faults files.new;
+          left = S.left src.old;
+          input_before = S.faults src.old;
+          input_now = S.faults src.new;
+        })
+        request.now)
+        (P.printed printer.now) (K.held out.old) (K.held out.new)) }
+    ensures stopped { IfErr result (HasStopped (AreAnswers (J.answers judge.old)
+        (record {
+          content = F.content files.old;
+          files_before = F.faults files.old;
+          files_now = F.faults files.new;
+          left = S.left src.old;
+          input_before = S.faults src.old;
+          input_now = S.faults src.new;
+        })
+        request.now)
+        (P.printed printer.now) (K.held out.old) (K.held out.new) (K.faults out.old) (K.faults out.new)) }
+{
+    let checked = match check_asked(alloc, request, judge, files, src) {
+        Ok(checked) => checked,
+        Err(NoMemory) => return Err(Stop::NoMemory),
+    };
+    let status = worst(checked.as_slice());
+    match write_checked(alloc, printer, checked.as_slice(), out) {
+        Ok(()) => Ok(status),
+        Err(stop) => Err(stop),
+    }
+}
