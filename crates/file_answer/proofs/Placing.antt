@@ -1,0 +1,41 @@
+-- Where the findings of a text are.
+use Rattle.std.proofs.Common.{◌≡◌, ◌∙◌, ap, arith, subst, sym, ℕ, List, All, length, take}
+use Rattle.std.proofs.lemmas.List.{length-take-le, take_all}
+use Rattle.std.proofs.lemmas.List.Elements.{All-weaker}
+use Rattle.std.proofs.lemmas.Str.{IsCharBoundary-end, utf8_valid_len-IsUtf8, utf8_valid_len_le}
+use Rattle.std.specs.Str.{IsCharBoundary, IsUtf8}
+use Rattle.std.specs.Str.Lossy.{utf8_valid_len}
+use Rattle.checked_file.specs.declared.answer.Answer.{Answer}
+use Rattle.checked_file.specs.Files.{readable_of}
+use Rattle.checked_file.specs.Sound.{IsIn}
+use Rattle.law_fault_places.proofs.Places.{open_between, syntax_between}
+use Rattle.lint_base.specs.declared.violation.Violation.{Violation}
+use Rattle.source_file.specs.File.{IsRangeIn}
+use Rattle.sql_token.specs.Token.{OpenAt, Text}
+use Rattle.sql_tree.specs.Statement.{IsSyntaxAt}
+use Rattle.squawk_linter.specs.Placed.{IsPlaced}
+
+report_in : (t : Text) (v : Violation) → IsPlaced t v → IsRangeIn t v.text_range
+report_in t v placed = record { ordered = placed.range.ordered; start = placed.range.start; end = placed.range.end }
+
+pub reports_in : (t : Text) (reports : List Violation) → All (IsPlaced t) reports → All (λ v. IsRangeIn t v.text_range) reports
+reports_in t reports placed = All-weaker (IsPlaced t) (λ v. IsRangeIn t v.text_range) (report_in t) reports placed
+
+pub open_in : (t : Text) (at : ℕ) → OpenAt t at → IsCharBoundary t at
+open_in t at h = open_between t at h
+
+pub syntax_in : (t : Text) (at : ℕ) → IsUtf8 t → IsSyntaxAt t at → IsCharBoundary t at
+syntax_in t at u h = syntax_between t at u h
+
+-- the end of the front that is UTF-8
+pub end_in : (bytes : List ℕ) (at : ℕ) → at ≡ utf8_valid_len bytes → IsCharBoundary (readable_of bytes) at
+end_in bytes at e =
+    let front = readable_of bytes in
+    let long : length front ≡ at = length-take-le (utf8_valid_len bytes) bytes (utf8_valid_len_le bytes) ∙ sym e in
+    subst (λ (n : ℕ). IsCharBoundary front n) long (IsCharBoundary-end front)
+
+-- of a text that is UTF-8 all can be read
+pub all_in : (bytes : List ℕ) (answer : Answer) → IsUtf8 bytes → IsIn bytes answer → IsIn (readable_of bytes) answer
+all_in bytes answer u h =
+    let whole : readable_of bytes ≡ bytes = ap (λ n. take n bytes) (utf8_valid_len-IsUtf8 bytes u) ∙ take_all (length bytes) bytes (omega arith) in
+    subst (λ (b : List ℕ). IsIn b answer) (sym whole) h
