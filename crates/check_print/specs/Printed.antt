@@ -1,0 +1,64 @@
+-- What is written of the files of a run.
+use Rattle.std.specs.Prelude.{ℕ, ◌||◌, Bool, true, false, List, [], ◌∷◌, ◌++◌, codes}
+use Rattle.check_words.specs.declared.request.Format.{Format}
+use Rattle.check_words.specs.declared.request.Format.TheVariants as format
+use Rattle.checked_file.specs.declared.answer.Answer.{Answer}
+use Rattle.checked_file.specs.declared.answer.Answer.TheVariants.{Reports, Refused}
+use Rattle.checked_file.specs.declared.checked.Checked.{Checked}
+use Rattle.checked_file.specs.Answers.{has_findings}
+use Rattle.checked_file.specs.Files.{readable_of}
+use Rattle.lint_base.specs.declared.violation.Violation.{Violation}
+use Rattle.report_text.specs.Closing as text
+use Rattle.source_file.specs.File.{FileValue}
+use Rattle.check_print.specs.declared.style.Style.{Style}
+use Rattle.check_print.specs.Counted.{counts_of}
+use Rattle.check_print.specs.Findings.{printed_refusal, printed_report, separator}
+
+-- ---- one file
+
+-- the name and the text of a file
+abbrev pub source_of : Checked → FileValue
+source_of file = record { name = file.name; text = readable_of file.bytes.items }
+
+-- a report with what is before it
+abbrev pub separated : Style → Bool → FileValue → Violation → List ℕ
+separated style follows file v = separator style.format follows ++ printed_report style.format style.color file v
+
+-- reports, the first of them by whether a finding was before it
+abbrev pub printed_reports : Style → Bool → FileValue → List Violation → List ℕ
+printed_reports style follows file [] = []
+printed_reports style follows file (v ∷ vs) = separated style follows file v ++ printed_reports style true file vs
+
+abbrev pub printed_answer : Style → Bool → FileValue → Answer → List ℕ
+printed_answer style follows file (Reports reports) = printed_reports style follows file reports.items
+printed_answer style follows file (Refused r) = separator style.format follows ++ printed_refusal style.format style.color file r
+
+unfoldable pub printed_file : Style → Bool → Checked → List ℕ
+printed_file style follows file = printed_answer style follows (source_of file) file.answer
+
+-- ---- all files
+
+abbrev pub printed_files : Style → Bool → List Checked → List ℕ
+printed_files style follows [] = []
+printed_files style follows (file ∷ files) =
+    printed_file style follows file ++ printed_files style (follows || has_findings file.answer) files
+
+-- what is before the first file
+abbrev pub opening : Format → List ℕ
+opening format.Text = []
+opening format.Concise = []
+opening format.Gcc = []
+opening format.Github = []
+opening format.Json = codes "["
+
+-- what is after the last file
+abbrev pub closing : Format → List Checked → List ℕ
+closing format.Text files = text.closing (counts_of files)
+closing format.Concise files = []
+closing format.Gcc files = []
+closing format.Github files = []
+closing format.Json files = codes "\n]\n"
+
+-- what is written of the files of a run
+abbrev pub printed : Style → List Checked → List ℕ
+printed style files = opening style.format ++ printed_files style false files ++ closing style.format files

@@ -1,0 +1,14 @@
+//! What is written of the files of a run, in each format.
+//!
+//! `specs/Printed.antt` puts the forms of the findings, which crates of their own define, together: what is before the first, between
+//! two, and after the last.
+#![tactic(auto)]
+
+mod answer;
+mod counts;
+mod files;
+mod finding;
+mod style;
+
+pub use files::printed;
+pub use style::Style;
