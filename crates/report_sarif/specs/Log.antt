@@ -1,0 +1,30 @@
+-- A log of SARIF 2.1.0 with one run: 3.13 sarifLog, 3.14 run, 3.18 tool, 3.19 toolComponent, 3.49 reportingDescriptor.
+use Rattle.std.specs.Prelude.{ℕ, List, [], ◌∷◌, ◌++◌, codes, map}
+use Rattle.std.specs.List.{flat_map}
+use Rattle.serde_json.specs.Data.{Data, array, item, member, no_items, no_members, object, string}
+use Rattle.serde_json.specs.View.{items_of}
+use Rattle.serde_json.specs.Written.{compact_text}
+use Rattle.lint_base.specs.declared.rule.Rule.{Rule}
+use Rattle.lint_base.specs.Rules.{all_rules, name_of}
+
+-- a rule
+abbrev pub rule_object : Rule → Data
+rule_object rule = object (member (codes "id") (string (name_of rule)) no_members)
+
+-- the linter's name and all its rules
+abbrev pub driver : Data
+driver = object
+    (member (codes "name") (string (codes "lavkheto"))
+    (member (codes "rules") (array (items_of (map rule_object all_rules))) no_members))
+
+-- the linter
+abbrev pub tool : Data
+tool = object (member (codes "driver") driver no_members)
+
+-- what comes before the results
+abbrev pub opening : List ℕ
+opening = codes "{\"$schema\":\"https://json.schemastore.org/sarif-2.1.0.json\",\"runs\":[{\"columnKind\":\"unicodeCodePoints\",\"results\":["
+
+-- what comes after them
+abbrev pub closing : List ℕ
+closing = codes "],\"tool\":" ++ compact_text tool ++ codes "}],\"version\":\"2.1.0\"}"

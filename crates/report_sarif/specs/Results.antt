@@ -1,0 +1,79 @@
+-- Findings as results of SARIF 2.1.0: 3.27 result, 3.11 message, 3.28 location, 3.55 fix, 3.56 artifactChange, 3.57 replacement.
+use Rattle.std.specs.Prelude.{ℕ, Bool, if◌then◌else◌, List, [], codes, map, Option, Some, None, unwrap_or}
+use Rattle.std.specs.List.{list_all}
+use Rattle.serde_json.specs.Data.{Data, array, item, member, no_items, no_members, object, string}
+use Rattle.serde_json.specs.View.{items_of}
+use Rattle.text_pos.specs.Range.{Range}
+use Rattle.lint_base.specs.declared.edit.Edit.{Edit}
+use Rattle.lint_base.specs.declared.violation.Violation.{Violation}
+use Rattle.lint_base.specs.Fixes.{FixValue}
+use Rattle.lint_base.specs.Rules.{name_of}
+use Rattle.source_file.specs.declared.level.Level.TheVariants as level
+use Rattle.source_file.specs.declared.refusal.Refusal.{Refusal}
+use Rattle.source_file.specs.File.{FileValue}
+use Rattle.source_file.specs.Levels.{word_of}
+use Rattle.source_file.specs.Line.{Text}
+use Rattle.source_file.specs.Refusals as refusals
+use Rattle.report_sarif.specs.Places.{artifact_location, is_range_in, physical_location, region}
+
+-- a message, or the text that is put in
+abbrev pub text_object : Text → Data
+text_object text = object (member (codes "text") (string text) no_members)
+
+-- an array of one
+abbrev pub one : Data → Data
+one d = array (item d no_items)
+
+-- an edit
+abbrev pub replacement : Text → Edit → Data
+replacement text e = object
+    (member (codes "deletedRegion") (region text e.text_range)
+    (member (codes "insertedContent") (text_object (unwrap_or e.text [])) no_members))
+
+-- every edit is in the text, between characters
+abbrev pub are_in_text : Text → List Edit → Bool
+are_in_text text edits = list_all (λ e. is_range_in text e.text_range) edits
+
+-- edits, in order
+abbrev pub replacements : Text → List Edit → Data
+replacements text edits = array (items_of (map (replacement text) edits))
+
+-- what changes in a file, by its edits
+abbrev pub changes : Text → Data → Data
+changes name edits = one (object
+    (member (codes "artifactLocation") (artifact_location name)
+    (member (codes "replacements") edits no_members)))
+
+-- a fix
+abbrev pub fix_object : FileValue → FixValue → Data
+fix_object file fix = object
+    (member (codes "artifactChanges") (changes file.name (replacements file.text fix.edits))
+    (member (codes "description") (text_object fix.title) no_members))
+
+-- a fix whose edits are in the text
+abbrev pub fixes : FileValue → Option FixValue → Data
+fixes file None = array no_items
+fixes file (Some fix) = if are_in_text file.text fix.edits then one (fix_object file fix) else array no_items
+
+-- where a finding is
+abbrev pub locations : FileValue → Range → Data
+locations file range = one (object (member (codes "physicalLocation") (physical_location file range) no_members))
+
+-- a finding
+abbrev pub result_object : FileValue → Range → List ℕ → List ℕ → List ℕ → Data → Data
+result_object file range level name message fixes = object
+    (member (codes "fixes") fixes
+    (member (codes "level") (string level)
+    (member (codes "locations") (locations file range)
+    (member (codes "message") (text_object message)
+    (member (codes "ruleId") (string name) no_members)))))
+
+-- a report
+abbrev pub report_result : FileValue → Violation → Data
+report_result file v = result_object file v.text_range (word_of level.Warning) (name_of v.code) v.message (fixes file v.fix)
+
+-- why a file could not be linted
+abbrev pub refusal_result : FileValue → Refusal → Data
+refusal_result file r =
+    let at = refusals.place_of r in
+    result_object file (record { start = at; end = at }) (word_of level.Error) (refusals.name_of r) (refusals.message_of r) (array no_items)

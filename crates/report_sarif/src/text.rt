@@ -1,0 +1,53 @@
+//! The text of a result.
+ghost use Rattle.std.specs.Prelude.{◌≡◌, ◌++◌, OnOk, false};
+ghost use Rattle.std.specs.Str.{IsCharBoundary};
+ghost use Rattle.serde_json.specs.View.{view};
+ghost use Rattle.serde_json.specs.Written.{compact_text, has_float};
+ghost use Rattle.source_file.specs.File.{IsRangeIn};
+ghost use Rattle.source_file.specs.Refusals as refusals;
+ghost use Rattle.report_sarif.specs.Results.{refusal_result, report_result};
+
+use crate::results::{refusal_result, report_result};
+use lint_base::Violation;
+use serde_json::Value;
+use source_file::{Refusal, SourceFile};
+use std::alloc::Global;
+use text_pos::NoMemory;
+
+/// Adds the text of a value that has no float.
+pub(crate) fn push_value(to: &mut Vec<u8>, alloc: Global, value: &Value) -> Result<(), NoMemory>
+    requires { has_float (view value.now) ≡ false }
+    ensures { OnOk result (to.new.items ≡ to.old.items ++ compact_text (view value.now)) }
+{
+    let text = value.to_string(alloc)?;
+    to.extend_from_slice(text.as_bytes())?;
+    Ok(())
+}
+
+/// Adds a report as a result. The error comes when memory runs out.
+pub fn push_report(
+    to: &mut Vec<u8>,
+    alloc: Global,
+    file: &SourceFile<'_>,
+    violation: &Violation,
+) -> Result<(), NoMemory>
+    requires { IsRangeIn file.now.text violation.now.text_range }
+    ensures { OnOk result (to.new.items ≡ to.old.items ++ compact_text (report_result file.now violation.now)) }
+{
+    let value = report_result(alloc, file, violation)?;
+    push_value(to, alloc, &value)
+}
+
+/// Adds why a file could not be linted, as a result. The error comes when memory runs out.
+pub fn push_refusal(
+    to: &mut Vec<u8>,
+    alloc: Global,
+    file: &SourceFile<'_>,
+    refusal: &Refusal,
+) -> Result<(), NoMemory>
+    requires { IsCharBoundary file.now.text (refusals.place_of refusal.now) }
+    ensures { OnOk result (to.new.items ≡ to.old.items ++ compact_text (refusal_result file.now refusal.now)) }
+{
+    let value = refusal_result(alloc, file, refusal)?;
+    push_value(to, alloc, &value)
+}
