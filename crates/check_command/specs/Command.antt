@@ -1,0 +1,82 @@
+-- What a run does that the words ask for.
+use Rattle.std.specs.Prelude.{◌≡◌, ℕ, Bool, true, false, List, Option, Some, None, ⊤}
+use Rattle.std.specs.Io.KnownBytes.{Appends, Keeps}
+use Rattle.check_print.specs.declared.style.Style.{Style}
+use Rattle.check_print.specs.Printed.{printed}
+use Rattle.check_run.specs.Checks.{Answers}
+use Rattle.check_run.specs.Runs.{AreAnswers, Devices, HasRun, HasWrittenPart}
+use Rattle.check_words.specs.declared.asked.Asked.{Asked}
+use Rattle.check_words.specs.declared.asked.Asked.TheVariants.{Check, Help, Version, Refused}
+use Rattle.check_words.specs.declared.request.Color.{Color}
+use Rattle.check_words.specs.declared.request.Color.TheVariants.{Auto, Always, Never}
+use Rattle.check_words.specs.declared.request.Request.{Request}
+use Rattle.check_words.specs.Linter.{linter_choices}
+use Rattle.checked_file.specs.declared.status.Status.{Status}
+use Rattle.checked_file.specs.declared.status.Status.TheVariants as status
+use Rattle.squawk_run.specs.declared.stop.Stop.{Stop}
+use Rattle.squawk_run.specs.declared.stop.Stop.TheVariants.{BadArguments, NotUtf8, TooLong, ReadFault, WriteFault, NoMemory}
+use Rattle.squawk_stream.specs.Faults.{Rose}
+use Rattle.squawk_stream.specs.Parts.{AppendsPart}
+use Rattle.squawk_words.specs.declared.choices.Choices.{Choices}
+use Rattle.file_answer.specs.declared.linter.FileLinter.{FileLinter}
+use Rattle.file_answer.specs.Answers.{IsAnswerOf}
+
+abbrev pub is_painted_by : Color → Bool → Bool
+is_painted_by Auto painted = painted
+is_painted_by Always painted = true
+is_painted_by Never painted = false
+
+-- the style of what is written, by whether colours are expected where no word says
+abbrev pub style_of : Request → Bool → Style
+style_of request painted = record { format = request.format; color = is_painted_by request.color painted }
+
+-- the linter with what is chosen
+abbrev pub judge_by : Choices → FileLinter
+judge_by choices = record { linter = record { rules = choices.rules; settings = choices.settings } }
+
+-- the answers that it has
+abbrev pub answers_by : Choices → Answers
+answers_by choices bytes answer = IsAnswerOf bytes choices.rules choices.settings answer
+
+-- The words for the linter choose rules and settings. Under these each file has its answer, all of them were written in the style, and
+-- the status is the greatest.
+pub record HasChecked (request : Request) (painted : Bool) (d : Devices) (old new : Option (List ℕ)) (result : Status) : Type 0 where
+  pub choices : Choices
+  pub chosen : linter_choices request.linter ≡ Some choices
+  pub run : HasRun (AreAnswers (answers_by choices) d request) (printed (style_of request painted)) old new result
+
+-- The same, but a write failed.
+pub record HasCheckedPart (request : Request) (painted : Bool) (d : Devices) (old new : Option (List ℕ)) (before now : ℕ) : Type 0 where
+  pub choices : Choices
+  pub chosen : linter_choices request.linter ≡ Some choices
+  pub part : HasWrittenPart (AreAnswers (answers_by choices) d request) (printed (style_of request painted)) old new before now
+
+-- what was done for words that are taken, by what they ask for; `help` and `version` are the texts that are printed for these
+abbrev pub DoneFor : Asked → List ℕ → List ℕ → Bool → Devices → Option (List ℕ) → Option (List ℕ) → Status → Type 0
+DoneFor (Check request) help version painted d old new result = HasChecked request painted d old new result
+DoneFor Help help version painted d old new result = (result ≡ status.Clean) × Appends old new help
+DoneFor Version help version painted d old new result = (result ≡ status.Clean) × Appends old new version
+DoneFor Refused help version painted d old new result = ⊥
+
+-- words that are not taken
+abbrev pub AreRefused : Asked → Type 0
+AreRefused (Check request) = linter_choices request.linter ≡ None
+AreRefused Help = ⊥
+AreRefused Version = ⊥
+AreRefused Refused = ⊤
+
+-- what was written before a write failed
+abbrev pub PartFor : Asked → List ℕ → List ℕ → Bool → Devices → Option (List ℕ) → Option (List ℕ) → ℕ → ℕ → Type 0
+PartFor (Check request) help version painted d old new before now = HasCheckedPart request painted d old new before now
+PartFor Help help version painted d old new before now = AppendsPart old new help × Rose before now
+PartFor Version help version painted d old new before now = AppendsPart old new version × Rose before now
+PartFor Refused help version painted d old new before now = ⊥
+
+-- why a run stopped, and what it left
+abbrev pub StoppedFor : Asked → List ℕ → List ℕ → Bool → Devices → Option (List ℕ) → Option (List ℕ) → ℕ → ℕ → Stop → Type 0
+StoppedFor asked help version painted d old new before now BadArguments = AreRefused asked × Keeps old new
+StoppedFor asked help version painted d old new before now NotUtf8 = ⊥
+StoppedFor asked help version painted d old new before now TooLong = ⊥
+StoppedFor asked help version painted d old new before now ReadFault = ⊥
+StoppedFor asked help version painted d old new before now WriteFault = PartFor asked help version painted d old new before now
+StoppedFor asked help version painted d old new before now NoMemory = Keeps old new

@@ -1,0 +1,190 @@
+//! The run of the program, over any files, source and sinks.
+ghost use Rattle.std.specs.Prelude.{◌≡◌, IfErr, IfOk, OnOk};
+ghost use Rattle.std.specs.Io.KnownBytes.{Appends, Keeps};
+ghost use Rattle.check_words.specs.Asked.{asked_of};
+ghost use Rattle.checked_file.specs.declared.status.Status.TheVariants as status;
+ghost use Rattle.squawk_run.specs.declared.stop.Stop.TheVariants as stop;
+ghost use Rattle.squawk_run.specs.Stops.{line_of};
+ghost use Rattle.squawk_stream.specs.Faults.{HasCause, Rose};
+ghost use Rattle.squawk_stream.specs.Parts.{AppendsPart};
+ghost use Rattle.check_command.specs.Command.{DoneFor, HasChecked, StoppedFor, judge_by, style_of};
+
+use crate::printer::StylePrinter;
+use check_print::Style;
+use check_run::check;
+use check_words::{Asked, Color, HELP, Request, VERSION, linter_choices, read_asked};
+use checked_file::Status;
+use file_answer::FileLinter;
+use file_store::FileStore;
+use squawk_linter::Linter;
+use squawk_run::{Stop, say_stop};
+use squawk_stream::{Sink, Source, write_all};
+use squawk_words::{Choices, Words};
+use std::alloc::Global;
+use text_pos::NoMemory;
+
+// The style that a request asks for, by whether colours are expected where it does not say.
+fn style_of(request: &Request, is_painted: bool) -> Style
+    ensures { result ≡ style_of request.now is_painted }
+{
+    let color = match request.color {
+        Color::Always => true,
+        Color::Never => false,
+        Color::Auto => is_painted,
+    };
+    Style {
+        format: request.format,
+        color,
+    }
+}
+
+// The linter with what is chosen.
+fn judge_by(choices: Choices) -> FileLinter
+    ensures { result ≡ judge_by choices }
+{
+    FileLinter {
+        linter: Linter {
+            rules: choices.rules,
+            settings: choices.settings,
+        },
+    }
+}
+
+// Writes a text.
+fn write_text<K: Sink>(text: &str, out: &mut K) -> Result<Status, Stop>
+    ensures ok { OnOk result (Appends (K.held out.old) (K.held out.new) text.now) }
+    ensures clean { IfOk result (λ s. s ≡ status.Clean) }
+    ensures stop { IfErr result (λ s. s ≡ stop.WriteFault) }
+    ensures part { AppendsPart (K.held out.old) (K.held out.new) text.now }
+    ensures cause { HasCause (K.faults out.old) (K.faults out.new) result }
+{
+    match write_all(out, text.as_bytes()) {
+        Ok(()) => Ok(Status::Clean),
+        Err(_) => Err(Stop::WriteFault),
+    }
+}
+
+// A run over files, or over the input.
+fn check_request<F: FileStore, S: Source, K: Sink>(
+    alloc: Global,
+    request: &Request,
+    is_painted: bool,
+    files: &mut F,
+    src: &mut S,
+    out: &mut K,
+) -> Result<Status, Stop>
+    ensures done { IfOk result (HasChecked request.now is_painted
+        (record {
+          content = F.content files.old;
+          files_before = F.faults files.old;
+          files_now = F.faults files.new;
+          left = S.left src.old;
+          input_before = S.faults src.old;
+          input_now = S.faults src.new;
+        })
+        (K.held out.old) (K.held out.new)) }
+    ensures stopped { IfErr result (StoppedFor (Asked.Check request.now) HELP.now VERSION.now is_painted
+        (record {
+          content = F.content files.old;
+          files_before = F.faults files.old;
+          files_now = F.faults files.new;
+          left = S.left src.old;
+          input_before = S.faults src.old;
+          input_now = S.faults src.new;
+        })
+        (K.held out.old) (K.held out.new) (K.faults out.old) (K.faults out.new)) }
+{
+    let mut judge = match linter_choices(alloc, &request.linter) {
+        Ok(Some(choices)) => judge_by(choices),
+        Ok(None) => return Err(Stop::BadArguments),
+        Err(NoMemory) => return Err(Stop::NoMemory),
+    };
+    let printer = StylePrinter {
+        style: style_of(request, is_painted),
+    };
+    check(alloc, request, &mut judge, &printer, files, src, out)
+}
+
+// All of a run but the line on the error sink.
+fn work<F: FileStore, S: Source, K: Sink>(
+    alloc: Global,
+    words: &Words,
+    is_painted: bool,
+    files: &mut F,
+    src: &mut S,
+    out: &mut K,
+) -> Result<Status, Stop>
+    ensures done { IfOk result (DoneFor (asked_of words.now) HELP.now VERSION.now is_painted
+        (record {
+          content = F.content files.old;
+          files_before = F.faults files.old;
+          files_now = F.faults files.new;
+          left = S.left src.old;
+          input_before = S.faults src.old;
+          input_now = S.faults src.new;
+        })
+        (K.held out.old) (K.held out.new)) }
+    ensures stopped { IfErr result (StoppedFor (asked_of words.now) HELP.now VERSION.now is_painted
+        (record {
+          content = F.content files.old;
+          files_before = F.faults files.old;
+          files_now = F.faults files.new;
+          left = S.left src.old;
+          input_before = S.faults src.old;
+          input_now = S.faults src.new;
+        })
+        (K.held out.old) (K.held out.new) (K.faults out.old) (K.faults out.new)) }
+{
+    match read_asked(alloc, words) {
+        Ok(Asked::Check(request)) => check_request(alloc, &request, is_painted, files, src, out),
+        Ok(Asked::Help) => write_text(HELP, out),
+        Ok(Asked::Version) => write_text(VERSION, out),
+        Ok(Asked::Refused) => Err(Stop::BadArguments),
+        Err(NoMemory) => Err(Stop::NoMemory),
+    }
+}
+
+/// Does what the words after the program's name ask for: reads files, or the input, and writes to `out` what comes of them. Why nothing
+/// more was written goes to `err`, and a failure there changes nothing else. `is_painted` is whether colours are expected where no word
+/// says. The stops are `BadArguments`, `WriteFault` and `NoMemory`.
+pub fn run<F: FileStore, S: Source, K: Sink, E: Sink>(
+    alloc: Global,
+    words: &Words,
+    is_painted: bool,
+    files: &mut F,
+    src: &mut S,
+    out: &mut K,
+    err: &mut E,
+) -> Result<Status, Stop>
+    ensures done { IfOk result (DoneFor (asked_of words.now) HELP.now VERSION.now is_painted
+        (record {
+          content = F.content files.old;
+          files_before = F.faults files.old;
+          files_now = F.faults files.new;
+          left = S.left src.old;
+          input_before = S.faults src.old;
+          input_now = S.faults src.new;
+        })
+        (K.held out.old) (K.held out.new)) }
+    ensures stopped { IfErr result (StoppedFor (asked_of words.now) HELP.now VERSION.now is_painted
+        (record {
+          content = F.content files.old;
+          files_before = F.faults files.old;
+          files_now = F.faults files.new;
+          left = S.left src.old;
+          input_before = S.faults src.old;
+          input_now = S.faults src.new;
+        })
+        (K.held out.old) (K.held out.new) (K.faults out.old) (K.faults out.new)) }
+    ensures line { IfErr result (λ stop. AppendsPart (E.held err.old) (E.held err.new) (line_of stop)) }
+    ensures whole_line { IfErr result (λ stop. ¬ (Rose (E.faults err.old) (E.faults err.new)) → Appends (E.held err.old) (E.held err.new) (line_of stop)) }
+    ensures no_line { OnOk result (Keeps (E.held err.old) (E.held err.new)) }
+{
+    match work(alloc, words, is_painted, files, src, out) {
+        Ok(status) => Ok(status),
+        Err(stop) => {
+            say_stop(err, stop);
+            Err(stop)
+        }
+    }
+}
