@@ -15,6 +15,9 @@ there are two kinds more:
   the head of the page is not what the section says;
 - each statement of the table of what a clean answer does not see: no rule that is on reports it, but for those that ask for a transaction
   or for timeouts.
+
+A block of README.md or docs/USE.md that begins with `$ ./lavkheto` is the run that `rt ci` compares (crates/lavkheto): `--check` says where
+it is not.
 """
 import pathlib
 import re
@@ -120,6 +123,22 @@ def wanted():
     return {'stdin': '\n'.join(lines) + '\n', 'stdout': f'{count} passed, 0 failed\n'}
 
 
+def stored_run(program):
+    """The stored run of a program as a page shows it: the command, and what it prints."""
+    folder = TOP / 'crates' / program
+    words = (folder / 'args').read_text(encoding='utf-8').split('\n')
+    return f'$ ./{program} {shlex.join(word for word in words if word)}\n' + (folder / 'stdout').read_text(encoding='utf-8')
+
+
+def strange_runs():
+    """The pages that show a run of `lavkheto` that is not the stored one."""
+    strange = []
+    for page in ['README.md', 'docs/USE.md']:
+        shown = re.findall(r'^```\n(\$ \./lavkheto .*?)^```$', (TOP / page).read_text(encoding='utf-8'), re.M | re.S)
+        strange += [page for run in shown if run != stored_run('lavkheto')]
+    return strange
+
+
 def main():
     words = sys.argv[1:]
     if words == []:
@@ -130,7 +149,10 @@ def main():
         stale = [name for name, text in wanted().items() if (RUNNER / name).read_bytes() != text.encode()]
         for name in stale:
             print(f'crates/case_runner/{name} is out of date: run tools/join_cases.py')
-        return 1 if stale else 0
+        strange = strange_runs()
+        for page in strange:
+            print(f'{page} shows another run of lavkheto than crates/lavkheto has')
+        return 1 if stale or strange else 0
     if len(words) == 2 and words[0] == '--at' and words[1].isdigit():
         lines = joined()
         at = int(words[1])
