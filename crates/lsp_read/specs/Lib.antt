@@ -1,0 +1,5 @@
+pub mod Place
+pub mod Params
+pub mod PartValue
+pub mod Method
+pub mod Message

@@ -1,0 +1,11 @@
+//! The messages that a client sends, read from their JSON.
+//!
+//! `specs/Message.antt` says which message some bytes are. Members that it does not name are passed over.
+#![tactic(auto)]
+
+mod message;
+mod method;
+mod params;
+mod place;
+
+pub use message::read_message;

@@ -1,0 +1,39 @@
+-- What is to be known of reports, as hovers of the protocol.
+use Rattle.std.specs.Prelude.{ℕ, List, [], ◌∷◌, ◌++◌, Option, Some, None, codes, flat_map, if◌then◌else◌}
+use Rattle.lint_base.specs.declared.rule.Rule.{Rule}
+use Rattle.lsp_report.specs.declared.report.Report.{Report}
+use Rattle.lsp_write.specs.Action.{meets}
+use Rattle.lsp_write.specs.Diagnostic.{code_of, page_of}
+use Rattle.serde_json.specs.Data.{Data, member, no_members, null, object, string}
+use Rattle.text_utf16.specs.declared.position.Pos.{Pos}
+
+-- a line that begins with a head
+abbrev pub line : List ℕ → List ℕ → List ℕ
+line head part = head ++ part ++ codes "\n"
+
+-- the same where there is a part
+abbrev pub line_if : List ℕ → Option (List ℕ) → List ℕ
+line_if head None = []
+line_if head (Some part) = line head part
+
+-- the line with the address of a rule's page
+abbrev pub page_line : Option Rule → List ℕ
+page_line None = []
+page_line (Some rule) = line (codes "see: ") (page_of rule)
+
+-- what is to be known of a report
+abbrev pub explanation : Report → List ℕ
+explanation r = line (codes "") (code_of r.rule) ++ line (codes "") r.message ++ line_if (codes "note: ") r.note ++ line_if (codes "help: ") r.help ++ page_line r.rule
+
+-- what is to be known of the reports at a place
+abbrev pub explanations : List Report → Pos → List ℕ
+explanations reports at = flat_map (λ r. if meets r at at then explanation r else []) reports
+
+-- a hover, or null where nothing is to be known
+abbrev pub hover_of : List ℕ → Data
+hover_of [] = null
+hover_of (byte ∷ bytes) =
+    object (member (codes "contents") (object (member (codes "kind") (string (codes "plaintext")) (member (codes "value") (string (byte ∷ bytes)) no_members))) no_members)
+
+unfoldable pub hover_json : List Report → Pos → Data
+hover_json reports at = hover_of (explanations reports at)
