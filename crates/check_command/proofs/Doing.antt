@@ -1,9 +1,10 @@
 -- From a run over files to what a run does that the words ask for.
-use Rattle.std.proofs.Common.{◌≡◌, subst, refl, ℕ, Bool, List, Option, Some, Result, Ok, Err, IfOk, IfErr}
+use Rattle.std.proofs.Common.{◌≡◌, subst, refl, sym, ℕ, Bool, List, Option, Some, Result, Ok, Err, IfOk, IfErr}
 use Rattle.check_print.specs.declared.style.Style.{Style}
 use Rattle.check_print.specs.Printed.{printed}
 use Rattle.check_run.specs.Checks.{Answers}
 use Rattle.check_run.specs.Runs.{AreAnswers, Devices, HasRun, HasStopped}
+use Rattle.check_words.specs.declared.asked.Asked.{Asked}
 use Rattle.check_words.specs.declared.asked.Asked.TheVariants.{Check}
 use Rattle.check_words.specs.declared.request.FailOn.{FailOn}
 use Rattle.check_words.specs.declared.request.Request.{Request}
@@ -14,7 +15,7 @@ use Rattle.file_answer.specs.Answers.{IsAnswerOf}
 use Rattle.squawk_run.specs.declared.stop.Stop.{Stop}
 use Rattle.squawk_run.specs.declared.stop.Stop.TheVariants.{BadArguments, NotUtf8, TooLong, ReadFault, WriteFault, NoMemory}
 use Rattle.squawk_words.specs.declared.choices.Choices.{Choices}
-use Rattle.check_command.specs.Command.{HasChecked, StoppedFor, answers_by, ended_by, judge_by, status_by, style_of}
+use Rattle.check_command.specs.Command.{DoneFor, HasChecked, StoppedFor, answers_by, ended_by, judge_by, status_by, style_of}
 
 -- the answers of a linter
 abbrev pub answers_of : FileLinter → Answers
@@ -57,3 +58,12 @@ has_stopped request help version painted d old new before now WriteFault choices
       part = subst (λ (s : Style). HasStopped (AreAnswers (answers_by choices) d request) (printed s) old new before now WriteFault) in_style
           (subst (λ (j : FileLinter). HasStopped (AreAnswers (answers_of j) d request) (printed style) old new before now WriteFault) by h);
     }
+
+-- what was done for a request was done for the words that ask for it
+pub done_for : (asked : Asked) (request : Request) (help version : List ℕ) (painted : Bool) (d : Devices) (old new : Option (List ℕ)) (result : Status)
+    → asked ≡ Check request → HasChecked request painted d old new result → DoneFor asked help version painted d old new result
+done_for asked request help version painted d old new result is h = subst (λ (a : Asked). DoneFor a help version painted d old new result) (sym is) h
+
+pub stopped_for : (asked : Asked) (request : Request) (help version : List ℕ) (painted : Bool) (d : Devices) (old new : Option (List ℕ)) (before now : ℕ) (stop : Stop)
+    → asked ≡ Check request → StoppedFor (Check request) help version painted d old new before now stop → StoppedFor asked help version painted d old new before now stop
+stopped_for asked request help version painted d old new before now stop is h = subst (λ (a : Asked). StoppedFor a help version painted d old new before now stop) (sym is) h

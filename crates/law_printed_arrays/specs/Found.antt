@@ -8,7 +8,7 @@ use Rattle.lint_base.specs.declared.violation.Violation.{Violation}
 use Rattle.lint_base.specs.Rules.{name_of}
 use Rattle.report_json.specs.Objects.{finding_object, fix_data, hint_data, text_data}
 use Rattle.serde_json.specs.Data.{Data, null}
-use Rattle.source_file.specs.declared.level.Level.TheVariants as level
+use Rattle.source_file.specs.declared.level.Level.TheVariants as levels
 use Rattle.source_file.specs.declared.refusal.Refusal.{Refusal}
 use Rattle.source_file.specs.File.{FileValue, location}
 use Rattle.source_file.specs.Hints.{hint_of}
@@ -32,7 +32,7 @@ abbrev pub found_report : FileValue → Violation → Found
 found_report file v = record {
   file = file;
   range = v.text_range;
-  level = word_of level.Warning;
+  level = word_of levels.Warning;
   rule = name_of v.code;
   message = v.message;
   note = text_data v.note;
@@ -45,7 +45,7 @@ abbrev pub found_refusal : FileValue → Refusal → Found
 found_refusal file r = record {
   file = file;
   range = record { start = refusals.place_of r; end = refusals.place_of r };
-  level = word_of level.Error;
+  level = word_of levels.Error;
   rule = refusals.name_of r;
   message = refusals.message_of r;
   note = null;
