@@ -1,5 +1,5 @@
 -- From the outline of an array back to the findings.
-use Rattle.std.proofs.Common.{◌≡◌, ◌∙◌, ◌+◌, ◌<◌, ◌≤◌, ◌^◌, ℕ, List, [], ◌∷◌, ◌++◌, All, Option, Some, None, ap, arith, append-nil, codes, decimal, map, refl, suc, sym, zero}
+use Rattle.std.proofs.Common.{◌≡◌, ◌∙◌, ◌+◌, ◌<◌, ◌≤◌, ◌^◌, ℕ, List, [], ◌∷◌, ◌++◌, All, Option, Some, None, ap, arith, append-nil, decimal, map, refl, suc, sym, zero}
 use Rattle.std.proofs.lemmas.Fmt.{decimal_injective}
 use Rattle.std.proofs.lemmas.List.Elements.{All-head, All-tail}
 use Rattle.json.specs.Json as json
@@ -10,7 +10,7 @@ use Rattle.json.proofs.Printed.Trees.{value-json_tokens}
 use Rattle.serde_json.specs.Data.{Data, Items, Members, array, boolean, item, member, no_items, no_members, null, number, object, string, unsigned, negative, float}
 use Rattle.serde_json.specs.View.{items_of}
 use Rattle.serde_json.specs.Written.{items_outline, members_outline, outline}
-use Rattle.law_printed_arrays.specs.Found.{Found, object_of, told}
+use Rattle.law_printed_arrays.specs.Found.{Found, Told, object_of, told}
 use Rattle.law_printed_arrays.specs.Unique.{AreShortItems, AreShortMembers, IsShort}
 use Rattle.law_printed_arrays.proofs.Chunks.{members_of}
 use Rattle.law_printed_arrays.proofs.Spaced.{array_of}
@@ -63,20 +63,24 @@ same_value j k e =
 
 -- ---- the members of a finding
 
-abbrev shape : ℕ → ℕ → List ℕ → json.Json → json.Json → List ℕ → ℕ → ℕ → List ℕ → json.Json → List ℕ → json.Json
-shape column column_end name fix help level line line_end message note rule =
-    json.object
-    (json.member (codes "column") (json.number (decimal column))
-    (json.member (codes "column_end") (json.number (decimal column_end))
-    (json.member (codes "file") (json.string name)
-    (json.member (codes "fix") fix
-    (json.member (codes "help") help
-    (json.member (codes "level") (json.string level)
-    (json.member (codes "line") (json.number (decimal line))
-    (json.member (codes "line_end") (json.number (decimal line_end))
-    (json.member (codes "message") (json.string message)
-    (json.member (codes "note") note
-    (json.member (codes "rule_name") (json.string rule) json.no_members)))))))))))
+abbrev as_told : List ℕ → ℕ → ℕ → ℕ → ℕ → List ℕ → List ℕ → List ℕ → Told
+as_told name line column line_end column_end level rule message =
+    record {
+      name = name;
+      line = line;
+      column = column;
+      line_end = line_end;
+      column_end = column_end;
+      level = level;
+      rule = rule;
+      message = message;
+    }
+
+same_told : (n n' : List ℕ) (l l' c c' x x' y y' : ℕ) (v v' r r' m m' : List ℕ) → n ≡ n' → l ≡ l' → c ≡ c' → x ≡ x' → y ≡ y' → v ≡ v' → r ≡ r' → m ≡ m'
+    → as_told n l c x y v r m ≡ as_told n' l' c' x' y' v' r' m'
+same_told n n' l l' c c' x x' y y' v v' r r' m m' a b d e f g h i =
+    ap (λ t. as_told t l c x y v r m) a ∙ ap (λ t. as_told n' t c x y v r m) b ∙ ap (λ t. as_told n' l' t x y v r m) d ∙ ap (λ t. as_told n' l' c' t y v r m) e
+    ∙ ap (λ t. as_told n' l' c' x' t v r m) f ∙ ap (λ t. as_told n' l' c' x' y' t r m) g ∙ ap (λ t. as_told n' l' c' x' y' v' t m) h ∙ ap (λ t. as_told n' l' c' x' y' v' r' t) i
 
 -- the value of the member at a place
 abbrev value_at : ℕ → json.Members → json.Json
@@ -113,7 +117,8 @@ told_same f g short others e =
     let level : a.level ≡ b.level = text 5 in
     let message : a.message ≡ b.message = text 8 in
     let rule : a.rule ≡ b.rule = text 10 in
-    cc
+    same_told a.name b.name a.line b.line a.column b.column a.line_end b.line_end a.column_end b.column_end a.level b.level a.rule b.rule a.message b.message
+    name line column line_end column_end level rule message
 
 -- ---- all findings
 
