@@ -1,11 +1,12 @@
 -- What the words after the program's name ask for.
-use Rattle.std.specs.Prelude.{List, [], ◌∷◌, Option, Some, None, codes, drop, option_and_then, slice_get, if◌then◌else◌}
+use Rattle.std.specs.Prelude.{false, List, [], ◌∷◌, Option, Some, None, codes, drop, option_and_then, slice_get, if◌then◌else◌}
 use Rattle.std.specs.Str.{bytes_eq}
 use Rattle.squawk_run.specs.ForeignWords.{has_foreign_word}
 use Rattle.squawk_words.specs.Words.{Text}
 use Rattle.check_words.specs.declared.asked.Asked.{Asked}
 use Rattle.check_words.specs.declared.asked.Asked.TheVariants.{Check, Help, Version, Refused}
 use Rattle.check_words.specs.declared.request.Color.TheVariants.{Auto}
+use Rattle.check_words.specs.declared.request.FailOn.TheVariants.{Warning}
 use Rattle.check_words.specs.declared.request.Format.TheVariants as format
 use Rattle.check_words.specs.declared.request.Request.{Request}
 use Rattle.check_words.specs.declared.step.Next.{Next}
@@ -15,7 +16,22 @@ use Rattle.check_words.specs.Steps.{step}
 
 -- what no word asks for
 abbrev pub start : Reader
-start = record { next = Any; request = record { format = format.Text; color = Auto; stdin_name = codes "stdin"; files = []; linter = [] } }
+start = record {
+  next = Any;
+  request = record {
+    format = format.Text;
+    color = Auto;
+    stdin_name = codes "stdin";
+    config = None;
+    baseline = None;
+    write_baseline = None;
+    fail_on = Warning;
+    quiet = false;
+    statistics = false;
+    files = [];
+    linter = [];
+  };
+}
 
 -- the end, at which no value is waited for
 abbrev pub ended : Next → Request → Option Request

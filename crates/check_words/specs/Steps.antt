@@ -2,44 +2,15 @@
 use Rattle.std.specs.Prelude.{◌==◌, ◌||◌, ◌++◌, Bool, true, false, [], ◌∷◌, Option, Some, None, codes, option_map, if◌then◌else◌}
 use Rattle.std.specs.Str.{bytes_eq}
 use Rattle.squawk_words.specs.Words.{Text, after_dashes, name_in, value_in}
-use Rattle.check_words.specs.declared.request.Color.{Color}
-use Rattle.check_words.specs.declared.request.Color.TheVariants as color
-use Rattle.check_words.specs.declared.request.Format.{Format}
-use Rattle.check_words.specs.declared.request.Format.TheVariants as format
+use Rattle.check_words.specs.declared.names.Choice.{Choice}
+use Rattle.check_words.specs.declared.names.Choice.TheVariants as choice
+use Rattle.check_words.specs.declared.names.Flag.{Flag}
+use Rattle.check_words.specs.declared.names.Flag.TheVariants.{Quiet, Statistics}
 use Rattle.check_words.specs.declared.request.Request.{Request}
-use Rattle.check_words.specs.declared.step.Choice.{Choice}
-use Rattle.check_words.specs.declared.step.Choice.TheVariants as choice
 use Rattle.check_words.specs.declared.step.Next.{Next}
 use Rattle.check_words.specs.declared.step.Next.TheVariants.{Any, Value, LinterValue, File}
 use Rattle.check_words.specs.declared.step.Reader.{Reader}
-
--- ---- names
-
--- the options of `check` itself
-abbrev pub choice_named : Text → Option Choice
-choice_named name =
-    if bytes_eq name (codes "format") then Some choice.Format
-    else if bytes_eq name (codes "color") then Some choice.Color
-    else if bytes_eq name (codes "stdin-filename") then Some choice.StdinName
-    else None
-
--- the values of `--format`
-abbrev pub format_named : Text → Option Format
-format_named name =
-    if bytes_eq name (codes "text") then Some format.Text
-    else if bytes_eq name (codes "concise") then Some format.Concise
-    else if bytes_eq name (codes "gcc") then Some format.Gcc
-    else if bytes_eq name (codes "github") then Some format.Github
-    else if bytes_eq name (codes "json") then Some format.Json
-    else None
-
--- the values of `--color`
-abbrev pub color_named : Text → Option Color
-color_named name =
-    if bytes_eq name (codes "auto") then Some color.Auto
-    else if bytes_eq name (codes "always") then Some color.Always
-    else if bytes_eq name (codes "never") then Some color.Never
-    else None
+use Rattle.check_words.specs.Names.{choice_named, color_named, fail_on_named, flag_named, format_named}
 
 -- ---- what is set
 
@@ -55,11 +26,36 @@ with_color value r = option_map (λ c. record r { color = c }) (color_named valu
 abbrev pub with_stdin_name : Text → Request → Request
 with_stdin_name value r = record r { stdin_name = value }
 
+-- a request with reports that make the run fail, where these have this name
+abbrev pub with_fail_on : Text → Request → Option Request
+with_fail_on value r = option_map (λ f. record r { fail_on = f }) (fail_on_named value)
+
+-- a request with a configuration file
+abbrev pub with_config : Text → Request → Request
+with_config value r = record r { config = Some value }
+
+-- a request with a file of reports that do not count
+abbrev pub with_baseline : Text → Request → Request
+with_baseline value r = record r { baseline = Some value }
+
+-- a request to write such a file
+abbrev pub with_write_baseline : Text → Request → Request
+with_write_baseline value r = record r { write_baseline = Some value }
+
+-- a request with an option set that takes no value
+abbrev pub with_flag : Flag → Request → Request
+with_flag Quiet r = record r { quiet = true }
+with_flag Statistics r = record r { statistics = true }
+
 -- a request with an option set, where the option has this value
 unfoldable pub set : Choice → Text → Request → Option Request
 set choice.Format value r = with_format value r
 set choice.Color value r = with_color value r
 set choice.StdinName value r = Some (with_stdin_name value r)
+set choice.Config value r = Some (with_config value r)
+set choice.Baseline value r = Some (with_baseline value r)
+set choice.WriteBaseline value r = Some (with_write_baseline value r)
+set choice.FailOn value r = with_fail_on value r
 
 -- the same, where any word may follow
 abbrev pub put : Choice → Text → Request → Option Reader
@@ -99,8 +95,20 @@ abbrev pub option_by : Option Choice → Text → Text → Request → Option Re
 option_by (Some c) word rest r = own_word c (value_in rest) r
 option_by None word rest r = Some (with_linter_word (after_linter_option rest) word r)
 
+unfoldable pub valued_word : Text → Text → Request → Option Reader
+valued_word word rest r = option_by (choice_named (name_in rest)) word rest r
+
+-- an option that takes no value has none after `=`
+abbrev pub flag_word : Flag → Option Text → Request → Option Reader
+flag_word flag (Some value) r = None
+flag_word flag None r = Some (record { next = Any; request = with_flag flag r })
+
+abbrev pub option_word_by : Option Flag → Text → Text → Request → Option Reader
+option_word_by (Some flag) word rest r = flag_word flag (value_in rest) r
+option_word_by None word rest r = valued_word word rest r
+
 unfoldable pub option_word : Text → Text → Request → Option Reader
-option_word word rest r = option_by (choice_named (name_in rest)) word rest r
+option_word word rest r = option_word_by (flag_named (name_in rest)) word rest r
 
 -- `--` alone: files follow
 abbrev pub dashed_word : Text → Text → Request → Option Reader

@@ -6,6 +6,7 @@
 mod asked;
 mod help;
 mod linter;
+mod names;
 mod read;
 mod request;
 mod step;
@@ -13,4 +14,4 @@ mod step;
 pub use asked::{Asked, read_asked};
 pub use help::{HELP, VERSION};
 pub use linter::linter_choices;
-pub use request::{Color, Format, Request};
+pub use request::{Color, FailOn, Format, Request};

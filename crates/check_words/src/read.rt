@@ -2,7 +2,7 @@
 ghost use Rattle.std.specs.Prelude.{◌≡◌, IfOk, drop};
 ghost use Rattle.check_words.specs.Asked.{ended, request_of, start};
 
-use crate::request::{Color, Format, Request};
+use crate::request::{Color, FailOn, Format, Request};
 use crate::step::{Next, Reader, step};
 use lint_base::Text;
 use squawk_words::Words;
@@ -19,6 +19,12 @@ fn start(alloc: Global) -> Reader
             format: Format::Text,
             color: Color::Auto,
             stdin_name: Text::fixed("stdin"),
+            config: None,
+            baseline: None,
+            write_baseline: None,
+            fail_on: FailOn::Warning,
+            quiet: false,
+            statistics: false,
             files: Words::new(alloc),
             linter: Words::new(alloc),
         },

@@ -16,6 +16,10 @@ pub enum Format {
     Github,
     /// As an array of JSON objects.
     Json,
+    /// As a log of SARIF 2.1.0.
+    Sarif,
+    /// As a code quality report of GitLab.
+    Gitlab,
 }
 
 /// Whether the text format is painted.
@@ -29,6 +33,15 @@ pub enum Color {
     Never,
 }
 
+/// Which reports make a run fail. Errors do always.
+#[derive(Clone, Copy, Debug, PartialEq, Eq)]
+pub enum FailOn {
+    /// Each report: the status is 1 where there is one.
+    Warning,
+    /// None: the status is 0 where there are only reports.
+    Never,
+}
+
 /// What the words of `check` ask for.
 #[derive(Drop)]
 pub struct Request {
@@ -38,6 +51,18 @@ pub struct Request {
     pub color: Color,
     /// What standard input is called.
     pub stdin_name: Text,
+    /// The configuration file, where one is named.
+    pub config: Option<Text>,
+    /// The file of reports that do not count, where one is named.
+    pub baseline: Option<Text>,
+    /// Where the reports that are there are written as such a file, where this is asked for.
+    pub write_baseline: Option<Text>,
+    /// Which reports make the run fail.
+    pub fail_on: FailOn,
+    /// Whether less is written.
+    pub quiet: bool,
+    /// Whether the rules are counted.
+    pub statistics: bool,
     /// The files and folders, in order.
     pub files: Words,
     /// The words that choose the linter, as `squawk_words` reads them.

@@ -3,18 +3,13 @@ ghost use Rattle.std.specs.Prelude.{◌≡◌, [], IfOk, codes, option_map};
 ghost use Rattle.squawk_words.specs.Words.{after_dashes, begins_with_dash, name_in, value_in};
 ghost use Rattle.check_words.specs.Steps as spec;
 
-use crate::request::{Color, Format, Request};
+use crate::names::{
+    Choice, Flag, choice_named, color_named, fail_on_named, flag_named, format_named,
+};
+use crate::request::Request;
 use lint_base::Text;
 use std::alloc::{AllocError, Global};
 use text_pos::NoMemory;
-
-/// An option of `check` itself, which takes a value.
-#[derive(Clone, Copy, Debug, PartialEq, Eq)]
-pub(crate) enum Choice {
-    Format,
-    Color,
-    StdinName,
-}
 
 /// What the next word is to be.
 #[derive(Clone, Copy, Debug, PartialEq, Eq)]
@@ -73,55 +68,6 @@ fn is_option(word: &str) -> bool
     }
 }
 
-// The option of `check` itself of a name.
-fn choice_named(name: &str) -> Option<Choice>
-    ensures { result ≡ spec.choice_named name.now }
-{
-    if name == "format" {
-        Some(Choice::Format)
-    } else if name == "color" {
-        Some(Choice::Color)
-    } else if name == "stdin-filename" {
-        Some(Choice::StdinName)
-    } else {
-        None
-    }
-}
-
-// The format of a name.
-fn format_named(name: &str) -> Option<Format>
-    ensures { result ≡ spec.format_named name.now }
-{
-    if name == "text" {
-        Some(Format::Text)
-    } else if name == "concise" {
-        Some(Format::Concise)
-    } else if name == "gcc" {
-        Some(Format::Gcc)
-    } else if name == "github" {
-        Some(Format::Github)
-    } else if name == "json" {
-        Some(Format::Json)
-    } else {
-        None
-    }
-}
-
-// The use of colours of a name.
-fn color_named(name: &str) -> Option<Color>
-    ensures { result ≡ spec.color_named name.now }
-{
-    if name == "auto" {
-        Some(Color::Auto)
-    } else if name == "always" {
-        Some(Color::Always)
-    } else if name == "never" {
-        Some(Color::Never)
-    } else {
-        None
-    }
-}
-
 // A copy of a text.
 fn copied(alloc: Global, text: &str) -> Result<Text, AllocError>
     ensures { IfOk result (λ copy. copy ≡ text.now) }
@@ -154,6 +100,56 @@ fn with_stdin_name(alloc: Global, mut request: Request, value: &str) -> Result<R
     Ok(request)
 }
 
+// A request with reports that make the run fail, where these have this name.
+fn with_fail_on(mut request: Request, value: &str) -> Option<Request>
+    ensures { result ≡ spec.with_fail_on value.now request }
+{
+    request.fail_on = fail_on_named(value)?;
+    Some(request)
+}
+
+// A request with a configuration file.
+fn with_config(alloc: Global, mut request: Request, value: &str) -> Result<Request, AllocError>
+    ensures { IfOk result (λ r. r ≡ spec.with_config value.now request) }
+{
+    let name = copied(alloc, value)?;
+    request.config = Some(name);
+    Ok(request)
+}
+
+// A request with a file of reports that do not count.
+fn with_baseline(alloc: Global, mut request: Request, value: &str) -> Result<Request, AllocError>
+    ensures { IfOk result (λ r. r ≡ spec.with_baseline value.now request) }
+{
+    let name = copied(alloc, value)?;
+    request.baseline = Some(name);
+    Ok(request)
+}
+
+// A request to write such a file.
+fn with_write_baseline(
+    alloc: Global,
+    mut request: Request,
+    value: &str,
+) -> Result<Request, AllocError>
+    ensures { IfOk result (λ r. r ≡ spec.with_write_baseline value.now request) }
+{
+    let name = copied(alloc, value)?;
+    request.write_baseline = Some(name);
+    Ok(request)
+}
+
+// A request with an option set that takes no value.
+fn with_flag(mut request: Request, flag: Flag) -> Request
+    ensures { result ≡ spec.with_flag flag request }
+{
+    match flag {
+        Flag::Quiet => request.quiet = true,
+        Flag::Statistics => request.statistics = true,
+    }
+    request
+}
+
 // A request with an option set to a value, or `None` where the option has no such value.
 #[tactic(auto, unfolding(crate::specs::Steps::set))]
 fn set(
@@ -168,6 +164,10 @@ fn set(
         Choice::Format => Ok(with_format(request, value)),
         Choice::Color => Ok(with_color(request, value)),
         Choice::StdinName => Ok(Some(with_stdin_name(alloc, request, value)?)),
+        Choice::Config => Ok(Some(with_config(alloc, request, value)?)),
+        Choice::Baseline => Ok(Some(with_baseline(alloc, request, value)?)),
+        Choice::WriteBaseline => Ok(Some(with_write_baseline(alloc, request, value)?)),
+        Choice::FailOn => Ok(with_fail_on(request, value)),
     }
 }
 
@@ -217,15 +217,15 @@ fn after_linter_option(rest: &str) -> Next
     }
 }
 
-// An option, by what follows its dashes.
-#[tactic(auto, unfolding(crate::specs::Steps::option_word))]
-fn option_word(
+// An option that takes a value, or one for the linter, by what follows its dashes.
+#[tactic(auto, unfolding(crate::specs::Steps::valued_word))]
+fn valued_word(
     alloc: Global,
     word: &str,
     rest: &str,
     request: Request,
 ) -> Result<Option<Reader>, NoMemory>
-    ensures { IfOk result (λ r. r ≡ spec.option_word word.now rest.now request) }
+    ensures { IfOk result (λ r. r ≡ spec.valued_word word.now rest.now request) }
 {
     match choice_named(name_in(rest)) {
         None => Ok(Some(with_linter_word(after_linter_option(rest), request, word)?)),
@@ -236,6 +236,35 @@ fn option_word(
                 request,
             })),
         },
+    }
+}
+
+// An option that takes no value, and what follows its `=`, if there is one.
+fn flag_word(flag: Flag, value: Option<&str>, request: Request) -> Option<Reader>
+    ensures { result ≡ spec.flag_word flag (option_map (λ s. s.now) value.entry) request }
+{
+    match value {
+        Some(_) => None,
+        None => Some(Reader {
+            next: Next::Any,
+            request: with_flag(request, flag),
+        }),
+    }
+}
+
+// An option, by what follows its dashes.
+#[tactic(auto, unfolding(crate::specs::Steps::option_word))]
+fn option_word(
+    alloc: Global,
+    word: &str,
+    rest: &str,
+    request: Request,
+) -> Result<Option<Reader>, NoMemory>
+    ensures { IfOk result (λ r. r ≡ spec.option_word word.now rest.now request) }
+{
+    match flag_named(name_in(rest)) {
+        Some(flag) => Ok(flag_word(flag, value_in(rest), request)),
+        None => valued_word(alloc, word, rest, request),
     }
 }
 

@@ -1,0 +1,21 @@
+use Rattle.std.proofs.Common.{◌≡◌, ◌∙◌, sym}
+use Rattle.std.proofs.lemmas.Result.{IfErr-weaker, IfOk-weaker}
+use Rattle.check_words.specs.declared.asked.Asked.TheVariants.{Check}
+use Rattle.check_words.specs.declared.help.TheConstants.{HELP, VERSION}
+use Rattle.check_words.specs.Asked.{asked_of}
+use Rattle.check_command.proofs.Doing.{done_for, stopped_for}
+use Rattle.check_command.proofs.command.work.Goals as goal
+
+pub returns-in-Ok-Check-clause-done : goal.returns-in-Ok-Check-clause-done
+returns-in-Ok-Check-clause-done g c =
+    let asked : asked_of c.args.words.now ≡ Check c.in-Ok-Check.request = sym c.in-Ok-Check.ensures ∙ c.in-Ok-Check.field-0-is in
+    IfOk-weaker c.check_request.result _ _
+    (λ s h. done_for (asked_of c.args.words.now) c.in-Ok-Check.request HELP.now VERSION.now c.args.is_painted _ _ _ s asked h)
+    c.check_request.ensures.done
+
+pub returns-in-Ok-Check-clause-stopped : goal.returns-in-Ok-Check-clause-stopped
+returns-in-Ok-Check-clause-stopped g c =
+    let asked : asked_of c.args.words.now ≡ Check c.in-Ok-Check.request = sym c.in-Ok-Check.ensures ∙ c.in-Ok-Check.field-0-is in
+    IfErr-weaker c.check_request.result _ _
+    (λ s h. stopped_for (asked_of c.args.words.now) c.in-Ok-Check.request HELP.now VERSION.now c.args.is_painted _ _ _ _ _ s asked h)
+    c.check_request.ensures.stopped

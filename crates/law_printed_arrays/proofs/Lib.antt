@@ -1,0 +1,4 @@
+mod Chunks
+mod Spaced
+mod Shapes
+mod Uniqueness
