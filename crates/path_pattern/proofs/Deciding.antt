@@ -4,12 +4,7 @@ use Rattle.std.proofs.lemmas.Bool.{and_from, and_parts, cases_Bool, false≢true
 use Rattle.std.specs.List.{list_all}
 use Rattle.path_pattern.specs.declared.part.Part.{Part}
 use Rattle.path_pattern.specs.Patterns.{Fits, Matches, takes, takes_many}
-use Rattle.path_pattern.specs.Rows.{after_any, after_one, ends_here, part_test}
-
--- whether a path matches these parts
-abbrev pub test_of : List Part → List ℕ → Bool
-test_of [] = ends_here
-test_of (part ∷ parts) = part_test part (test_of parts)
+use Rattle.path_pattern.specs.Rows.{after_any, after_one, ends_here, matched_by, part_test}
 
 -- ---- from the test to the pieces
 
@@ -50,10 +45,10 @@ nothing_left : (path : List ℕ) → ends_here path ≡ true → path ≡ []
 nothing_left [] h = refl
 nothing_left (x ∷ xs) h = absurd (false≢true h)
 
-pub test_sound : (parts : List Part) (path : List ℕ) → test_of parts path ≡ true → Matches parts path
+pub test_sound : (parts : List Part) (path : List ℕ) → matched_by parts path ≡ true → Matches parts path
 test_sound [] path h = nothing_left path h
 test_sound (part ∷ parts) path h =
-    let (piece, rest, same, fits, passes) = fits_part part (test_of parts) path (takes_many part) refl h in
+    let (piece, rest, same, fits, passes) = fits_part part (matched_by parts) path (takes_many part) refl h in
     (piece, rest, same, fits, test_sound parts rest passes)
 
 -- ---- from the pieces to the test
@@ -80,8 +75,8 @@ part_passes part test piece rest false e fits passes =
       | inr one ↦ one_passes (takes part) test piece rest one fits.taken passes
     ]
 
-pub test_complete : (parts : List Part) (path : List ℕ) → Matches parts path → test_of parts path ≡ true
+pub test_complete : (parts : List Part) (path : List ℕ) → Matches parts path → matched_by parts path ≡ true
 test_complete [] path m = subst (λ (p : List ℕ). ends_here p ≡ true) (sym m) refl
 test_complete (part ∷ parts) path (piece, rest, same, fits, more) =
-    let passes = part_passes part (test_of parts) piece rest (takes_many part) refl fits (test_complete parts rest more) in
-    subst (λ (p : List ℕ). part_test part (test_of parts) p ≡ true) (sym same) passes
+    let passes = part_passes part (matched_by parts) piece rest (takes_many part) refl fits (test_complete parts rest more) in
+    subst (λ (p : List ℕ). part_test part (matched_by parts) p ≡ true) (sym same) passes

@@ -1,7 +1,7 @@
 -- A row, place by place.
 use Rattle.std.proofs.Common.{◌≡◌, ◌⊎◌, inl, inr, ◌∙◌, ◌+◌, ◌<◌, ◌≤◌, ap, arith, refl, subst, sym, ℕ, zero, suc, Bool, true, false, ◌&&◌, ◌||◌, cond, List, [], ◌∷◌, length, drop, get_or, set, replicate}
 use Rattle.std.proofs.lemmas.Bool.{cases_eq}
-use Rattle.std.proofs.lemmas.List.{drop_all, drop_more, get_or-replicate, get_or-set_other, get_or-set_same}
+use Rattle.std.proofs.lemmas.List.{drop_all, drop_more, get_or-replicate, get_or-set_other, get_or-set_same, length-replicate}
 use Rattle.path_pattern.specs.declared.part.Part.{Part}
 use Rattle.path_pattern.specs.Patterns.{takes, takes_many}
 use Rattle.path_pattern.specs.Rows.{IsRow, after_any, after_one, ends_here, part_test, value_at}

@@ -22,7 +22,12 @@ after_any may test (x ∷ xs) = test (x ∷ xs) || (may x && after_any may test 
 abbrev pub part_test : Part → (List ℕ → Bool) → List ℕ → Bool
 part_test part test path = if takes_many part then after_any (takes part) test path else after_one (takes part) test path
 
--- the same from what is known of the first byte, of what is here and of what is after that byte
+-- The path matches the parts, as a test.
+abbrev pub matched_by : List Part → List ℕ → Bool
+matched_by [] = ends_here
+matched_by (part ∷ parts) = part_test part (matched_by parts)
+
+-- a part's test from what is known of the first byte, of what is here and of what is after that byte
 abbrev pub value_at : Part → Bool → Bool → Bool → Bool → Bool
 value_at part is_here takes_first is_later is_next = if takes_many part then is_here || (takes_first && is_later) else takes_first && is_next
 

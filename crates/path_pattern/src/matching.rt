@@ -1,7 +1,7 @@
 //! Whether a path matches a pattern.
 ghost use Rattle.std.specs.Prelude.{◌≡◌, ◌+◌, ◌<◌, ◌↔◌, ℕ, Bool, IfOk, IsTrue, List, drop, length, slice_index, slice_index_or};
 ghost use Rattle.path_pattern.specs.Patterns.{Matches, parts_of, begins_with_star};
-ghost use Rattle.path_pattern.specs.Rows.{IsRow, ends_here, part_test, value_at};
+ghost use Rattle.path_pattern.specs.Rows.{IsRow, ends_here, matched_by, part_test, value_at};
 
 use crate::part::{Part, part_of, takes, takes_many};
 use std::alloc::{AllocError, Global};
@@ -47,7 +47,8 @@ fn first_row(alloc: Global, path: &[u8]) -> Result<Vec<bool>, AllocError>
 /// Whether a path matches a pattern: `*` stands for any bytes but slashes, `**` for any bytes, `?` for one byte but a slash, and every
 /// other byte for itself. The error comes when memory runs out.
 pub fn is_match(alloc: Global, pattern: &[u8], path: &[u8]) -> Result<bool, AllocError>
-    ensures { IfOk result (λ is. IsTrue is ↔ Matches (parts_of pattern.now) path.now) }
+    ensures value { IfOk result (λ is. is ≡ matched_by (parts_of pattern.now) path.now) }
+    ensures meaning { IfOk result (λ is. IsTrue is ↔ Matches (parts_of pattern.now) path.now) }
 {
     let mut row = first_row(alloc, path)?;
     let mut is_before_star = false;

@@ -1,4 +1,5 @@
-use Rattle.std.proofs.Common.{◌≡◌, ◌∙◌, ◌+◌, ◌-◌, ap, arith, get_or, set, subst, sym, ℕ, Bool, List}
+use Rattle.std.proofs.Common.{◌≡◌, ◌∙◌, ◌+◌, ◌-◌, ap, arith, get_or, set, subst, sym, ℕ, Bool, false, List}
+use Rattle.std.proofs.lemmas.List.{length-set}
 use Rattle.path_pattern.specs.Patterns.{takes}
 use Rattle.path_pattern.specs.Rows.{value_at}
 use Rattle.path_pattern.proofs.Rows.{Halfway, onward}

@@ -1,0 +1,6 @@
+mod Texts
+mod Finds
+mod Keys
+mod Places
+mod Reads
+mod Joins
