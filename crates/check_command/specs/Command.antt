@@ -1,5 +1,5 @@
 -- What a run does that the words ask for.
-use Rattle.std.specs.Prelude.{◌≡◌, ℕ, Bool, true, false, List, Option, Some, None, ⊤}
+use Rattle.std.specs.Prelude.{◌≡◌, ℕ, Bool, true, false, List, Option, Some, None, Result, Ok, Err, ⊤}
 use Rattle.std.specs.Io.KnownBytes.{Appends, Keeps}
 use Rattle.check_print.specs.declared.style.Style.{Style}
 use Rattle.check_print.specs.Printed.{printed}
@@ -9,10 +9,13 @@ use Rattle.check_words.specs.declared.asked.Asked.{Asked}
 use Rattle.check_words.specs.declared.asked.Asked.TheVariants.{Check, Help, Version, Refused}
 use Rattle.check_words.specs.declared.request.Color.{Color}
 use Rattle.check_words.specs.declared.request.Color.TheVariants.{Auto, Always, Never}
+use Rattle.check_words.specs.declared.request.FailOn.{FailOn}
+use Rattle.check_words.specs.declared.request.FailOn.TheVariants as fail_on
 use Rattle.check_words.specs.declared.request.Request.{Request}
 use Rattle.check_words.specs.Linter.{linter_choices}
 use Rattle.checked_file.specs.declared.status.Status.{Status}
 use Rattle.checked_file.specs.declared.status.Status.TheVariants as status
+use Rattle.checked_file.specs.Statuses.{forgiven}
 use Rattle.squawk_run.specs.declared.stop.Stop.{Stop}
 use Rattle.squawk_run.specs.declared.stop.Stop.TheVariants.{BadArguments, NotUtf8, TooLong, ReadFault, WriteFault, NoMemory}
 use Rattle.squawk_stream.specs.Faults.{Rose}
@@ -28,7 +31,12 @@ is_painted_by Never painted = false
 
 -- the style of what is written, by whether colours are expected where no word says
 abbrev pub style_of : Request → Bool → Style
-style_of request painted = record { format = request.format; color = is_painted_by request.color painted }
+style_of request painted = record {
+  format = request.format;
+  color = is_painted_by request.color painted;
+  quiet = request.quiet;
+  statistics = request.statistics;
+}
 
 -- the linter with what is chosen
 abbrev pub judge_by : Choices → FileLinter
@@ -38,12 +46,24 @@ judge_by choices = record { linter = record { rules = choices.rules; settings = 
 abbrev pub answers_by : Choices → Answers
 answers_by choices bytes answer = IsAnswerOf bytes choices.rules choices.settings answer
 
+-- the status of a run, by the greatest of its files and by which reports make it fail
+abbrev pub status_by : FailOn → Status → Status
+status_by fail_on.Warning greatest = greatest
+status_by fail_on.Never greatest = forgiven greatest
+
+-- the same, where nothing stopped it
+abbrev pub ended_by : FailOn → Result Status Stop → Result Status Stop
+ended_by fails (Ok greatest) = Ok (status_by fails greatest)
+ended_by fails (Err stop) = Err stop
+
 -- The words for the linter choose rules and settings. Under these each file has its answer, all of them were written in the style, and
--- the status is the greatest.
+-- the status is by the greatest of theirs.
 pub record HasChecked (request : Request) (painted : Bool) (d : Devices) (old new : Option (List ℕ)) (result : Status) : Type 0 where
   pub choices : Choices
   pub chosen : linter_choices request.linter ≡ Some choices
-  pub run : HasRun (AreAnswers (answers_by choices) d request) (printed (style_of request painted)) old new result
+  pub greatest : Status
+  pub run : HasRun (AreAnswers (answers_by choices) d request) (printed (style_of request painted)) old new greatest
+  pub ended : result ≡ status_by request.fail_on greatest
 
 -- The same, but a write failed.
 pub record HasCheckedPart (request : Request) (painted : Bool) (d : Devices) (old new : Option (List ℕ)) (before now : ℕ) : Type 0 where

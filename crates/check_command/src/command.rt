@@ -7,12 +7,12 @@ ghost use Rattle.squawk_run.specs.declared.stop.Stop.TheVariants as stop;
 ghost use Rattle.squawk_run.specs.Stops.{line_of};
 ghost use Rattle.squawk_stream.specs.Faults.{HasCause, Rose};
 ghost use Rattle.squawk_stream.specs.Parts.{AppendsPart};
-ghost use Rattle.check_command.specs.Command.{DoneFor, HasChecked, StoppedFor, judge_by, style_of};
+ghost use Rattle.check_command.specs.Command.{DoneFor, HasChecked, StoppedFor, ended_by, judge_by, status_by, style_of};
 
 use crate::printer::StylePrinter;
 use check_print::Style;
 use check_run::check;
-use check_words::{Asked, Color, HELP, Request, VERSION, linter_choices, read_asked};
+use check_words::{Asked, Color, FailOn, HELP, Request, VERSION, linter_choices, read_asked};
 use checked_file::Status;
 use file_answer::FileLinter;
 use file_store::FileStore;
@@ -35,6 +35,8 @@ fn style_of(request: &Request, is_painted: bool) -> Style
     Style {
         format: request.format,
         color,
+        quiet: request.quiet,
+        statistics: request.statistics,
     }
 }
 
@@ -47,6 +49,26 @@ fn judge_by(choices: Choices) -> FileLinter
             rules: choices.rules,
             settings: choices.settings,
         },
+    }
+}
+
+// The status of a run, by the greatest of its files and by which reports make it fail.
+fn status_by(fail_on: FailOn, greatest: Status) -> Status
+    ensures { result ≡ status_by fail_on greatest }
+{
+    match fail_on {
+        FailOn::Warning => greatest,
+        FailOn::Never => greatest.forgiven(),
+    }
+}
+
+// The same, where nothing stopped it.
+fn ended_by(fail_on: FailOn, done: Result<Status, Stop>) -> Result<Status, Stop>
+    ensures { result ≡ ended_by fail_on done }
+{
+    match done {
+        Ok(greatest) => Ok(status_by(fail_on, greatest)),
+        Err(stop) => Err(stop),
     }
 }
 
@@ -102,7 +124,8 @@ fn check_request<F: FileStore, S: Source, K: Sink>(
     let printer = StylePrinter {
         style: style_of(request, is_painted),
     };
-    check(alloc, request, &mut judge, &printer, files, src, out)
+    let done = check(alloc, request, &mut judge, &printer, files, src, out);
+    ended_by(request.fail_on, done)
 }
 
 // All of a run but the line on the error sink.

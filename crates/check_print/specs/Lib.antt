@@ -1,3 +1,4 @@
 pub mod Counted
+pub mod Statistics
 pub mod Findings
 pub mod Printed

@@ -1,5 +1,5 @@
 -- What is written of the files of a run.
-use Rattle.std.specs.Prelude.{ℕ, ◌||◌, Bool, true, false, List, [], ◌∷◌, ◌++◌, codes}
+use Rattle.std.specs.Prelude.{ℕ, ◌||◌, Bool, true, false, List, [], ◌∷◌, ◌++◌, codes, if◌then◌else◌}
 use Rattle.check_words.specs.declared.request.Format.{Format}
 use Rattle.check_words.specs.declared.request.Format.TheVariants as format
 use Rattle.checked_file.specs.declared.answer.Answer.{Answer}
@@ -8,11 +8,13 @@ use Rattle.checked_file.specs.declared.checked.Checked.{Checked}
 use Rattle.checked_file.specs.Answers.{has_findings}
 use Rattle.checked_file.specs.Files.{readable_of}
 use Rattle.lint_base.specs.declared.violation.Violation.{Violation}
+use Rattle.report_sarif.specs.Log as sarif
 use Rattle.report_text.specs.Closing as text
 use Rattle.source_file.specs.File.{FileValue}
 use Rattle.check_print.specs.declared.style.Style.{Style}
 use Rattle.check_print.specs.Counted.{counts_of}
 use Rattle.check_print.specs.Findings.{printed_refusal, printed_report, separator}
+use Rattle.check_print.specs.Statistics.{rule_lines}
 
 -- ---- one file
 
@@ -50,15 +52,30 @@ opening format.Concise = []
 opening format.Gcc = []
 opening format.Github = []
 opening format.Json = codes "["
+opening format.Sarif = sarif.opening
+opening format.Gitlab = codes "["
 
--- what is after the last file
-abbrev pub closing : Format → List Checked → List ℕ
-closing format.Text files = text.closing (counts_of files)
-closing format.Concise files = []
-closing format.Gcc files = []
-closing format.Github files = []
-closing format.Json files = codes "\n]\n"
+-- the lines that count the reports of each rule, where these are asked for
+unfoldable pub statistics : Style → List Checked → List ℕ
+statistics style files = if style.statistics then rule_lines files else []
+
+-- the line that counts all, where nothing but the findings is not asked for
+unfoldable pub last_line : Style → List Checked → List ℕ
+last_line style files = if style.quiet then [] else text.closing (counts_of files)
+
+-- what is after the last file: the formats for programs have their own end, and count nothing
+abbrev pub closing_by : Format → Style → List Checked → List ℕ
+closing_by format.Text style files = statistics style files ++ last_line style files
+closing_by format.Concise style files = statistics style files
+closing_by format.Gcc style files = statistics style files
+closing_by format.Github style files = statistics style files
+closing_by format.Json style files = codes "\n]\n"
+closing_by format.Sarif style files = codes "\n" ++ sarif.closing ++ codes "\n"
+closing_by format.Gitlab style files = codes "\n]\n"
+
+abbrev pub closing : Style → List Checked → List ℕ
+closing style files = closing_by style.format style files
 
 -- what is written of the files of a run
 abbrev pub printed : Style → List Checked → List ℕ
-printed style files = opening style.format ++ printed_files style false files ++ closing style.format files
+printed style files = opening style.format ++ printed_files style false files ++ closing style files

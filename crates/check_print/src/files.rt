@@ -1,10 +1,12 @@
 //! What came of all files.
-ghost use Rattle.std.specs.Prelude.{◌≡◌, ◌++◌, ◌||◌, All, IfOk, OnOk, false};
+ghost use Rattle.std.specs.Prelude.{◌≡◌, ◌++◌, ◌||◌, All, IfOk, OnOk, codes, false};
 ghost use Rattle.checked_file.specs.Sound.{IsSound};
-ghost use Rattle.check_print.specs.Printed.{closing, opening, printed, printed_files};
+ghost use Rattle.check_print.specs.Printed.{closing, last_line, opening, printed, printed_files, statistics};
+ghost use Rattle.report_sarif.specs.Log as sarif;
 
 use crate::answer::push_file;
 use crate::counts::counts_of;
+use crate::statistics::push_rule_lines;
 use crate::style::Style;
 use check_words::Format;
 use checked_file::Checked;
@@ -43,19 +45,67 @@ fn push_opening(to: &mut Vec<u8>, format: Format) -> Result<(), NoMemory>
     ensures { OnOk result (to.new.items ≡ to.old.items ++ opening format) }
 {
     match format {
-        Format::Json => push(to, b"["),
+        Format::Json | Format::Gitlab => push(to, b"["),
+        Format::Sarif => report_sarif::push_opening(to),
         Format::Text | Format::Concise | Format::Gcc | Format::Github => push(to, b""),
     }
 }
 
-// Adds what is after the last file.
-fn push_end(to: &mut Vec<u8>, format: Format, files: &[Checked]) -> Result<(), NoMemory>
-    ensures { OnOk result (to.new.items ≡ to.old.items ++ closing format files.now) }
+// Adds the lines that count the reports of each rule, where these are asked for.
+#[tactic(auto, unfolding(crate::specs::Printed::statistics))]
+fn push_statistics(to: &mut Vec<u8>, style: Style, files: &[Checked]) -> Result<(), NoMemory>
+    ensures { OnOk result (to.new.items ≡ to.old.items ++ statistics style files.now) }
 {
-    match format {
-        Format::Json => push(to, b"\n]\n"),
-        Format::Text => push_closing(to, counts_of(files)),
-        Format::Concise | Format::Gcc | Format::Github => push(to, b""),
+    if style.statistics {
+        push_rule_lines(to, files)
+    } else {
+        push(to, b"")
+    }
+}
+
+// Adds the line that counts all, where it is asked for.
+#[tactic(auto, unfolding(crate::specs::Printed::last_line))]
+fn push_last_line(to: &mut Vec<u8>, style: Style, files: &[Checked]) -> Result<(), NoMemory>
+    ensures { OnOk result (to.new.items ≡ to.old.items ++ last_line style files.now) }
+{
+    if style.quiet {
+        push(to, b"")
+    } else {
+        push_closing(to, counts_of(files))
+    }
+}
+
+// Adds the end of a log, on a line of its own.
+fn push_log_end(to: &mut Vec<u8>, alloc: Global) -> Result<(), NoMemory>
+    ensures { OnOk result (to.new.items ≡ to.old.items ++ codes "\n" ++ sarif.closing ++ codes "\n") }
+{
+    push(to, b"\n")?;
+    report_sarif::push_closing(to, alloc)?;
+    push(to, b"\n")
+}
+
+// Adds both kinds of lines that count.
+fn push_counting_lines(to: &mut Vec<u8>, style: Style, files: &[Checked]) -> Result<(), NoMemory>
+    ensures { OnOk result (to.new.items ≡ to.old.items ++ statistics style files.now ++ last_line style files.now) }
+{
+    push_statistics(to, style, files)?;
+    push_last_line(to, style, files)
+}
+
+// Adds what is after the last file.
+fn push_end(
+    to: &mut Vec<u8>,
+    alloc: Global,
+    style: Style,
+    files: &[Checked],
+) -> Result<(), NoMemory>
+    ensures { OnOk result (to.new.items ≡ to.old.items ++ closing style files.now) }
+{
+    match style.format {
+        Format::Text => push_counting_lines(to, style, files),
+        Format::Concise | Format::Gcc | Format::Github => push_statistics(to, style, files),
+        Format::Json | Format::Gitlab => push(to, b"\n]\n"),
+        Format::Sarif => push_log_end(to, alloc),
     }
 }
 
@@ -67,6 +117,6 @@ pub fn printed(alloc: Global, style: Style, files: &[Checked]) -> Result<Vec<u8>
     let mut all = Vec::new(alloc);
     push_opening(&mut all, style.format)?;
     push_files(&mut all, alloc, style, files)?;
-    push_end(&mut all, style.format, files)?;
+    push_end(&mut all, alloc, style, files)?;
     Ok(all)
 }

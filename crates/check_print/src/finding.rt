@@ -3,7 +3,7 @@ ghost use Rattle.std.specs.Prelude.{◌≡◌, ◌++◌, OnOk};
 ghost use Rattle.std.specs.Str.{IsCharBoundary};
 ghost use Rattle.source_file.specs.File.{IsRangeIn};
 ghost use Rattle.source_file.specs.Refusals.{place_of};
-ghost use Rattle.check_print.specs.Findings.{printed_refusal, printed_report, refusal_command, refusal_line, report_command, report_line, separator};
+ghost use Rattle.check_print.specs.Findings.{array_separator, printed_refusal, printed_report, refusal_command, refusal_line, report_command, report_line, separator};
 
 use crate::style::Style;
 use check_words::Format;
@@ -33,6 +33,7 @@ fn push_report_line(
 #[tactic(auto, using(std::proofs::lemmas::List::append_assoc))]
 fn push_report_command(
     to: &mut Vec<u8>,
+    alloc: Global,
     file: &SourceFile<'_>,
     report: &Violation,
 ) -> Result<(), NoMemory>
@@ -41,9 +42,17 @@ fn push_report_command(
 {
     let name = report.code.name().as_bytes();
     let message = report.message.as_str().as_bytes();
-    push_command(to, file, report.text_range, Level::Warning, name, message)?;
-    push_detail(to, b"note", &report.note)?;
-    push_detail(to, b"help", &report.help)?;
+    push_command(
+        to,
+        alloc,
+        file,
+        report.text_range,
+        Level::Warning,
+        name,
+        message,
+    )?;
+    push_detail(to, alloc, b"note", &report.note)?;
+    push_detail(to, alloc, b"help", &report.help)?;
     push(to, b"\n")
 }
 
@@ -63,8 +72,10 @@ pub(crate) fn push_report(
         Format::Text => report_text::push_report(to, alloc, style.color, file, report),
         Format::Concise => push_report_line(to, Order::RuleFirst, file, report),
         Format::Gcc => push_report_line(to, Order::RuleLast, file, report),
-        Format::Github => push_report_command(to, file, report),
+        Format::Github => push_report_command(to, alloc, file, report),
         Format::Json => report_json::push_report(to, alloc, file, report),
+        Format::Sarif => report_sarif::push_report(to, alloc, file, report),
+        Format::Gitlab => report_gitlab::push_report(to, alloc, file, report),
     }
 }
 
@@ -94,6 +105,7 @@ fn push_refusal_line(
 // Adds as a workflow command why a file could not be linted.
 fn push_refusal_command(
     to: &mut Vec<u8>,
+    alloc: Global,
     file: &SourceFile<'_>,
     refusal: &Refusal,
 ) -> Result<(), NoMemory>
@@ -104,7 +116,7 @@ fn push_refusal_command(
     let range = TextRange::new(at, at);
     let name = refusal.name().as_bytes();
     let message = refusal.message().as_bytes();
-    push_command(to, file, range, Level::Error, name, message)?;
+    push_command(to, alloc, file, range, Level::Error, name, message)?;
     push(to, b"\n")
 }
 
@@ -124,12 +136,25 @@ pub(crate) fn push_refusal(
         Format::Text => report_text::push_refusal(to, alloc, style.color, file, refusal),
         Format::Concise => push_refusal_line(to, Order::RuleFirst, file, refusal),
         Format::Gcc => push_refusal_line(to, Order::RuleLast, file, refusal),
-        Format::Github => push_refusal_command(to, file, refusal),
+        Format::Github => push_refusal_command(to, alloc, file, refusal),
         Format::Json => report_json::push_refusal(to, alloc, file, refusal),
+        Format::Sarif => report_sarif::push_refusal(to, alloc, file, refusal),
+        Format::Gitlab => report_gitlab::push_refusal(to, alloc, file, refusal),
     }
 }
 
-/// Adds what is before a finding, by whether another one was before it.
+// Adds what is before a finding of an array, by whether another one was before it.
+fn push_array_separator(to: &mut Vec<u8>, follows: bool) -> Result<(), NoMemory>
+    ensures { OnOk result (to.new.items ≡ to.old.items ++ array_separator follows) }
+{
+    if follows {
+        push(to, b",\n")
+    } else {
+        push(to, b"\n")
+    }
+}
+
+/// Adds what is before a finding, by whether another one was before it. The error comes when memory runs out.
 pub(crate) fn push_separator(
     to: &mut Vec<u8>,
     format: Format,
@@ -138,13 +163,7 @@ pub(crate) fn push_separator(
     ensures { OnOk result (to.new.items ≡ to.old.items ++ separator format follows) }
 {
     match format {
-        Format::Json => {
-            if follows {
-                push(to, b",\n")
-            } else {
-                push(to, b"\n")
-            }
-        }
+        Format::Json | Format::Sarif | Format::Gitlab => push_array_separator(to, follows),
         Format::Text | Format::Concise | Format::Gcc | Format::Github => push(to, b""),
     }
 }

@@ -8,6 +8,7 @@ mod answer;
 mod counts;
 mod files;
 mod finding;
+mod statistics;
 mod style;
 
 pub use files::printed;

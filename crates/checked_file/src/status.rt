@@ -17,7 +17,7 @@ pub enum Status {
 
 impl Status {
     ghost use Rattle.std.specs.Prelude.{◌≡◌};
-    ghost use Rattle.checked_file.specs.Statuses.{code_of, worse};
+    ghost use Rattle.checked_file.specs.Statuses.{code_of, forgiven, worse};
 
     /// The exit status of the program.
     pub fn code(self) -> u8
@@ -29,6 +29,16 @@ impl Status {
             Status::NotUtf8 => 3,
             Status::Unparsed => 4,
             Status::Unreadable => 5,
+        }
+    }
+
+    /// The status where reports are to fail no run: `Clean` in place of `Found`.
+    pub fn forgiven(self) -> Status
+        ensures { result ≡ forgiven self }
+    {
+        match self {
+            Status::Clean | Status::Found => Status::Clean,
+            Status::NotUtf8 | Status::Unparsed | Status::Unreadable => self,
         }
     }
 

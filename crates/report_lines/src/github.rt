@@ -1,11 +1,12 @@
 //! A finding as a workflow command of GitHub.
-ghost use Rattle.std.specs.Prelude.{◌≡◌, ◌++◌, OnOk};
+ghost use Rattle.std.specs.Prelude.{◌≡◌, ◌++◌, OnOk, flat_map};
 ghost use Rattle.source_file.specs.File.{IsRangeIn};
 ghost use Rattle.report_lines.specs.Github.{columns_part, command, detail, escaped, escaped_byte, lines_part, opening, property, property_byte, span, titled};
 
 use crate::piece::{push, push_number};
 use lint_base::Text;
-use source_file::{Level, Place, SourceFile};
+use source_file::{Level, Place, SourceFile, push_shown};
+use std::alloc::Global;
 use text_pos::{NoMemory, TextRange};
 
 // Adds a byte of a message.
@@ -31,9 +32,9 @@ fn push_property_byte(to: &mut Vec<u8>, byte: u8) -> Result<(), NoMemory>
     }
 }
 
-// Adds a message, or a part of one.
-fn push_escaped(to: &mut Vec<u8>, text: &[u8]) -> Result<(), NoMemory>
-    ensures { OnOk result (to.new.items ≡ to.old.items ++ escaped text.now) }
+// Adds the bytes of a message, or of a part of one.
+fn push_escaped_bytes(to: &mut Vec<u8>, text: &[u8]) -> Result<(), NoMemory>
+    ensures { OnOk result (to.new.items ≡ to.old.items ++ flat_map escaped_byte text.now) }
 {
     for byte in text {
         push_escaped_byte(to, *byte)?;
@@ -41,14 +42,34 @@ fn push_escaped(to: &mut Vec<u8>, text: &[u8]) -> Result<(), NoMemory>
     Ok(())
 }
 
-// Adds the value of a property.
-fn push_property(to: &mut Vec<u8>, text: &[u8]) -> Result<(), NoMemory>
-    ensures { OnOk result (to.new.items ≡ to.old.items ++ property text.now) }
+// Adds the bytes of a property.
+fn push_property_bytes(to: &mut Vec<u8>, text: &[u8]) -> Result<(), NoMemory>
+    ensures { OnOk result (to.new.items ≡ to.old.items ++ flat_map property_byte text.now) }
 {
     for byte in text {
         push_property_byte(to, *byte)?;
     }
     Ok(())
+}
+
+// Adds a message, or a part of one.
+#[tactic(auto, unfolding(crate::specs::Github::escaped))]
+fn push_escaped(to: &mut Vec<u8>, alloc: Global, text: &[u8]) -> Result<(), NoMemory>
+    ensures { OnOk result (to.new.items ≡ to.old.items ++ escaped text.now) }
+{
+    let mut piece = Vec::new(alloc);
+    push_escaped_bytes(&mut piece, text)?;
+    push_shown(to, piece.as_slice())
+}
+
+// Adds the value of a property.
+#[tactic(auto, unfolding(crate::specs::Github::property))]
+fn push_property(to: &mut Vec<u8>, alloc: Global, text: &[u8]) -> Result<(), NoMemory>
+    ensures { OnOk result (to.new.items ≡ to.old.items ++ property text.now) }
+{
+    let mut piece = Vec::new(alloc);
+    push_property_bytes(&mut piece, text)?;
+    push_shown(to, piece.as_slice())
 }
 
 // Adds the lines of a range.
@@ -76,13 +97,18 @@ fn push_columns(to: &mut Vec<u8>, first: Place, last: Place) -> Result<(), NoMem
 
 // Adds the name of the command and of the file.
 #[tactic(auto, unfolding(crate::specs::Github::opening))]
-fn push_opening(to: &mut Vec<u8>, file: &SourceFile<'_>, level: Level) -> Result<(), NoMemory>
+fn push_opening(
+    to: &mut Vec<u8>,
+    alloc: Global,
+    file: &SourceFile<'_>,
+    level: Level,
+) -> Result<(), NoMemory>
     ensures { OnOk result (to.new.items ≡ to.old.items ++ opening file.now level) }
 {
     push(to, b"::")?;
     push(to, level.word().as_bytes())?;
     push(to, b" file=")?;
-    push_property(to, file.name().as_bytes())
+    push_property(to, alloc, file.name().as_bytes())
 }
 
 // Adds the range.
@@ -99,17 +125,22 @@ fn push_span(to: &mut Vec<u8>, file: &SourceFile<'_>, range: TextRange) -> Resul
 
 // Adds the rule and the message.
 #[tactic(auto, unfolding(crate::specs::Github::titled))]
-fn push_titled(to: &mut Vec<u8>, name: &[u8], message: &[u8]) -> Result<(), NoMemory>
+fn push_titled(to: &mut Vec<u8>, alloc: Global, name: &[u8], message: &[u8]) -> Result<(), NoMemory>
     ensures { OnOk result (to.new.items ≡ to.old.items ++ titled name.now message.now) }
 {
     push(to, b",title=")?;
-    push_property(to, name)?;
+    push_property(to, alloc, name)?;
     push(to, b"::")?;
-    push_escaped(to, message)
+    push_escaped(to, alloc, message)
 }
 
-/// Adds what a finding says beside its message, on a line of its own where it says that.
-pub fn push_detail(to: &mut Vec<u8>, label: &[u8], text: &Option<Text>) -> Result<(), NoMemory>
+/// Adds what a finding says beside its message, on a line of its own where it says that. The error comes when memory runs out.
+pub fn push_detail(
+    to: &mut Vec<u8>,
+    alloc: Global,
+    label: &[u8],
+    text: &Option<Text>,
+) -> Result<(), NoMemory>
     ensures { OnOk result (to.new.items ≡ to.old.items ++ detail label.now text.now) }
 {
     let Some(text) = text else {
@@ -118,12 +149,13 @@ pub fn push_detail(to: &mut Vec<u8>, label: &[u8], text: &Option<Text>) -> Resul
     push(to, b"%0A")?;
     push(to, label)?;
     push(to, b": ")?;
-    push_escaped(to, text.as_str().as_bytes())
+    push_escaped(to, alloc, text.as_str().as_bytes())
 }
 
 /// Adds a finding as a workflow command, but for its details and the end of the line. The error comes when memory runs out.
 pub fn push_command(
     to: &mut Vec<u8>,
+    alloc: Global,
     file: &SourceFile<'_>,
     range: TextRange,
     level: Level,
@@ -133,7 +165,7 @@ pub fn push_command(
     requires { IsRangeIn file.now.text range }
     ensures { OnOk result (to.new.items ≡ to.old.items ++ command file.now range level name.now message.now) }
 {
-    push_opening(to, file, level)?;
+    push_opening(to, alloc, file, level)?;
     push_span(to, file, range)?;
-    push_titled(to, name, message)
+    push_titled(to, alloc, name, message)
 }

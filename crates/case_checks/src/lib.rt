@@ -1,0 +1,54 @@
+//! Runs of `lavkheto check` over the files that a text holds. Used by tests only.
+//!
+//! What comes before the first file is standard input. These lines begin a file:
+//!
+//! - `> NAME`: a file with the lines after it;
+//! - `>/ NAME`: a folder; its files are those whose names begin with its name and a slash;
+//! - `>! NAME`: a file that can't be read.
+#![tactic(auto)]
+
+mod files;
+mod read;
+
+use case_format::{Answer, Fault};
+use check_command::run;
+pub use files::CaseFiles;
+pub use read::read_files;
+use squawk_stream::{MemSink, SliceSource};
+use squawk_words::Words;
+use std::alloc::Global;
+
+/// How many bytes a sink holds.
+const ROOM: usize = 65536;
+
+fn words_of(alloc: Global, given: &[String]) -> Result<Words, Fault> {
+    let mut words = Words::new(alloc);
+    for word in given {
+        words.push(word.as_str())?;
+    }
+    Ok(words)
+}
+
+fn answer_of(alloc: Global, status: u8, out: &[u8], err: &[u8]) -> Result<Answer, Fault> {
+    Ok(Answer {
+        status,
+        out: Vec::from_slice(alloc, out)?,
+        err: Vec::from_slice(alloc, err)?,
+    })
+}
+
+/// A run with these words, the first of which is `check`, over the files of a text.
+pub fn checked(alloc: Global, words: &[String], text: &[u8]) -> Result<Answer, Fault> {
+    let words = words_of(alloc, words)?;
+    let (input, mut files) = read_files(alloc, text)?;
+    let mut src = SliceSource::new(input.as_slice());
+    let mut out = MemSink::new(alloc, ROOM, &[])?;
+    let mut err = MemSink::new(alloc, ROOM, &[])?;
+    let code = match run(
+        alloc, &words, false, &mut files, &mut src, &mut out, &mut err,
+    ) {
+        Ok(status) => status.code(),
+        Err(stop) => stop.code(),
+    };
+    answer_of(alloc, code, out.bytes(), err.bytes())
+}

@@ -1,0 +1,10 @@
+//! Tests on `lavkheto check` over devices that fail, and on places. Whole runs are cases in `cases/check.txt`. The expected values were
+//! worked by hand.
+#![tactic(auto)]
+
+#[cfg(test)]
+mod devices;
+#[cfg(test)]
+mod places;
+#[cfg(test)]
+mod runs;
