@@ -1,6 +1,6 @@
-mod Texts
+mod TextSteps
 mod Finds
 mod Keys
 mod Places
-mod Reads
+mod Refusals
 mod Joins

@@ -1,10 +1,10 @@
 -- A row, place by place.
 use Rattle.std.proofs.Common.{◌≡◌, ◌⊎◌, inl, inr, ◌∙◌, ◌+◌, ◌<◌, ◌≤◌, ap, arith, refl, subst, sym, ℕ, zero, suc, Bool, true, false, ◌&&◌, ◌||◌, cond, List, [], ◌∷◌, length, drop, get_or, set, replicate}
 use Rattle.std.proofs.lemmas.Bool.{cases_eq}
-use Rattle.std.proofs.lemmas.List.{drop_all, drop_more, get_or-replicate, get_or-set_other, get_or-set_same, length-replicate}
+use Rattle.std.proofs.lemmas.List.{drop_all, drop_more, get_or_default, get_or-replicate, get_or-set_other, get_or-set_same, length-replicate}
 use Rattle.path_pattern.specs.declared.part.Part.{Part}
-use Rattle.path_pattern.specs.Patterns.{takes, takes_many}
-use Rattle.path_pattern.specs.Rows.{IsRow, after_any, after_one, ends_here, part_test, value_at}
+use Rattle.path_pattern.specs.Patterns.{parts_of, takes, takes_many}
+use Rattle.path_pattern.specs.Rows.{IsRow, after_any, after_one, ends_here, matched_by, part_test, value_at}
 
 -- ---- one row from the one before it
 
@@ -86,3 +86,13 @@ first_is path k b =
           subst (λ (j : ℕ). get_or (set all n true) j false ≡ true) (sym same) (get_or-set_same all n true false room) ∙ sym value
       | inr other ↦ get_or-set_other all n k true false other ∙ (get_or-replicate (n + 1) k false false (omega arith) ∙ sym (not_ended path k (omega arith)))
     ]
+
+-- ---- the row of all parts
+
+pub first_value : (pattern path : List ℕ) (i : ℕ) (row : List Bool) (x : Bool) → i ≤ 0 → length row ≡ length path + 1 → IsRow (matched_by (parts_of (drop i pattern))) path row → x ≡ get_or row 0 x
+    → x ≡ matched_by (parts_of pattern) path
+first_value pattern path i row x none long is at =
+    let all : i ≡ 0 = omega arith in
+    let whole : IsRow (matched_by (parts_of pattern)) path row = subst (λ (n : ℕ). IsRow (matched_by (parts_of (drop n pattern))) path row) all is in
+    let room : 0 < length row = omega arith in
+    at ∙ (get_or_default row 0 x false room ∙ whole 0 (omega arith))

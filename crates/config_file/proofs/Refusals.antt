@@ -1,0 +1,1 @@
+-- What is said of a file's text is said of the file.
