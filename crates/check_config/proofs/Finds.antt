@@ -10,10 +10,10 @@ drop_at (first ∷ xs) zero x e = let same : first ≡ x = cc in ap (λ w. w ∷
 drop_at (first ∷ xs) (suc i) x e = let next : suc i + 1 ≡ suc (i + 1) = omega arith in rw next (drop_at xs i x e)
 
 pub find_next : {X : Type 0} (p : X → Bool) (xs : List X) (i : ℕ) (x : X) → slice_get xs i ≡ Some x → p x ≡ false → find p (drop i xs) ≡ find p (drop (i + 1) xs)
-find_next p xs i x at no = rw (drop_at xs i x at, no) refl
+find_next p xs i x at fails = rw (drop_at xs i x at, fails) refl
 
 pub find_here : {X : Type 0} (p : X → Bool) (xs : List X) (i : ℕ) (x : X) → slice_get xs i ≡ Some x → p x ≡ true → find p (drop i xs) ≡ Some x
-find_here p xs i x at yes = rw (drop_at xs i x at, yes) refl
+find_here p xs i x at holds = rw (drop_at xs i x at, holds) refl
 
 pub find_last : {X : Type 0} (p : X → Bool) (xs : List X) (i : ℕ) → length xs ≤ i → find p (drop i xs) ≡ None
 find_last p xs i ended = rw (drop_all i xs ended) refl

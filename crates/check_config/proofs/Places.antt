@@ -11,17 +11,17 @@ is_here anywhere name text i begins_line = (anywhere || begins_line) && begins_w
 pub place_next : (anywhere : Bool) (name text : Text) (i : ℕ) (begins_line : Bool) → i < length text → is_here anywhere name text i begins_line ≡ false
     → place_from anywhere name (drop i text) begins_line i ≡ place_from anywhere name (drop (i + 1) text) (get_or text i 0 == 10) (i + 1)
 unfolding place_from
-place_next anywhere name text i begins_line inside no =
+place_next anywhere name text i begins_line inside fails =
     let cut = drop_more text i 0 inside in
-    let here : ((anywhere || begins_line) && begins_with_name name (get_or text i 0 ∷ drop (i + 1) text)) ≡ false = rw cut at no in
+    let here : ((anywhere || begins_line) && begins_with_name name (get_or text i 0 ∷ drop (i + 1) text)) ≡ false = rw cut at fails in
     rw (cut, here) refl
 
 pub place_here : (anywhere : Bool) (name text : Text) (i : ℕ) (begins_line : Bool) → i < length text → is_here anywhere name text i begins_line ≡ true
     → place_from anywhere name (drop i text) begins_line i ≡ Some i
 unfolding place_from
-place_here anywhere name text i begins_line inside yes =
+place_here anywhere name text i begins_line inside holds =
     let cut = drop_more text i 0 inside in
-    let here : ((anywhere || begins_line) && begins_with_name name (get_or text i 0 ∷ drop (i + 1) text)) ≡ true = rw cut at yes in
+    let here : ((anywhere || begins_line) && begins_with_name name (get_or text i 0 ∷ drop (i + 1) text)) ≡ true = rw cut at holds in
     rw (cut, here) refl
 
 pub place_last : (anywhere : Bool) (name text : Text) (i : ℕ) (begins_line : Bool) → length text ≤ i → place_from anywhere name (drop i text) begins_line i ≡ None

@@ -88,4 +88,4 @@ IsRefusedLoad content before now given NoMemory = ⊤
 -- the error with a line, if there was memory for it
 abbrev pub IsRefusal : Result (Vec ℕ Global) MemoryError → LoadError → Type 0
 IsRefusal (Ok line) e = e ≡ Refused line
-IsRefusal (Err no) e = e ≡ NoMemory
+IsRefusal (Err failed) e = e ≡ NoMemory

@@ -23,10 +23,10 @@ take_at (first ∷ xs) (suc i) x e = let next : suc i + 1 ≡ suc (i + 1) = omeg
 -- ---- a test of one item after another
 
 pub any_next : {X : Type 0} (p : X → Bool) (xs : List X) (i : ℕ) (x : X) → slice_get xs i ≡ Some x → p x ≡ false → list_any p (drop i xs) ≡ list_any p (drop (i + 1) xs)
-any_next p xs i x at no = rw (drop_at xs i x at, no) refl
+any_next p xs i x at fails = rw (drop_at xs i x at, fails) refl
 
 pub any_here : {X : Type 0} (p : X → Bool) (xs : List X) (i : ℕ) (x : X) → slice_get xs i ≡ Some x → p x ≡ true → list_any p (drop i xs) ≡ true
-any_here p xs i x at yes = rw (drop_at xs i x at, yes) refl
+any_here p xs i x at holds = rw (drop_at xs i x at, holds) refl
 
 pub any_last : {X : Type 0} (p : X → Bool) (xs : List X) (i : ℕ) → length xs ≤ i → list_any p (drop i xs) ≡ false
 any_last p xs i ended = rw (drop_all i xs ended) refl
