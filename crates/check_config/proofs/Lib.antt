@@ -4,3 +4,4 @@ mod Keys
 mod Places
 mod Refusals
 mod Joins
+mod Versions

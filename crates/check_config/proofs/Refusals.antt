@@ -6,7 +6,7 @@ use Rattle.toml.specs.Data.{Members}
 use Rattle.toml.specs.Errors.{IsMemory, IsWithin}
 use Rattle.toml.specs.Parse.{parse_document}
 use Rattle.toml.specs.declared.de.error.Error.{Error}
-use Rattle.check_config.specs.Config.{IsUnknownKey, IsUnknownRule, bad_value, config_by, config_in, is_unknown_rule, known_by, known_rules, ok_or_bad, then, unknown_key, values_in}
+use Rattle.check_config.specs.Config.{IsUnknownKey, IsUnknownRule, bad_value, config_by, config_in, is_unknown_rule, known_by, known_rules, ok_or_bad, read_then, unknown_key, values_in}
 use Rattle.check_config.specs.Readings.{IsReading, IsReadingBy, IsRefused, IsRefusedReading, IsTomlError}
 use Rattle.check_config.specs.declared.config.Config.{Config}
 use Rattle.check_config.specs.declared.fault.ConfigError.{ConfigError}
@@ -14,14 +14,14 @@ use Rattle.check_config.specs.declared.fault.ConfigError.TheVariants.{Refused, N
 use Rattle.check_config.specs.declared.fault.ConfigFault.{ConfigFault}
 use Rattle.check_config.specs.declared.fault.ConfigFault.TheVariants.{NotToml, UnknownKey, UnknownRule, BadValue}
 
-pub refused_then : {X Y : Type 0} (read : Result X ConfigFault) (next : X → Result Y ConfigFault) (e : ConfigError) → IsRefused read e → IsRefused (then read next) e
-refused_then read next (Refused f) h = ap (λ r. then r next) h
+pub refused_then : {X Y : Type 0} (read : Result X ConfigFault) (next : X → Result Y ConfigFault) (e : ConfigError) → IsRefused read e → IsRefused (read_then read next) e
+refused_then read next (Refused f) h = ap (λ r. read_then r next) h
 refused_then read next NoMemory h = tt
 
 -- the same after what was read
 pub refused_after : {X Y : Type 0} (read : Result X ConfigFault) (next : X → Result Y ConfigFault) (x : X) (e : ConfigError) → read ≡ Ok x → IsRefused (next x) e
-    → IsRefused (then read next) e
-refused_after read next x (Refused f) taken h = ap (λ r. then r next) taken ∙ h
+    → IsRefused (read_then read next) e
+refused_after read next x (Refused f) taken h = ap (λ r. read_then r next) taken ∙ h
 refused_after read next x NoMemory taken h = tt
 
 pub unknown_rule_refused : (names : List Text) (name : Text) (e : ConfigError) → find is_unknown_rule names ≡ Some name → IsUnknownRule name e → IsRefused (known_rules names) e

@@ -31,9 +31,9 @@ unknown_key (member key value rest) = if is_key key then unknown_key rest else S
 -- ---- values
 
 -- what was read, and what is read after it
-abbrev pub then : {X Y : Type 0} → Result X ConfigFault → (X → Result Y ConfigFault) → Result Y ConfigFault
-then (Ok x) next = next x
-then (Err e) next = Err e
+abbrev pub read_then : {X Y : Type 0} → Result X ConfigFault → (X → Result Y ConfigFault) → Result Y ConfigFault
+read_then (Ok x) next = next x
+read_then (Err e) next = Err e
 
 -- a value that was read, or the fault of its key
 abbrev pub ok_or_bad : {X : Type 0} → Text → Option X → Result X ConfigFault
@@ -72,7 +72,7 @@ known_rules names = known_by names (find is_unknown_rule names)
 
 -- the names of rules at a key
 abbrev pub rules_at : Text → Members → Result (List Text) ConfigFault
-rules_at key table = then (texts_at key table) known_rules
+rules_at key table = read_then (texts_at key table) known_rules
 
 -- the error of a rule or a key that there isn't, or memory ran out
 abbrev pub IsUnknownRule : Text → ConfigError → Type 0
@@ -127,11 +127,11 @@ flag_at table = flag_by (get_member (codes "assume_in_transaction") table)
 -- the values of the keys, or the fault of the first that can't be read
 abbrev pub values_in : Members → Result Config ConfigFault
 values_in table =
-    then (rules_at (codes "excluded_rules") table) (λ excluded_rules.
-    then (rules_at (codes "included_rules") table) (λ included_rules.
-    then (texts_at (codes "excluded_paths") table) (λ excluded_paths.
-    then (version_at table) (λ pg_version.
-    then (flag_at table) (λ assume_in_transaction.
+    read_then (rules_at (codes "excluded_rules") table) (λ excluded_rules.
+    read_then (rules_at (codes "included_rules") table) (λ included_rules.
+    read_then (texts_at (codes "excluded_paths") table) (λ excluded_paths.
+    read_then (version_at table) (λ pg_version.
+    read_then (flag_at table) (λ assume_in_transaction.
     Ok (record {
       excluded_rules = excluded_rules;
       included_rules = included_rules;

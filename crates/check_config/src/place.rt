@@ -1,5 +1,5 @@
 //! Where the fault of a configuration is.
-ghost use Rattle.std.specs.Prelude.{◌≡◌, Bool, false, true};
+ghost use Rattle.std.specs.Prelude.{◌≡◌, ◌&&◌, ◌||◌, Bool, true};
 ghost use Rattle.check_config.specs.Faults as spec;
 
 use crate::fault::ConfigFault;
@@ -24,13 +24,20 @@ fn begins_with_name(text: &[u8], name: &[u8]) -> bool
     }
 }
 
+// Whether what is left of a text begins with a name, where that counts: anywhere, or where a line begins.
+fn is_here(text: &[u8], name: &[u8], anywhere: bool, begins_line: bool) -> bool
+    ensures { result ≡ ((anywhere || begins_line) && spec.begins_with_name name.now text.now) }
+{
+    (anywhere || begins_line) && begins_with_name(text, name)
+}
+
 // Where a text first has a name: anywhere, or where a line begins with it.
 fn first_place(text: &[u8], name: &[u8], anywhere: bool) -> Option<usize>
     ensures { result ≡ spec.place_from anywhere name.now text.now true 0 }
 {
     let mut begins_line = true;
     for i in 0..text.len() {
-        if (anywhere || begins_line) && begins_with_name(&text[i..], name) {
+        if is_here(&text[i..], name, anywhere, begins_line) {
             return Some(i);
         }
         begins_line = text[i] == b'\n';

@@ -19,13 +19,20 @@ fn is_rule(name: &str) -> bool
     Rule::try_from(name).ok().is_some()
 }
 
+// Whether a text names no rule.
+fn is_unknown_rule(name: &str) -> bool
+    ensures { result ≡ spec.is_unknown_rule name.now }
+{
+    !is_rule(name)
+}
+
 // The first text that names no rule.
 fn unknown_rule(names: &Words) -> Option<&str>
     ensures { option_map (λ name. name.now) result ≡ find spec.is_unknown_rule names.now }
 {
     for i in 0..names.len() {
         let name = names.get(i);
-        if !is_rule(name) {
+        if is_unknown_rule(name) {
             return Some(name);
         }
     }

@@ -33,11 +33,18 @@ fn is_part(text: &str) -> bool
     !text.is_empty() && text.len() <= MOST_DIGITS && has_digits_alone(text)
 }
 
+// Whether each text is a part of a version.
+fn are_parts(parts: &[&str]) -> bool
+    ensures { result ≡ list_all (λ part. spec.is_part part.now) parts.now }
+{
+    parts.iter().all(|part| is_part(part))
+}
+
 // Whether texts are the parts of a version.
 fn is_version(parts: &[&str]) -> bool
     ensures { result ≡ spec.is_version (map (λ part. part.now) parts.now) }
 {
-    parts.len() <= MOST_PARTS && parts.iter().all(|part| is_part(part))
+    parts.len() <= MOST_PARTS && are_parts(parts)
 }
 
 // What is between the dots of a text.

@@ -19,8 +19,8 @@ unfoldable pub IsFound : (Text → Content) → ℕ → Text → Option Text →
 IsFound content zero folder found = found ≡ None
 IsFound content (suc folders) folder found =
     (IsThere (content (config_in folder)) true × (found ≡ Some (config_in folder)))
-    ⊎ (IsThere (content (config_in folder)) false × IsThere (content (top_in folder)) true × (found ≡ None))
-    ⊎ (IsThere (content (config_in folder)) false × IsThere (content (top_in folder)) false × IsFound content folders (folder ++ codes "../") found)
+    ⊎ ((IsThere (content (config_in folder)) false × IsThere (content (top_in folder)) true × (found ≡ None))
+    ⊎ (IsThere (content (config_in folder)) false × IsThere (content (top_in folder)) false × IsFound content folders (folder ++ codes "../") found))
 
 -- the one that is given, or else the one that is found from the working directory on
 abbrev pub IsNamed : (Text → Content) → Option Text → Option Text → Type 0

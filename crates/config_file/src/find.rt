@@ -31,11 +31,13 @@ fn found<F: FileStore>(alloc: Global, files: &F) -> Result<Option<String>, Alloc
     let mut folder = String::new(alloc);
     for _turn in 0..MOST_FOLDERS {
         let name = name_in(alloc, folder.as_str(), NAME)?;
-        if files.is_there(name.as_str()) {
+        let has_config = files.is_there(name.as_str());
+        if has_config {
             return Ok(Some(name));
         }
         let top = name_in(alloc, folder.as_str(), TOP)?;
-        if files.is_there(top.as_str()) {
+        let is_top = files.is_there(top.as_str());
+        if is_top {
             return Ok(None);
         }
         folder.push_str("../")?;

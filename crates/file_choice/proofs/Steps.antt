@@ -8,7 +8,7 @@ use Rattle.std.specs.List.{list_any}
 use Rattle.std.specs.Prelude.{slice_get}
 use Rattle.std.specs.Str.{bytes_eq}
 use Rattle.squawk_words.specs.Words.{Text}
-use Rattle.file_choice.specs.Choice.{chosen_after, is_among, is_excluded}
+use Rattle.file_choice.specs.Choice.{bare, chosen_after, is_among, is_excluded}
 
 drop_at : {X : Type 0} (xs : List X) (i : ℕ) (x : X) → slice_get xs i ≡ Some x → drop i xs ≡ x ∷ drop (i + 1) xs
 drop_at [] i x e = absurd (omega (arith, slice_get_within [] i x e))
@@ -37,11 +37,11 @@ any_last p xs i ended = rw (drop_all i xs ended) refl
 abbrev pub chosen_from : List Text → List Text → List Text → ℕ → List Text
 chosen_from patterns names all i = all ++ chosen_after patterns (take i names) (drop i names)
 
-pub left_out : (patterns names all : List Text) (i : ℕ) (name : Text) → slice_get names i ≡ Some name → (is_among (take i names) name || is_excluded patterns name) ≡ true
+pub left_out : (patterns names all : List Text) (i : ℕ) (name : Text) → slice_get names i ≡ Some name → (is_among (take i names) name || is_excluded patterns (bare name)) ≡ true
     → chosen_from patterns names all i ≡ chosen_from patterns names all (i + 1)
 left_out patterns names all i name at out = rw (drop_at names i name at, take_at names i name at, out) refl
 
-pub taken : (patterns names all : List Text) (i : ℕ) (name : Text) → slice_get names i ≡ Some name → (is_among (take i names) name || is_excluded patterns name) ≡ false
+pub taken : (patterns names all : List Text) (i : ℕ) (name : Text) → slice_get names i ≡ Some name → (is_among (take i names) name || is_excluded patterns (bare name)) ≡ false
     → chosen_from patterns names all i ≡ chosen_from patterns names (all ++ name ∷ []) (i + 1)
 taken patterns names all i name at is =
     rw (drop_at names i name at, take_at names i name at, is) (sym (append_assoc all (name ∷ []) (chosen_after patterns (take i names ++ name ∷ []) (drop (i + 1) names))))

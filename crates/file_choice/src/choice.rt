@@ -1,5 +1,5 @@
 //! Which of the files that are named are checked.
-ghost use Rattle.std.specs.Prelude.{◌≡◌, ◌||◌, ℕ, Bool, true, not, if◌then◌else◌, IfOk, List, OnOk};
+ghost use Rattle.std.specs.Prelude.{◌≡◌, ◌||◌, ℕ, Bool, true, not, if◌then◌else◌, IfOk, List, OnOk, option_map};
 ghost use Rattle.std.specs.BTreeSet.{contains_text};
 ghost use Rattle.std.specs.Str.{bytes_eq};
 ghost use Rattle.file_choice.specs.Choice as spec;
@@ -10,12 +10,29 @@ use std::alloc::Global;
 use std::collections::BTreeSet;
 use text_pos::NoMemory;
 
-// Whether a name matches one of the patterns.
-fn is_excluded(alloc: Global, patterns: &Words, name: &str) -> Result<bool, NoMemory>
-    ensures { IfOk result (λ is. is ≡ spec.is_excluded patterns.now name.now) }
+// What follows `./` at the start of a name.
+fn after_dot(name: &str) -> Option<&str>
+    ensures { option_map (λ s. s.now) result ≡ spec.after_dot name.entry.now }
+{
+    name.strip_prefix("./")
+}
+
+// A name without `./` at its start.
+fn bare(name: &str) -> &str
+    ensures { result.now ≡ spec.bare name.entry.now }
+{
+    match after_dot(name) {
+        Some(rest) => rest,
+        None => name,
+    }
+}
+
+// Whether a path matches one of the patterns.
+fn is_excluded(alloc: Global, patterns: &Words, path: &str) -> Result<bool, NoMemory>
+    ensures { IfOk result (λ is. is ≡ spec.is_excluded patterns.now path.now) }
 {
     for i in 0..patterns.len() {
-        if is_match(alloc, patterns.get(i).as_bytes(), name.as_bytes())? {
+        if is_match(alloc, patterns.get(i).as_bytes(), path.as_bytes())? {
             return Ok(true);
         }
     }
@@ -38,16 +55,16 @@ fn is_chosen(
     seen: &mut BTreeSet<String>,
     name: &str,
 ) -> Result<bool, NoMemory>
-    ensures chosen { IfOk result (λ is. is ≡ not (contains_text seen.old name.now || spec.is_excluded patterns.now name.now)) }
+    ensures chosen { IfOk result (λ is. is ≡ not (contains_text seen.old name.now || spec.is_excluded patterns.now (spec.bare name.now))) }
     ensures seen { OnOk result ((other : List ℕ) → contains_text seen.new other ≡ (if bytes_eq name.now other then true else contains_text seen.old other)) }
 {
     if !is_first(alloc, seen, name)? {
         return Ok(false);
     }
-    Ok(!is_excluded(alloc, patterns, name)?)
+    Ok(!is_excluded(alloc, patterns, bare(name))?)
 }
 
-/// Those of these names that match no pattern, each at its first place. The error comes when memory runs out.
+/// Those of these names that match no pattern, each at its first place. A pattern is matched without `./` at the start of the name. The error comes when memory runs out.
 pub fn chosen(alloc: Global, patterns: &Words, names: &Words) -> Result<Words, NoMemory>
     ensures { IfOk result (λ all. all ≡ spec.chosen_of patterns.now names.now) }
 {
