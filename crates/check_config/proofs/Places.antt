@@ -1,8 +1,12 @@
 -- The first place of a name, byte by byte.
-use Rattle.std.proofs.Common.{◌≡◌, ◌==◌, ◌+◌, ◌<◌, ◌≤◌, ◌&&◌, ◌||◌, refl, ℕ, Bool, true, false, List, [], ◌∷◌, Some, None, drop, get_or, length}
-use Rattle.std.proofs.lemmas.List.{drop_all, drop_more}
+use Rattle.std.proofs.Common.{◌≡◌, ◌==◌, ◌+◌, ◌-◌, ◌<◌, ◌≤◌, ◌&&◌, ◌||◌, arith, refl, ℕ, Bool, true, false, List, [], ◌∷◌, Some, None, drop, get_or, length, take}
+use Rattle.std.proofs.lemmas.List.{drop_all, drop_more, length-drop, take_all}
 use Rattle.squawk_words.specs.Words.{Text}
 use Rattle.check_config.specs.Faults.{begins_with_name, place_from}
+
+-- the rest of a text, as a slice to its end
+pub whole_rest : (text : Text) (i : ℕ) → take (length text - i) (drop i text) ≡ drop i text
+whole_rest text i = take_all (drop i text) (length text - i) (omega (arith, length-drop {A = ℕ}))
 
 -- what the test says at a place
 abbrev pub is_here : Bool → Text → Text → ℕ → Bool → Bool
