@@ -6,7 +6,7 @@ use Rattle.check_config.specs.Faults.{begins_with_name, place_from}
 
 -- the rest of a text, as a slice to its end
 pub whole_rest : (text : Text) (i : ℕ) → take (length text - i) (drop i text) ≡ drop i text
-whole_rest text i = take_all (drop i text) (length text - i) (omega (arith, length-drop {A = ℕ}))
+whole_rest text i = take_all (length text - i) (drop i text) (omega (arith, length-drop {A = ℕ}))
 
 -- what the test says at a place
 abbrev pub is_here : Bool → Text → Text → ℕ → Bool → Bool
