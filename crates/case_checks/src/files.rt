@@ -65,6 +65,10 @@ impl FileStore for CaseFiles {
 
     ghost faults = { λ s. s.faults };
 
+    fn is_there(&self, name: &str) -> bool {
+        found(self.entries.as_slice(), name).is_some()
+    }
+
     fn read(&mut self, alloc: Global, name: &str) -> Result<Vec<u8>, FileError> {
         let Some(entry) = found(self.entries.as_slice(), name) else {
             return Err(FileError::Missing);

@@ -1,6 +1,11 @@
 -- What a run does that the words ask for.
 use Rattle.std.specs.Prelude.{◌≡◌, ℕ, Bool, true, false, List, Option, Some, None, Result, Ok, Err, ⊤}
 use Rattle.std.specs.Io.KnownBytes.{Appends, Keeps}
+use Rattle.check_command.specs.declared.failure.Failure.{Failure}
+use Rattle.check_command.specs.declared.failure.Failure.TheVariants as failure
+use Rattle.check_command.specs.Choosing.{IsChosenBy}
+use Rattle.check_config.specs.declared.config.Config.{Config}
+use Rattle.check_config.specs.Defaults.{linter_words}
 use Rattle.check_print.specs.declared.style.Style.{Style}
 use Rattle.check_print.specs.Printed.{printed}
 use Rattle.check_run.specs.Checks.{Answers}
@@ -21,6 +26,7 @@ use Rattle.squawk_run.specs.declared.stop.Stop.TheVariants.{BadArguments, NotUtf
 use Rattle.squawk_stream.specs.Faults.{Rose}
 use Rattle.squawk_stream.specs.Parts.{AppendsPart}
 use Rattle.squawk_words.specs.declared.choices.Choices.{Choices}
+use Rattle.config_file.specs.Loaded.{IsLoaded, IsRefusedFor}
 use Rattle.file_answer.specs.declared.linter.FileLinter.{FileLinter}
 use Rattle.file_answer.specs.Answers.{IsAnswerOf}
 
@@ -52,24 +58,28 @@ status_by fail_on.Warning greatest = greatest
 status_by fail_on.Never greatest = forgiven greatest
 
 -- the same, where nothing stopped it
-abbrev pub ended_by : FailOn → Result Status Stop → Result Status Stop
+abbrev pub ended_by : FailOn → Result Status Stop → Result Status Failure
 ended_by fails (Ok greatest) = Ok (status_by fails greatest)
-ended_by fails (Err stop) = Err stop
+ended_by fails (Err stop) = Err (failure.Stop stop)
 
--- The words for the linter choose rules and settings. Under these each file has its answer, all of them were written in the style, and
--- the status is by the greatest of theirs.
+-- The configuration and the words for the linter choose rules and settings. Under these each file has its answer that the configuration
+-- does not leave out, all of them were written in the style, and the status is by the greatest of theirs.
 pub record HasChecked (request : Request) (painted : Bool) (d : Devices) (old new : Option (List ℕ)) (result : Status) : Type 0 where
+  pub config : Config
+  pub loaded : IsLoaded d.content request.config config
   pub choices : Choices
-  pub chosen : linter_choices request.linter ≡ Some choices
+  pub chosen : IsChosenBy config request.linter choices
   pub greatest : Status
-  pub run : HasRun (AreAnswers (answers_by choices) d request) (printed (style_of request painted)) old new greatest
+  pub run : HasRun (AreAnswers (answers_by choices) d config.excluded_paths request) (printed (style_of request painted)) old new greatest
   pub ended : result ≡ status_by request.fail_on greatest
 
 -- The same, but a write failed.
 pub record HasCheckedPart (request : Request) (painted : Bool) (d : Devices) (old new : Option (List ℕ)) (before now : ℕ) : Type 0 where
+  pub config : Config
+  pub loaded : IsLoaded d.content request.config config
   pub choices : Choices
-  pub chosen : linter_choices request.linter ≡ Some choices
-  pub part : HasWrittenPart (AreAnswers (answers_by choices) d request) (printed (style_of request painted)) old new before now
+  pub chosen : IsChosenBy config request.linter choices
+  pub part : HasWrittenPart (AreAnswers (answers_by choices) d config.excluded_paths request) (printed (style_of request painted)) old new before now
 
 -- what was done for words that are taken, by what they ask for; `help` and `version` are the texts that are printed for these
 abbrev pub DoneFor : Asked → List ℕ → List ℕ → Bool → Devices → Option (List ℕ) → Option (List ℕ) → Status → Type 0
@@ -78,12 +88,19 @@ DoneFor Help help version painted d old new result = (result ≡ status.Clean) �
 DoneFor Version help version painted d old new result = (result ≡ status.Clean) × Appends old new version
 DoneFor Refused help version painted d old new result = ⊥
 
--- words that are not taken
-abbrev pub AreRefused : Asked → Type 0
-AreRefused (Check request) = linter_choices request.linter ≡ None
-AreRefused Help = ⊥
-AreRefused Version = ⊥
-AreRefused Refused = ⊤
+-- words that are not taken, by themselves or beside the configuration
+abbrev pub AreRefused : Asked → Devices → Type 0
+AreRefused (Check request) d = (config : Config) × IsLoaded d.content request.config config × (linter_choices (linter_words config request.linter) ≡ None)
+AreRefused Help d = ⊥
+AreRefused Version d = ⊥
+AreRefused Refused d = ⊤
+
+-- a configuration that is refused, and the line that says why
+abbrev pub HasRefused : Asked → Devices → List ℕ → Type 0
+HasRefused (Check request) d line = IsRefusedFor d.content d.files_before d.files_now request.config line
+HasRefused Help d line = ⊥
+HasRefused Version d line = ⊥
+HasRefused Refused d line = ⊥
 
 -- what was written before a write failed
 abbrev pub PartFor : Asked → List ℕ → List ℕ → Bool → Devices → Option (List ℕ) → Option (List ℕ) → ℕ → ℕ → Type 0
@@ -93,10 +110,11 @@ PartFor Version help version painted d old new before now = AppendsPart old new 
 PartFor Refused help version painted d old new before now = ⊥
 
 -- why a run stopped, and what it left
-abbrev pub StoppedFor : Asked → List ℕ → List ℕ → Bool → Devices → Option (List ℕ) → Option (List ℕ) → ℕ → ℕ → Stop → Type 0
-StoppedFor asked help version painted d old new before now BadArguments = AreRefused asked × Keeps old new
-StoppedFor asked help version painted d old new before now NotUtf8 = ⊥
-StoppedFor asked help version painted d old new before now TooLong = ⊥
-StoppedFor asked help version painted d old new before now ReadFault = ⊥
-StoppedFor asked help version painted d old new before now WriteFault = PartFor asked help version painted d old new before now
-StoppedFor asked help version painted d old new before now NoMemory = Keeps old new
+abbrev pub StoppedFor : Asked → List ℕ → List ℕ → Bool → Devices → Option (List ℕ) → Option (List ℕ) → ℕ → ℕ → Failure → Type 0
+StoppedFor asked help version painted d old new before now (failure.Config line) = HasRefused asked d line.items × Keeps old new
+StoppedFor asked help version painted d old new before now (failure.Stop BadArguments) = AreRefused asked d × Keeps old new
+StoppedFor asked help version painted d old new before now (failure.Stop NotUtf8) = ⊥
+StoppedFor asked help version painted d old new before now (failure.Stop TooLong) = ⊥
+StoppedFor asked help version painted d old new before now (failure.Stop ReadFault) = ⊥
+StoppedFor asked help version painted d old new before now (failure.Stop WriteFault) = PartFor asked help version painted d old new before now
+StoppedFor asked help version painted d old new before now (failure.Stop NoMemory) = Keeps old new

@@ -1,1 +1,3 @@
+pub mod Failures
+pub mod Choosing
 pub mod Command

@@ -4,20 +4,24 @@ ghost use Rattle.std.specs.Io.KnownBytes.{Appends, Keeps};
 ghost use Rattle.check_words.specs.Asked.{asked_of};
 ghost use Rattle.checked_file.specs.declared.status.Status.TheVariants as status;
 ghost use Rattle.squawk_run.specs.declared.stop.Stop.TheVariants as stop;
-ghost use Rattle.squawk_run.specs.Stops.{line_of};
 ghost use Rattle.squawk_stream.specs.Faults.{HasCause, Rose};
 ghost use Rattle.squawk_stream.specs.Parts.{AppendsPart};
+ghost use Rattle.check_command.specs.Choosing.{IsChosenBy, IsUnchosen};
 ghost use Rattle.check_command.specs.Command.{DoneFor, HasChecked, StoppedFor, ended_by, judge_by, status_by, style_of};
+ghost use Rattle.check_command.specs.Failures.{IsStop, failure_of, line_of};
 
+use crate::failure::{Failure, failure_of, say};
 use crate::printer::StylePrinter;
+use check_config::{Config, linter_words};
 use check_print::Style;
 use check_run::check;
 use check_words::{Asked, Color, FailOn, HELP, Request, VERSION, linter_choices, read_asked};
 use checked_file::Status;
+use config_file::load_config;
 use file_answer::FileLinter;
 use file_store::FileStore;
 use squawk_linter::Linter;
-use squawk_run::{Stop, say_stop};
+use squawk_run::Stop;
 use squawk_stream::{Sink, Source, write_all};
 use squawk_words::{Choices, Words};
 use std::alloc::Global;
@@ -63,26 +67,42 @@ fn status_by(fail_on: FailOn, greatest: Status) -> Status
 }
 
 // The same, where nothing stopped it.
-fn ended_by(fail_on: FailOn, done: Result<Status, Stop>) -> Result<Status, Stop>
+fn ended_by(fail_on: FailOn, done: Result<Status, Stop>) -> Result<Status, Failure>
     ensures { result ≡ ended_by fail_on done }
 {
     match done {
         Ok(greatest) => Ok(status_by(fail_on, greatest)),
-        Err(stop) => Err(stop),
+        Err(stop) => Err(Failure::Stop(stop)),
+    }
+}
+
+// What the words of the line and the configuration choose together.
+fn chosen(alloc: Global, config: &Config, line: &Words) -> Result<Choices, Stop>
+    ensures chosen { IfOk result (IsChosenBy config.now line.now) }
+    ensures unchosen { IfErr result (IsUnchosen config.now line.now) }
+{
+    let words = match linter_words(alloc, config, line) {
+        Ok(words) => words,
+        Err(NoMemory) => return Err(Stop::NoMemory),
+    };
+    match linter_choices(alloc, &words) {
+        Ok(Some(choices)) => Ok(choices),
+        Ok(None) => Err(Stop::BadArguments),
+        Err(NoMemory) => Err(Stop::NoMemory),
     }
 }
 
 // Writes a text.
-fn write_text<K: Sink>(text: &str, out: &mut K) -> Result<Status, Stop>
+fn write_text<K: Sink>(text: &str, out: &mut K) -> Result<Status, Failure>
     ensures ok { OnOk result (Appends (K.held out.old) (K.held out.new) text.now) }
     ensures clean { IfOk result (λ s. s ≡ status.Clean) }
-    ensures stop { IfErr result (λ s. s ≡ stop.WriteFault) }
+    ensures stop { IfErr result (IsStop stop.WriteFault) }
     ensures part { AppendsPart (K.held out.old) (K.held out.new) text.now }
     ensures cause { HasCause (K.faults out.old) (K.faults out.new) result }
 {
     match write_all(out, text.as_bytes()) {
         Ok(()) => Ok(Status::Clean),
-        Err(_) => Err(Stop::WriteFault),
+        Err(_) => Err(Failure::Stop(Stop::WriteFault)),
     }
 }
 
@@ -94,7 +114,7 @@ fn check_request<F: FileStore, S: Source, K: Sink>(
     files: &mut F,
     src: &mut S,
     out: &mut K,
-) -> Result<Status, Stop>
+) -> Result<Status, Failure>
     ensures done { IfOk result (HasChecked request.now is_painted
         (record {
           content = F.content files.old;
@@ -116,15 +136,22 @@ fn check_request<F: FileStore, S: Source, K: Sink>(
         })
         (K.held out.old) (K.held out.new) (K.faults out.old) (K.faults out.new)) }
 {
-    let mut judge = match linter_choices(alloc, &request.linter) {
-        Ok(Some(choices)) => judge_by(choices),
-        Ok(None) => return Err(Stop::BadArguments),
-        Err(NoMemory) => return Err(Stop::NoMemory),
+    let config = match load_config(alloc, files, &request.config) {
+        Ok(config) => config,
+        Err(error) => return Err(failure_of(error)),
     };
+    let choices = match chosen(alloc, &config, &request.linter) {
+        Ok(choices) => choices,
+        Err(stop) => return Err(Failure::Stop(stop)),
+    };
+    let mut judge = judge_by(choices);
     let printer = StylePrinter {
         style: style_of(request, is_painted),
     };
-    let done = check(alloc, request, &mut judge, &printer, files, src, out);
+    let patterns = &config.excluded_paths;
+    let done = check(
+        alloc, request, patterns, &mut judge, &printer, files, src, out,
+    );
     ended_by(request.fail_on, done)
 }
 
@@ -136,7 +163,7 @@ fn work<F: FileStore, S: Source, K: Sink>(
     files: &mut F,
     src: &mut S,
     out: &mut K,
-) -> Result<Status, Stop>
+) -> Result<Status, Failure>
     ensures done { IfOk result (DoneFor (asked_of words.now) HELP.now VERSION.now is_painted
         (record {
           content = F.content files.old;
@@ -162,14 +189,14 @@ fn work<F: FileStore, S: Source, K: Sink>(
         Ok(Asked::Check(request)) => check_request(alloc, &request, is_painted, files, src, out),
         Ok(Asked::Help) => write_text(HELP, out),
         Ok(Asked::Version) => write_text(VERSION, out),
-        Ok(Asked::Refused) => Err(Stop::BadArguments),
-        Err(NoMemory) => Err(Stop::NoMemory),
+        Ok(Asked::Refused) => Err(Failure::Stop(Stop::BadArguments)),
+        Err(NoMemory) => Err(Failure::Stop(Stop::NoMemory)),
     }
 }
 
 /// Does what the words after the program's name ask for: reads files, or the input, and writes to `out` what comes of them. Why nothing
 /// more was written goes to `err`, and a failure there changes nothing else. `is_painted` is whether colours are expected where no word
-/// says. The stops are `BadArguments`, `WriteFault` and `NoMemory`.
+/// says. The failures are a configuration that is refused, and the stops `BadArguments`, `WriteFault` and `NoMemory`.
 pub fn run<F: FileStore, S: Source, K: Sink, E: Sink>(
     alloc: Global,
     words: &Words,
@@ -178,7 +205,7 @@ pub fn run<F: FileStore, S: Source, K: Sink, E: Sink>(
     src: &mut S,
     out: &mut K,
     err: &mut E,
-) -> Result<Status, Stop>
+) -> Result<Status, Failure>
     ensures done { IfOk result (DoneFor (asked_of words.now) HELP.now VERSION.now is_painted
         (record {
           content = F.content files.old;
@@ -199,15 +226,15 @@ pub fn run<F: FileStore, S: Source, K: Sink, E: Sink>(
           input_now = S.faults src.new;
         })
         (K.held out.old) (K.held out.new) (K.faults out.old) (K.faults out.new)) }
-    ensures line { IfErr result (λ stop. AppendsPart (E.held err.old) (E.held err.new) (line_of stop)) }
-    ensures whole_line { IfErr result (λ stop. ¬ (Rose (E.faults err.old) (E.faults err.new)) → Appends (E.held err.old) (E.held err.new) (line_of stop)) }
+    ensures line { IfErr result (λ failure. AppendsPart (E.held err.old) (E.held err.new) (line_of failure)) }
+    ensures whole_line { IfErr result (λ failure. ¬ (Rose (E.faults err.old) (E.faults err.new)) → Appends (E.held err.old) (E.held err.new) (line_of failure)) }
     ensures no_line { OnOk result (Keeps (E.held err.old) (E.held err.new)) }
 {
     match work(alloc, words, is_painted, files, src, out) {
         Ok(status) => Ok(status),
-        Err(stop) => {
-            say_stop(err, stop);
-            Err(stop)
+        Err(failure) => {
+            say(err, failure.line());
+            Err(failure)
         }
     }
 }

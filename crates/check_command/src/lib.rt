@@ -4,7 +4,9 @@
 #![tactic(auto)]
 
 mod command;
+mod failure;
 mod printer;
 
 pub use command::run;
+pub use failure::Failure;
 pub use printer::StylePrinter;

@@ -6,6 +6,7 @@ use Rattle.check_words.specs.declared.request.Request.{Request}
 use Rattle.checked_file.specs.declared.checked.Checked.{Checked}
 use Rattle.checked_file.specs.declared.status.Status.{Status}
 use Rattle.checked_file.specs.Files.{worst}
+use Rattle.file_choice.specs.Choice.{chosen_of}
 use Rattle.file_store.specs.Contents.{Content}
 use Rattle.squawk_run.specs.declared.stop.Stop.{Stop}
 use Rattle.squawk_run.specs.declared.stop.Stop.TheVariants.{BadArguments, NotUtf8, TooLong, ReadFault, WriteFault, NoMemory}
@@ -24,11 +25,11 @@ pub record IsInputAnswer (answers : Answers) (left : Option (List ℕ)) (before 
   pub only : files ≡ file ∷ []
   pub came : IsChecked answers (input_content left) before now name file
 
--- the answers of a run over the files that words stand for
-pub record AreFileAnswers (answers : Answers) (content : Text → Content) (before now : ℕ) (words : List Text) (files : List Checked) : Type 0 where
+-- the answers of a run over the files that words stand for: of those that no pattern leaves out, each once
+pub record AreFileAnswers (answers : Answers) (content : Text → Content) (before now : ℕ) (patterns words : List Text) (files : List Checked) : Type 0 where
   pub names : List Text
   pub named : AreNamed content words names
-  pub came : AreChecked answers content before now names files
+  pub came : AreChecked answers content before now (chosen_of patterns names) files
 
 -- What a run reads: what the names hold and what is left of the input, as far as that is known, and how often calls on them failed
 -- before the run and after it.
@@ -41,13 +42,13 @@ pub record Devices : Type 0 where
   pub input_now : ℕ
 
 -- the answers of a run, by whether it is over its input
-abbrev pub AreAnswersBy : Bool → Answers → Devices → Request → List Checked → Type 0
-AreAnswersBy true answers d request files = IsInputAnswer answers d.left d.input_before d.input_now request.stdin_name files
-AreAnswersBy false answers d request files = AreFileAnswers answers d.content d.files_before d.files_now request.files files
+abbrev pub AreAnswersBy : Bool → Answers → Devices → List Text → Request → List Checked → Type 0
+AreAnswersBy true answers d patterns request files = IsInputAnswer answers d.left d.input_before d.input_now request.stdin_name files
+AreAnswersBy false answers d patterns request files = AreFileAnswers answers d.content d.files_before d.files_now patterns request.files files
 
--- the answers of a run for what a request asks
-abbrev pub AreAnswers : Answers → Devices → Request → List Checked → Type 0
-AreAnswers answers d request files = AreAnswersBy (reads_input request.files) answers d request files
+-- the answers of a run for what a request asks, where these patterns leave files out
+abbrev pub AreAnswers : Answers → Devices → List Text → Request → List Checked → Type 0
+AreAnswers answers d patterns request files = AreAnswersBy (reads_input request.files) answers d patterns request files
 
 -- ---- what was written
 

@@ -11,6 +11,7 @@ use crate::judge::Judge;
 use crate::printer::Printer;
 use check_words::Request;
 use checked_file::{Checked, Status, worst};
+use file_choice::chosen;
 use file_store::FileStore;
 use squawk_run::Stop;
 use squawk_stream::{Sink, Source, write_all};
@@ -34,17 +35,19 @@ fn check_one<S: Source, J: Judge>(
     Ok(all)
 }
 
-// What comes of the files that words stand for.
+// What comes of the files that words stand for and no pattern leaves out.
 fn check_named<F: FileStore, J: Judge>(
     alloc: Global,
     judge: &mut J,
     files: &mut F,
+    patterns: &Words,
     words: &Words,
 ) -> Result<Vec<Checked>, NoMemory>
-    ensures checked { IfOk result (λ all. AreFileAnswers (J.answers judge.old) (F.content files.old) (F.faults files.old) (F.faults files.new) words.now all.items) }
+    ensures checked { IfOk result (λ all. AreFileAnswers (J.answers judge.old) (F.content files.old) (F.faults files.old) (F.faults files.new) patterns.now words.now all.items) }
     ensures sound { IfOk result (λ all. All IsSound all.items) }
 {
-    let names = expanded(alloc, files, words)?;
+    let named = expanded(alloc, files, words)?;
+    let names = chosen(alloc, patterns, &named)?;
     check_files(alloc, judge, files, &names)
 }
 
@@ -52,6 +55,7 @@ fn check_named<F: FileStore, J: Judge>(
 fn check_asked<F: FileStore, S: Source, J: Judge>(
     alloc: Global,
     request: &Request,
+    patterns: &Words,
     judge: &mut J,
     files: &mut F,
     src: &mut S,
@@ -65,13 +69,13 @@ fn check_asked<F: FileStore, S: Source, J: Judge>(
           input_before = S.faults src.old;
           input_now = S.faults src.new;
         })
-        request.now all.items) }
+        patterns.now request.now all.items) }
     ensures sound { IfOk result (λ all. All IsSound all.items) }
 {
     if reads_input(&request.files) {
         check_one(alloc, judge, src, request.stdin_name.as_str())
     } else {
-        check_named(alloc, judge, files, &request.files)
+        check_named(alloc, judge, files, patterns, &request.files)
     }
 }
 
@@ -96,13 +100,15 @@ fn write_checked<P: Printer, K: Sink>(
 }
 
 /// Checks what a request asks for: the files that its words stand for, or the input; writes to `out` what comes of them, and gives the
-/// greatest status of them.
+/// greatest status of them. Of the files those are left out whose names match one of the patterns, and one that is named twice counts at
+/// its first place.
 ///
 /// Each file has its answer, whatever came of the others. All memory is taken before the first write, so a run that lacks it writes
 /// nothing. The error is `WriteFault` or `NoMemory`.
 pub fn check<F: FileStore, S: Source, K: Sink, J: Judge, P: Printer>(
     alloc: Global,
     request: &Request,
+    patterns: &Words,
     judge: &mut J,
     printer: &P,
     files: &mut F,
@@ -118,7 +124,7 @@ pub fn check<F: FileStore, S: Source, K: Sink, J: Judge, P: Printer>(
           input_before = S.faults src.old;
           input_now = S.faults src.new;
         })
-        request.now)
+        patterns.now request.now)
         (P.printed printer.now) (K.held out.old) (K.held out.new)) }
     ensures stopped { IfErr result (HasStopped (AreAnswers (J.answers judge.old)
         (record {
@@ -129,10 +135,10 @@ pub fn check<F: FileStore, S: Source, K: Sink, J: Judge, P: Printer>(
           input_before = S.faults src.old;
           input_now = S.faults src.new;
         })
-        request.now)
+        patterns.now request.now)
         (P.printed printer.now) (K.held out.old) (K.held out.new) (K.faults out.old) (K.faults out.new)) }
 {
-    let checked = match check_asked(alloc, request, judge, files, src) {
+    let checked = match check_asked(alloc, request, patterns, judge, files, src) {
         Ok(checked) => checked,
         Err(NoMemory) => return Err(Stop::NoMemory),
     };

@@ -123,6 +123,13 @@ impl FileStore for MemFiles<'_> {
 
     ghost faults = { λ s. s.faults };
 
+    fn is_there(&self, name: &str) -> bool {
+        match found_in(self.files, self.folders, name) {
+            Held::Nothing => false,
+            Held::Bytes(_) | Held::Names(_) => true,
+        }
+    }
+
     fn read(&mut self, alloc: Global, name: &str) -> Result<Vec<u8>, FileError> {
         let call = self.calls;
         self.calls = call.saturating_add(1);

@@ -1,6 +1,6 @@
 //! What every store of files keeps.
 ghost use Rattle.std.specs.Prelude.{ℕ, ◌<◌, ◌≤◌, ◌^◌, List, length, map, option_map, string_bytes, IfOk, IfErr};
-ghost use Rattle.file_store.specs.Contents.{Content, IsBytes, IsListed, KeepsContents};
+ghost use Rattle.file_store.specs.Contents.{Content, IsBytes, IsListed, IsThere, KeepsContents};
 ghost use Rattle.file_store.specs.Refused.{RefusedFits};
 
 use std::alloc::Global;
@@ -24,6 +24,10 @@ pub trait FileStore {
     ghost content: { Self → List ℕ → Content };
 
     ghost faults: { Self → ℕ };
+
+    /// Whether there is a file or a folder of this name.
+    fn is_there(&self, name: &str) -> bool
+        ensures { IsThere (content self.now name.now) result };
 
     /// All bytes of a file.
     fn read(&mut self, alloc: Global, name: &str) -> Result<Vec<u8>, FileError>

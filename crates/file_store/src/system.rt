@@ -87,6 +87,10 @@ impl<R: Files + AllocGlobal + Clone + Drop> FileStore for SystemFiles<'_, R> {
 
     ghost faults = { λ s. s };
 
+    fn is_there(&self, name: &str) -> bool {
+        std::fs::metadata(self.rt, name).is_ok()
+    }
+
     fn read(&mut self, alloc: Global, name: &str) -> Result<Vec<u8>, FileError> {
         let file = match std::fs::open(self.rt, name) {
             Ok(file) => file,

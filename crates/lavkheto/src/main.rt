@@ -34,7 +34,7 @@ fn main(rt: HostRuntime) -> ExitCode {
             );
             match done {
                 Ok(status) => status.code(),
-                Err(stop) => stop.code(),
+                Err(failure) => failure.code(),
             }
         }
         Err(stop) => {

@@ -1,16 +1,23 @@
+use Rattle.std.proofs.Common.{List, subst}
 use Rattle.std.proofs.lemmas.Result.{IfOk-weaker}
+use Rattle.squawk_words.specs.Words.{Text}
+use Rattle.check_run.specs.Checks.{AreChecked}
 use Rattle.check_run.proofs.Lists.{all_moved}
 use Rattle.check_run.proofs.run.check_named.Goals as goal
 
 pub returns-clause-checked : goal.returns-clause-checked
 returns-clause-checked g c =
-    let e = c.in_ok-names.ensures in
+    let e = c.in_ok-named.ensures in
+    let answers = g.J.Judge.answers c.args.judge.now in
+    let content = g.F.FileStore.content c.args.files.now in
+    let first = g.F.FileStore.faults c.args.files.now in
+    let last = g.F.FileStore.faults c.check_files.new.files in
+    let names = c.in_ok-names.names in
     IfOk-weaker c.check_files.result _ _
     (λ all h. record {
-      names = c.in_ok-names.names;
+      names = c.in_ok-named.named;
       named = e.named;
-      came = all_moved (g.J.Judge.answers c.args.judge.now) (g.F.FileStore.content c.args.files.now) (g.F.FileStore.content c.expanded.new.files)
-          (g.F.FileStore.faults c.args.files.now) (g.F.FileStore.faults c.check_files.new.files) (g.F.FileStore.faults c.expanded.new.files)
-          c.in_ok-names.names all.items e.kept e.later h;
+      came = subst (λ (ns : List Text). AreChecked answers content first last ns all.items) c.in_ok-names.ensures
+          (all_moved answers content (g.F.FileStore.content c.expanded.new.files) first last (g.F.FileStore.faults c.expanded.new.files) names all.items e.kept e.later h);
     })
     c.check_files.ensures.checked

@@ -1,0 +1,59 @@
+//! Why a run gives no answer.
+ghost use Rattle.std.specs.Prelude.{◌≡◌};
+ghost use Rattle.std.specs.Io.KnownBytes.{Appends};
+ghost use Rattle.check_command.specs.Failures as spec;
+ghost use Rattle.squawk_stream.specs.Faults.{Rose};
+ghost use Rattle.squawk_stream.specs.Parts.{AppendsPart};
+
+use config_file::LoadError;
+use squawk_run::Stop;
+use squawk_stream::{Sink, write_all};
+
+/// Why a run gives no answer.
+#[derive(Debug, Drop)]
+pub enum Failure {
+    /// A stop that every program has.
+    Stop(Stop),
+    /// The configuration is refused. This line says why, with its line feed.
+    Config(Vec<u8>),
+}
+
+impl Failure {
+    /// The exit status of the program.
+    pub fn code(&self) -> u8
+        ensures { result ≡ spec.code_of self.now }
+    {
+        match self {
+            Failure::Stop(stop) => stop.code(),
+            Failure::Config(_) => 2,
+        }
+    }
+
+    /// The line that is written to the error sink, with its line feed.
+    pub fn line(&self) -> &[u8]
+        ensures { result.now ≡ spec.line_of self.now }
+    {
+        match self {
+            Failure::Stop(stop) => stop.line().as_bytes(),
+            Failure::Config(line) => line.as_slice(),
+        }
+    }
+}
+
+/// Why a run gives no answer that has no configuration.
+pub(crate) fn failure_of(error: LoadError) -> Failure
+    ensures { result ≡ spec.failure_of error }
+{
+    match error {
+        LoadError::Refused(line) => Failure::Config(line),
+        LoadError::NoMemory => Failure::Stop(Stop::NoMemory),
+    }
+}
+
+/// Writes a line, which has its line feed. Nothing comes of a failure.
+pub(crate) fn say<E: Sink>(err: &mut E, line: &[u8])
+    ensures part { AppendsPart (E.held err.old) (E.held err.new) line.now }
+    ensures whole { ¬ (Rose (E.faults err.old) (E.faults err.new)) → Appends (E.held err.old) (E.held err.new) line.now }
+{
+    let _ = write_all(err, line);
+}

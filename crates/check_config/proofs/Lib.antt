@@ -1,0 +1,7 @@
+mod TextSteps
+mod Finds
+mod Keys
+mod Places
+mod Refusals
+mod Joins
+mod Versions

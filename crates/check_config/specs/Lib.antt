@@ -1,0 +1,4 @@
+pub mod Config
+pub mod Readings
+pub mod Faults
+pub mod Defaults

@@ -1,0 +1,76 @@
+//! Lists of rules.
+ghost use Rattle.std.specs.Prelude.{◌≡◌, IfErr, IfOk, Ok, find, is_some, option_map};
+ghost use Rattle.lint_base.specs.RuleNames.{rule_named};
+ghost use Rattle.toml.specs.View.{table_view};
+ghost use Rattle.check_config.specs.Config as spec;
+ghost use Rattle.check_config.specs.Readings.{IsRefused};
+
+use crate::fault::{ConfigError, ConfigFault};
+use crate::texts::texts_at;
+use lint_base::{Rule, Text};
+use squawk_words::Words;
+use std::alloc::Global;
+use toml::Table;
+
+// Whether a text names a rule.
+fn is_rule(name: &str) -> bool
+    ensures { result ≡ is_some (rule_named name.now) }
+{
+    Rule::try_from(name).ok().is_some()
+}
+
+// Whether a text names no rule.
+fn is_unknown_rule(name: &str) -> bool
+    ensures { result ≡ spec.is_unknown_rule name.now }
+{
+    !is_rule(name)
+}
+
+// The first text that names no rule.
+fn unknown_rule(names: &Words) -> Option<&str>
+    ensures { option_map (λ name. name.now) result ≡ find spec.is_unknown_rule names.now }
+{
+    for i in 0..names.len() {
+        let name = names.get(i);
+        if is_unknown_rule(name) {
+            return Some(name);
+        }
+    }
+    None
+}
+
+// The error of a text that names no rule.
+fn unknown_error(alloc: Global, name: &str) -> ConfigError
+    ensures { spec.IsUnknownRule name.now result }
+{
+    match String::from_str(alloc, name) {
+        Ok(name) => ConfigError::Refused(ConfigFault::UnknownRule(Text::made(name))),
+        Err(_) => ConfigError::NoMemory,
+    }
+}
+
+// Texts that name rules.
+fn known_rules(alloc: Global, names: Words) -> Result<Words, ConfigError>
+    ensures taken { IfOk result (λ rules. spec.known_rules names ≡ Ok rules) }
+    ensures refused { IfErr result (IsRefused (spec.known_rules names)) }
+{
+    match unknown_rule(&names) {
+        Some(name) => Err(unknown_error(alloc, name)),
+        None => Ok(names),
+    }
+}
+
+/// The names of rules at a key, none where the key is not there.
+pub(crate) fn rules_at(
+    alloc: Global,
+    table: &Table,
+    key: &'static str,
+) -> Result<Words, ConfigError>
+    ensures taken { IfOk result (λ rules. spec.rules_at key.entry.now (table_view table.now) ≡ Ok rules) }
+    ensures refused { IfErr result (IsRefused (spec.rules_at key.entry.now (table_view table.now))) }
+{
+    match texts_at(alloc, table, key) {
+        Ok(names) => known_rules(alloc, names),
+        Err(error) => Err(error),
+    }
+}

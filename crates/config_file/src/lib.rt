@@ -1,0 +1,12 @@
+//! The configuration file of a run: which one it is, what it says, and the line that is written where it is refused.
+//!
+//! `specs/Found.antt` says which file is found, and `specs/Loaded.antt` what is taken of it.
+#![tactic(auto)]
+
+mod error;
+mod find;
+mod line;
+mod load;
+
+pub use error::LoadError;
+pub use load::load_config;
