@@ -20,8 +20,6 @@ choice_named name =
     else if bytes_eq name (codes "color") then Some choice.Color
     else if bytes_eq name (codes "stdin-filename") then Some choice.StdinName
     else if bytes_eq name (codes "config") then Some choice.Config
-    else if bytes_eq name (codes "baseline") then Some choice.Baseline
-    else if bytes_eq name (codes "write-baseline") then Some choice.WriteBaseline
     else if bytes_eq name (codes "fail-on") then Some choice.FailOn
     else None
 

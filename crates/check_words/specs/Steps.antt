@@ -34,14 +34,6 @@ with_fail_on value r = option_map (λ f. record r { fail_on = f }) (fail_on_name
 abbrev pub with_config : Text → Request → Request
 with_config value r = record r { config = Some value }
 
--- a request with a file of reports that do not count
-abbrev pub with_baseline : Text → Request → Request
-with_baseline value r = record r { baseline = Some value }
-
--- a request to write such a file
-abbrev pub with_write_baseline : Text → Request → Request
-with_write_baseline value r = record r { write_baseline = Some value }
-
 -- a request with an option set that takes no value
 abbrev pub with_flag : Flag → Request → Request
 with_flag Quiet r = record r { quiet = true }
@@ -53,8 +45,6 @@ set choice.Format value r = with_format value r
 set choice.Color value r = with_color value r
 set choice.StdinName value r = Some (with_stdin_name value r)
 set choice.Config value r = Some (with_config value r)
-set choice.Baseline value r = Some (with_baseline value r)
-set choice.WriteBaseline value r = Some (with_write_baseline value r)
 set choice.FailOn value r = with_fail_on value r
 
 -- the same, where any word may follow

@@ -12,13 +12,11 @@ FILES are files, and folders for all *.sql files in them. Without FILES, or with
 
   --format FORMAT          text (default), concise, gcc, github, json, sarif, gitlab
   --color WHEN             auto (default), always, never
-  --quiet                  writes less: no line that counts
-  --statistics             counts the reports of each rule
+  --quiet                  the findings, and no line that counts them
+  --statistics             counts the reports of each rule, after them
   --stdin-filename NAME    what standard input is called in what is written (default: stdin)
   --config FILE            the configuration, instead of .squawk.toml in this folder or one above it, up to the repository's
   --fail-on WHEN           warning (default): status 1 where something is found; never: status 0 there
-  --baseline FILE          reports that this file has do not count
-  --write-baseline FILE    writes such a file of all reports that are there
   --                       the words after it are files
 
   --only RULES             exactly these rules, with commas between them
@@ -39,7 +37,5 @@ Examples:
   lavkheto check migrations
   lavkheto check --format github --exclude prefer-text-field migrations/2.sql
   lavkheto check --format sarif --fail-on never migrations > lavkheto.sarif
-  lavkheto check --write-baseline known.json migrations
-  lavkheto check --baseline known.json migrations
   git show HEAD:migrations/2.sql | lavkheto check --stdin-filename migrations/2.sql
 ";

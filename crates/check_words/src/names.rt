@@ -11,8 +11,6 @@ pub(crate) enum Choice {
     Color,
     StdinName,
     Config,
-    Baseline,
-    WriteBaseline,
     FailOn,
 }
 
@@ -35,10 +33,6 @@ pub(crate) fn choice_named(name: &str) -> Option<Choice>
         Some(Choice::StdinName)
     } else if name == "config" {
         Some(Choice::Config)
-    } else if name == "baseline" {
-        Some(Choice::Baseline)
-    } else if name == "write-baseline" {
-        Some(Choice::WriteBaseline)
     } else if name == "fail-on" {
         Some(Choice::FailOn)
     } else {

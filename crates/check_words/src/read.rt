@@ -20,8 +20,6 @@ fn start(alloc: Global) -> Reader
             color: Color::Auto,
             stdin_name: Text::fixed("stdin"),
             config: None,
-            baseline: None,
-            write_baseline: None,
             fail_on: FailOn::Warning,
             quiet: false,
             statistics: false,

@@ -53,10 +53,6 @@ pub struct Request {
     pub stdin_name: Text,
     /// The configuration file, where one is named.
     pub config: Option<Text>,
-    /// The file of reports that do not count, where one is named.
-    pub baseline: Option<Text>,
-    /// Where the reports that are there are written as such a file, where this is asked for.
-    pub write_baseline: Option<Text>,
     /// Which reports make the run fail.
     pub fail_on: FailOn,
     /// Whether less is written.

@@ -117,28 +117,6 @@ fn with_config(alloc: Global, mut request: Request, value: &str) -> Result<Reque
     Ok(request)
 }
 
-// A request with a file of reports that do not count.
-fn with_baseline(alloc: Global, mut request: Request, value: &str) -> Result<Request, AllocError>
-    ensures { IfOk result (λ r. r ≡ spec.with_baseline value.now request) }
-{
-    let name = copied(alloc, value)?;
-    request.baseline = Some(name);
-    Ok(request)
-}
-
-// A request to write such a file.
-fn with_write_baseline(
-    alloc: Global,
-    mut request: Request,
-    value: &str,
-) -> Result<Request, AllocError>
-    ensures { IfOk result (λ r. r ≡ spec.with_write_baseline value.now request) }
-{
-    let name = copied(alloc, value)?;
-    request.write_baseline = Some(name);
-    Ok(request)
-}
-
 // A request with an option set that takes no value.
 fn with_flag(mut request: Request, flag: Flag) -> Request
     ensures { result ≡ spec.with_flag flag request }
@@ -165,8 +143,6 @@ fn set(
         Choice::Color => Ok(with_color(request, value)),
         Choice::StdinName => Ok(Some(with_stdin_name(alloc, request, value)?)),
         Choice::Config => Ok(Some(with_config(alloc, request, value)?)),
-        Choice::Baseline => Ok(Some(with_baseline(alloc, request, value)?)),
-        Choice::WriteBaseline => Ok(Some(with_write_baseline(alloc, request, value)?)),
         Choice::FailOn => Ok(with_fail_on(request, value)),
     }
 }
