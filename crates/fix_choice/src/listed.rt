@@ -1,5 +1,6 @@
 //! The rules whose fixes are made.
 ghost use Rattle.std.specs.Prelude.{◌≡◌};
+ghost use Rattle.law_fix_steps.specs.Leaves as follow;
 ghost use Rattle.law_fix_steps.specs.Listed as spec;
 
 use lint_base::Rule;
@@ -16,6 +17,23 @@ pub fn is_listed(rule: Rule) -> bool
             | Rule::RequireConcurrentReindex
             | Rule::RequireLockTimeout
             | Rule::RequireStatementTimeout
+            | Rule::PreferBigintOverInt
+            | Rule::PreferBigintOverSmallint
+            | Rule::PreferTextField
+            | Rule::PreferTimestampTz
+    )
+}
+
+/// Whether the fixes of this rule are followed from one text to the next (`law_fix_steps`): those of the listed rules that neither
+/// detach a partition nor set a timeout.
+pub fn is_followed(rule: Rule) -> bool
+    ensures { result ≡ follow.is_followed rule }
+{
+    matches!(
+        rule,
+        Rule::RequireConcurrentIndexCreation
+            | Rule::RequireConcurrentIndexDeletion
+            | Rule::RequireConcurrentReindex
             | Rule::PreferBigintOverInt
             | Rule::PreferBigintOverSmallint
             | Rule::PreferTextField

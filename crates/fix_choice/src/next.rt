@@ -10,8 +10,8 @@ use lint_base::{Fix, Violation};
 use std::alloc::Global;
 use text_pos::NoMemory;
 
-// The text with a fix made, if it fits.
-fn made_by(alloc: Global, text: &str, fix: &Fix) -> Result<Option<String>, NoMemory>
+/// The text with a fix made, if it fits. The error comes when memory runs out.
+pub fn made_by(alloc: Global, text: &str, fix: &Fix) -> Result<Option<String>, NoMemory>
     requires short { length text.now < 2 ^ 32 }
     requires tried { CanBeTried text.now fix.now }
     ensures { IfOk result (λ made. option_map string_bytes made ≡ spec.made_by text.now fix.now) }

@@ -7,13 +7,15 @@ use Rattle.lint_transaction.specs.Earlier.{any_below, concat_below, since}
 use Rattle.lint_transaction.specs.Transaction.{creates, creates_at, ends_at, is_open, opens_at, stmt_at}
 use Rattle.pass_session.specs.RequireTimeoutSettings.{sets_at, slow_at}
 use Rattle.law_fix_steps.specs.Kept.{Kept}
+use Rattle.law_fix_steps.specs.Left.{Left}
 use Rattle.law_fix_steps.proofs.Earlier.{any_shifted, since_shifted}
 use Rattle.law_fix_steps.proofs.Kept.{pieces_kept, shifted_kept}
+use Rattle.law_fix_steps.proofs.Left.{pieces_left, shifted_left}
 use Rattle.law_fix_steps.proofs.Like.{Aligned, Like, Quiet}
 
 -- ---- one by one
 
-module _ (move : ℕ → ℕ) (assumed : Bool) (tree new : Tree) (likes : (i : ℕ) → Like move tree new (stmt_at tree i) (stmt_at new i)) (count : length new.stmts ≡ length tree.stmts) where
+module _ (exact : Bool) (move : ℕ → ℕ) (gone : ℕ) (assumed : Bool) (tree new : Tree) (likes : (i : ℕ) → Like exact move gone tree new (stmt_at tree i) (stmt_at new i)) (count : length new.stmts ≡ length tree.stmts) where
   ends_same : (j : ℕ) → ends_at new j ≡ ends_at tree j
   ends_same j = (likes j).ends_is
 
@@ -32,7 +34,7 @@ module _ (move : ℕ → ℕ) (assumed : Bool) (tree new : Tree) (likes : (i : �
   sets_same : (name : List ℕ) (j : ℕ) → sets_at new name j ≡ sets_at tree name j
   sets_same name j = (likes j).sets_is name
 
-  pub one_by_one : Aligned move assumed tree new
+  pub one_by_one : Aligned exact move gone assumed tree new
   one_by_one = record {
     at = λ i. i;
     more = [];
@@ -42,6 +44,8 @@ module _ (move : ℕ → ℕ) (assumed : Bool) (tree new : Tree) (likes : (i : �
     slows = λ j. (let p = slow_same j in λ i. p i && not (any_below (λ k. slow_same k i) j));
     set_is = λ name j h. (λ i. any_below (λ k. sets_same name k i) j) ∙ h;
     pieces = λ F G none h. subst (λ (n : ℕ). Kept move (concat_below F n) (concat_below G (length tree.stmts))) (sym count) (pieces_kept move F G (length tree.stmts) h);
+    pieces_left = λ F G none h.
+        subst (λ (n : ℕ). Left exact move gone (concat_below F n) (concat_below G (length tree.stmts))) (sym count) (pieces_left exact move gone F G (length tree.stmts) h);
   }
 
 -- ---- with one more in front
@@ -54,7 +58,7 @@ pub record Idle (new : Tree) : Type 0 where
   pub slow_not : slow_at new 0 ≡ false
   pub quiet : Quiet new 0
 
-module _ (move : ℕ → ℕ) (assumed : Bool) (tree new : Tree) (idle : Idle new) (likes : (i : ℕ) → Like move tree new (stmt_at tree i) (stmt_at new (suc i))) (count : length new.stmts ≡ suc (length tree.stmts)) where
+module _ (exact : Bool) (move : ℕ → ℕ) (gone : ℕ) (assumed : Bool) (tree new : Tree) (idle : Idle new) (likes : (i : ℕ) → Like exact move gone tree new (stmt_at tree i) (stmt_at new (suc i))) (count : length new.stmts ≡ suc (length tree.stmts)) where
   later_ends : (j : ℕ) → ends_at new (suc j) ≡ ends_at tree j
   later_ends j = (likes j).ends_is
 
@@ -88,7 +92,7 @@ module _ (move : ℕ → ℕ) (assumed : Bool) (tree new : Tree) (idle : Idle ne
       by false true p q e rec = ap (λ (x : Bool). any_below (sets_at new name) (suc j) || x) ((likes j).sets_is name ∙ q) ∙ or_true (any_below (sets_at new name) (suc j))
       by false false p q e rec = cc
 
-  pub one_in_front : Aligned move assumed tree new
+  pub one_in_front : Aligned exact move gone assumed tree new
   one_in_front = record {
     at = suc;
     more = 0 ∷ [];
@@ -103,4 +107,7 @@ module _ (move : ℕ → ℕ) (assumed : Bool) (tree new : Tree) (idle : Idle ne
     pieces = λ F G none h.
         subst (λ (n : ℕ). Kept move (concat_below F n) (concat_below G (length tree.stmts))) (sym count)
         (shifted_kept move F G (length tree.stmts) (All-head (λ k. F k ≡ []) 0 [] none) h);
+    pieces_left = λ F G none h.
+        subst (λ (n : ℕ). Left exact move gone (concat_below F n) (concat_below G (length tree.stmts))) (sym count)
+        (shifted_left exact move gone F G (length tree.stmts) (All-head (λ k. F k ≡ []) 0 [] none) h);
   }

@@ -1,6 +1,6 @@
 -- The word CONCURRENTLY was put into a text: what is reported then by all listed rules.
 use Rattle.std.proofs.Common.{◌≡◌, ℕ, ◌+◌, ◌<◌, ◌≤◌, ◌⊎◌, inl, inr, Bool, true, false, cond, List, [], ◌∷◌, ◌++◌, map, length, length-append, sym, refl, ap, ◌∙◌, subst, arith, Option, None}
-use Rattle.std.proofs.lemmas.Bool.{cases_lt}
+use Rattle.std.proofs.lemmas.Bool.{cases_lt, false≢true}
 use Rattle.std.proofs.lemmas.Bool.Decides.{nat_tests}
 use Rattle.std.proofs.lemmas.List.{length-map, map-append}
 use Rattle.std.proofs.lemmas.List.Elements.{All-nil, All-cons, All-tail, All-weaker}
@@ -42,6 +42,7 @@ use Rattle.pass_concurrent.specs.RequireConcurrentIndexDeletion as drops
 use Rattle.pass_concurrent.specs.RequireConcurrentPartitionDetach as detaches
 use Rattle.pass_concurrent.specs.RequireConcurrentReindex as reindexes
 use Rattle.pass_session.specs.RequireTimeoutSettings.{is_parameter, parameter_by}
+use Rattle.law_fixes.specs.Mended.{builds_of}
 use Rattle.law_fixes.specs.Moved.{start_moved}
 use Rattle.law_fixes.specs.Stays.{place_of, inserted}
 use Rattle.law_fixes.proofs.Detached.{all_after, all_before, stmt_actions_fixed}
@@ -54,10 +55,14 @@ use Rattle.law_type_fixes.specs.Rules.{TypeRule, reports_on}
 use Rattle.law_type_fixes.proofs.ColumnTypes.{types_moved}
 use Rattle.law_type_fixes.proofs.Homes.{flat_append}
 use Rattle.law_fix_steps.specs.Kept.{Kept}
+use Rattle.law_fix_steps.specs.Left.{Left}
 use Rattle.law_fix_steps.proofs.Alignments.{one_by_one}
+use Rattle.law_fix_steps.proofs.Begins.{builds_begin, drops_begin, rebuilds_begin}
 use Rattle.law_fix_steps.proofs.Kept.{NodeKept, kept_after, kept_append, those_kept}
+use Rattle.law_fix_steps.proofs.Left.{BeginsAt, none_left}
 use Rattle.law_fix_steps.proofs.Like.{Aligned, Like, type_rules}
-use Rattle.law_fix_steps.proofs.Moved.{Follows, Moves, TypeFollows, detach_node, fixed_types, moved_like, slow_same, types_kept}
+use Rattle.law_fix_steps.proofs.Moved.{Follows, Moves, TypeFollows, detach_node, fixed_types, moved_like, slow_same, types_left}
+use Rattle.law_fix_steps.proofs.Near.{Shifts, same_shifts, tok_shifts}
 use Rattle.law_fix_steps.proofs.TypeNames.{all_see}
 
 room_low : (n x : ℕ) → x < n + 1 → room_after n x ≡ x
@@ -114,19 +119,36 @@ module _ (tree : Tree) (before : List Stmt) (s : Stmt) (after : List Stmt) (n : 
                 (sym (exchanged_after tree.text (made_text concurrently_made) (place_of tree n) (place_of tree n) low_end)) t.start (omega (arith, some)));
           }
 
+  low_shifts : (x : ℕ) → x < n + 1 → Shifts f 0 0 tree new x
+  low_shifts x h = same_shifts f tree new x (low_token tree.text tree.toks n adds.is.lexed within x h).token
+
+  high_shifts : (x : ℕ) → n + 1 ≤ x → x < length tree.toks → Shifts f (place_of tree n) (place_of tree n + length (made_text concurrently_made)) tree new x
+  high_shifts x p h =
+      let t = high_token tree.text tree.toks n adds.is.lexed within x p h in
+      let end = t.end in
+      tok_shifts f tree new (place_of tree n) (place_of tree n + length (made_text concurrently_made)) x t.token t.start (omega (arith, end))
+
   aside_moves : (lo hi : ℕ) → Aside tree before s after n now adds lo hi → Moves move f lo hi tree new
-  aside_moves lo hi side = record {
-    tokens = λ x p q. follows x (top side q);
-    paths = λ span e. path_aside tree before s after n now adds lo hi span side e;
+  aside_moves lo hi (inl a) = record {
+    tokens = λ x p q. follows x (let w = within in omega (arith, a, q, w));
+    down = 0;
+    up = 0;
+    shifts = λ x p q. low_shifts x (omega (arith, a, q));
+    paths = λ span e. path_aside tree before s after n now adds lo hi span (inl a) e;
     apart = λ x y p q p' q'. room_apart n x y;
   }
-    where
-      top : {x : ℕ} → Aside tree before s after n now adds lo hi → x < hi → x < length tree.toks
-      top (inl a) h = let w = within in omega (arith, a, h, w)
-      top (inr a) h = let b = a.1 in omega (arith, b, h)
+  aside_moves lo hi (inr a) = record {
+    tokens = λ x p q. follows x (let b = a.1 in omega (arith, b, q));
+    down = place_of tree n;
+    up = place_of tree n + length (made_text concurrently_made);
+    shifts = λ x p q. high_shifts x (let b = a.0 in omega (arith, b, p)) (let b = a.1 in omega (arith, b, q));
+    paths = λ span e. path_aside tree before s after n now adds lo hi span (inr a) e;
+    apart = λ x y p q p' q'. room_apart n x y;
+  }
 
-  other_like : (x y : Stmt) → Other tree before s after n now adds x y → Like move tree new x y
-  other_like x y o = subst (λ (z : Stmt). Like move tree new x z) (sym o.moved) (moved_like move f o.lo o.hi tree new (aside_moves o.lo o.hi o.side) x o.fixed)
+  other_like : (exact : Bool) (gone : ℕ) (x y : Stmt) → Other tree before s after n now adds x y → Like exact move gone tree new x y
+  other_like exact gone x y o =
+      subst (λ (z : Stmt). Like exact move gone tree new x z) (sym o.moved) (moved_like exact move f gone o.lo o.hi tree new (aside_moves o.lo o.hi o.side) x o.fixed)
 
   count : length new.stmts ≡ length tree.stmts
   count =
@@ -140,17 +162,17 @@ module _ (tree : Tree) (before : List Stmt) (s : Stmt) (after : List Stmt) (n : 
       )
 
   -- Where the statement is seen alike, all are.
-  pub concurrent_aligned : (assumed : Bool) → Like move tree new s now → Aligned move assumed tree new
-  concurrent_aligned assumed this = one_by_one move assumed tree new likes count
+  pub concurrent_aligned : (exact : Bool) (gone : ℕ) (assumed : Bool) → Like exact move gone tree new s now → Aligned exact move gone assumed tree new
+  concurrent_aligned exact gone assumed this = one_by_one exact move gone assumed tree new likes count
     where
-      likes : (j : ℕ) → Like move tree new (stmt_at tree j) (stmt_at new j)
+      likes : (j : ℕ) → Like exact move gone tree new (stmt_at tree j) (stmt_at new j)
       likes j = by (j == length before) refl
         where
-          by : (b : Bool) → (j == length before) ≡ b → Like move tree new (stmt_at tree j) (stmt_at new j)
+          by : (b : Bool) → (j == length before) ≡ b → Like exact move gone tree new (stmt_at tree j) (stmt_at new j)
           by true h =
               let p = sym (this_old tree before s after n now adds j h) in let q = sym (this_new tree before s after n now adds j h) in
-              subst (λ (y : Stmt). Like move tree new (stmt_at tree j) y) q (subst (λ (x : Stmt). Like move tree new x now) p this)
-          by false h = other_like (stmt_at tree j) (stmt_at new j) (others tree before s after n now adds j h)
+              subst (λ (y : Stmt). Like exact move gone tree new (stmt_at tree j) y) q (subst (λ (x : Stmt). Like exact move gone tree new x now) p this)
+          by false h = other_like exact gone (stmt_at tree j) (stmt_at new j) (others tree before s after n now adds j h)
 
   -- ---- what is the same of two statements of that place
 
@@ -165,8 +187,11 @@ module _ (tree : Tree) (before : List Stmt) (s : Stmt) (after : List Stmt) (n : 
     pub drops_none : drops_plainly now.body ≡ false
     pub rebuilds_none : rebuilds_plainly now.body ≡ false
 
-  nil_kept : (ws vs : List Violation) → ws ≡ [] → Kept move ws vs
-  nil_kept ws vs e = subst (λ (l : List Violation). Kept move l vs) (sym e) tt
+  -- what is reported on the old one begins at one place
+  pub record OldBegins (gone : ℕ) : Type 0 where
+    pub builds_at : (settings : LinterSettings) (i : ℕ) → All (BeginsAt gone) (builds_of settings tree i s)
+    pub drops_at : All (BeginsAt gone) (drops.reports_of_require_concurrent_index_deletion tree s)
+    pub rebuilds_at : All (BeginsAt gone) (reindexes.reports_of_require_concurrent_reindex tree s)
 
   and_false : (b : Bool) → (b && false) ≡ false
   and_false true = refl
@@ -175,9 +200,10 @@ module _ (tree : Tree) (before : List Stmt) (s : Stmt) (after : List Stmt) (n : 
   first_in : s.first < length tree.toks
   first_in = let i = inside tree before s after n now adds in let a = i.first in let b = i.within in omega (arith, a, b)
 
-  pub this_like : now.first ≡ f s.first → Plain s.body → Plain now.body → NoneNew → Kept move (detaches.reports_of_require_concurrent_partition_detach new now) (detaches.reports_of_require_concurrent_partition_detach tree s) →
-      All (λ r. Kept move (reports_on r new (column_types now)) (reports_on r tree (column_types s))) type_rules → Like move tree new s now
-  this_like first old fresh none acts types = record {
+  pub this_like : (exact : Bool) (gone : ℕ) → now.first ≡ f s.first → Plain s.body → Plain now.body → NoneNew → OldBegins gone →
+      Kept move (detaches.reports_of_require_concurrent_partition_detach new now) (detaches.reports_of_require_concurrent_partition_detach tree s) →
+      All (λ r. Left exact move gone (reports_on r new (column_types now)) (reports_on r tree (column_types s))) type_rules → Like exact move gone tree new s now
+  this_like exact gone first old fresh none begin acts types = record {
     begins_is = ap (λ (k : StmtKind). begins (record now { kind = k })) adds.kind;
     ends_is = (let a = adds.new in let b = adds.old in a.ends_is ∙ sym b.ends_is);
     chains_is = (let a = adds.new in let b = adds.old in a.chains_is ∙ sym b.chains_is);
@@ -188,11 +214,11 @@ module _ (tree : Tree) (before : List Stmt) (s : Stmt) (after : List Stmt) (n : 
     slow_is = ap (λ (k : StmtKind). is_slow (record now { kind = k })) adds.kind ∙ slow_same s.kind now.body s.body (fresh.reference ∙ sym old.reference);
     sets_is = λ name. ap (λ (o : Option Span). is_parameter new name o) fresh.parameter ∙ sym (ap (λ (o : Option Span). is_parameter tree name o) old.parameter);
     place = λ slow. ap (λ (x : ℕ). (token_at new.toks x).start) first ∙ (follows s.first first_in).start;
-    builds_are = λ settings i j news. nil_kept _ _ (none.builds_none settings j);
+    builds_are = λ settings i j news. none_left exact move gone _ _ (none.builds_none settings j) (begin.builds_at settings i);
     drops_are = λ settings i j.
-        nil_kept _ _ ((λ i. cond (same_kind now.kind stmt.DropIndex && none.drops_none i) (drops.report new now ∷ []) [] ++ [])
-        ∙ (λ i. cond (and_false (same_kind now.kind stmt.DropIndex) i) (drops.report new now ∷ []) [] ++ []));
-    rebuilds_are = λ settings i j. nil_kept _ _ (λ i. cond (none.rebuilds_none i) (reindexes.report new now ∷ []) [] ++ []);
+        none_left exact move gone _ _ ((λ i. cond (same_kind now.kind stmt.DropIndex && none.drops_none i) (drops.report new now ∷ []) [] ++ [])
+        ∙ (λ i. cond (and_false (same_kind now.kind stmt.DropIndex) i) (drops.report new now ∷ []) [] ++ [])) begin.drops_at;
+    rebuilds_are = λ settings i j. none_left exact move gone _ _ (λ i. cond (none.rebuilds_none i) (reindexes.report new now ∷ []) [] ++ []) begin.rebuilds_at;
     detaches_are = acts;
     types_are = types;
   }
@@ -230,11 +256,13 @@ module _ (tree : Tree) (before : List Stmt) (s : Stmt) (after : List Stmt) (n : 
     pub none : NoneNew tree before s after n this adds
     pub elements_none : elements_in this.body ≡ []
     pub actions_none : actions_in this.body ≡ []
+    pub old_elements : elements_in s.body ≡ []
+    pub old_actions : actions_in s.body ≡ []
 
   known : (old now : Body) → s.body ≡ old → this.body ≡ now → parameter_by old ≡ None → has_reference old ≡ false → parameter_by now ≡ None → has_reference now ≡ false →
       ((settings : LinterSettings) (j : ℕ) → build.reports_by settings fresh j this now ≡ []) → drops_plainly now ≡ false → rebuilds_plainly now ≡ false →
-      elements_in now ≡ [] → actions_in now ≡ [] → Bodies
-  known old now p q a b c d e g h k l = record {
+      elements_in now ≡ [] → actions_in now ≡ [] → elements_in old ≡ [] → actions_in old ≡ [] → Bodies
+  known old now p q a b c d e g h k l k' l' = record {
     old = record { parameter = ap parameter_by p ∙ a; reference = ap has_reference p ∙ b };
     now = record { parameter = ap parameter_by q ∙ c; reference = ap has_reference q ∙ d };
     none = record {
@@ -244,6 +272,8 @@ module _ (tree : Tree) (before : List Stmt) (s : Stmt) (after : List Stmt) (n : 
     };
     elements_none = ap elements_in q ∙ k;
     actions_none = ap actions_in q ∙ l;
+    old_elements = ap elements_in p ∙ k';
+    old_actions = ap actions_in p ∙ l';
   }
 
   bodies : Bodies
@@ -251,26 +281,40 @@ module _ (tree : Tree) (before : List Stmt) (s : Stmt) (after : List Stmt) (n : 
     where
       by : TakesConcurrently n s → Bodies
       by (index u g name path has) =
-          known (body.Index n u None g name path) _ has (ap (λ (b : Body). concurrent_body (n + 2) (body_moved (room_after n) b)) has) refl refl refl refl (λ settings j. refl) refl refl refl refl
+          known (body.Index n u None g name path) _ has (ap (λ (b : Body). concurrent_body (n + 2) (body_moved (room_after n) b)) has) refl refl refl refl (λ settings j. refl) refl refl refl refl refl refl
       by (dropped g paths kind has) =
-          known (body.Drop n false g paths) _ has (ap (λ (b : Body). concurrent_body (n + 2) (body_moved (room_after n) b)) has) refl refl refl refl (λ settings j. refl) refl refl refl refl
+          known (body.Drop n false g paths) _ has (ap (λ (b : Body). concurrent_body (n + 2) (body_moved (room_after n) b)) has) refl refl refl refl (λ settings j. refl) refl refl refl refl refl refl
       by (rebuilt found valued path has) =
-          known (body.Reindex found n false valued path) _ has (ap (λ (b : Body). concurrent_body (n + 2) (body_moved (room_after n) b)) has) refl refl refl refl (λ settings j. refl) refl refl refl refl
+          known (body.Reindex found n false valued path) _ has (ap (λ (b : Body). concurrent_body (n + 2) (body_moved (room_after n) b)) has) refl refl refl refl (λ settings j. refl) refl refl refl refl refl refl
 
-  pub word_aligned : (assumed : Bool) → Aligned (start_moved (place_of tree n) inserted) assumed tree (concurrently_tree tree n before (concurrent_stmt n s) after)
-  word_aligned assumed =
+  abbrev at : ℕ
+  at = (token_at tree.toks s.first).start
+
+  abbrev by_this : ℕ → ℕ
+  by_this = start_moved (place_of tree n) inserted
+
+  pub word_aligned : (exact assumed : Bool) → Aligned exact by_this at assumed tree (concurrently_tree tree n before (concurrent_stmt n s) after)
+  word_aligned exact assumed =
       let b = bodies in
-      concurrent_aligned tree before s after n this adds assumed
-      (this_like tree before s after n this adds refl b.old b.now b.none
-      (subst (λ (l : List Violation). Kept (start_moved (place_of tree n) inserted) l (detaches.reports_of_require_concurrent_partition_detach tree s)) (sym (no_detaches fresh this b.actions_none)) tt)
-      (subst (λ (l : List ColType). All (λ r. Kept (start_moved (place_of tree n) inserted) (reports_on r fresh l) (reports_on r tree (column_types s))) type_rules) (sym (no_types this b.elements_none b.actions_none))
-      (all_nil type_rules)))
+      concurrent_aligned tree before s after n this adds exact at assumed
+      (this_like tree before s after n this adds exact at refl b.old b.now b.none
+      (record { builds_at = λ settings i. builds_begin settings tree i s; drops_at = drops_begin tree s; rebuilds_at = rebuilds_begin tree s })
+      (subst (λ (l : List Violation). Kept by_this l (detaches.reports_of_require_concurrent_partition_detach tree s)) (sym (no_detaches fresh this b.actions_none)) tt)
+      (subst (λ (l : List ColType). All (λ r. Left exact by_this at (reports_on r fresh l) (reports_on r tree (column_types s))) type_rules) (sym (no_types this b.elements_none b.actions_none))
+      (subst (λ (l : List ColType). All (λ r. Left exact by_this at (reports_on r fresh []) (reports_on r tree l)) type_rules) (sym (no_types s b.old_elements b.old_actions)) (all_nil type_rules))))
     where
-      all_nil : (rs : List TypeRule) → All (λ r. Kept (start_moved (place_of tree n) inserted) (reports_on r fresh []) (reports_on r tree (column_types s))) rs
-      all_nil [] = All-nil (λ r. Kept (start_moved (place_of tree n) inserted) (reports_on r fresh []) (reports_on r tree (column_types s)))
-      all_nil (r ∷ rs) = All-cons (λ r. Kept (start_moved (place_of tree n) inserted) (reports_on r fresh []) (reports_on r tree (column_types s))) r rs tt (all_nil rs)
+      all_nil : (rs : List TypeRule) → All (λ r. Left exact by_this at (reports_on r fresh []) (reports_on r tree [])) rs
+      all_nil [] = All-nil (λ r. Left exact by_this at (reports_on r fresh []) (reports_on r tree []))
+      all_nil (r ∷ rs) = All-cons (λ r. Left exact by_this at (reports_on r fresh []) (reports_on r tree [])) r rs tt (all_nil rs)
 
 -- ---- DETACH PARTITION
+
+false_and : (b : Bool) → (b && false) ≡ false
+false_and true = refl
+false_and false = refl
+
+nil_begins : (place : ℕ) (vs : List Violation) → vs ≡ [] → All (BeginsAt place) vs
+nil_begins place vs e = subst (λ (l : List Violation). All (BeginsAt place) l) (sym e) (All-nil (BeginsAt place))
 
 module _ (tree : Tree) (before : List Stmt) (s : Stmt) (after : List Stmt) (n : ℕ) (path : Option Span) (earlier : List Action) (b : Action) (later : List Action)
     (is : IsTree tree) (parts : tree.stmts ≡ before ++ s ∷ after) (takes : DetachTakesConcurrently n s path earlier b later) where
@@ -369,14 +413,31 @@ module _ (tree : Tree) (before : List Stmt) (s : Stmt) (after : List Stmt) (n : 
           (let e = where_acts (same_kind s.kind stmt.AlterTable) in λ i. element_types (cond (same_kind s.kind stmt.CreateTable) [] []) ++ e i)
           ∙ (λ i. element_types (cond (same_kind s.kind stmt.CreateTable) (elements_in (body_moved g (sym takes.has i))) []) ++ flat_map action_types (cond (same_kind s.kind stmt.AlterTable) (actions_in (body_moved g (sym takes.has i))) []))
 
-  pub detach_aligned : (assumed : Bool) → Aligned by_word assumed tree (concurrently_tree tree n before (detached_stmt n s path earlier b later) after)
-  detach_aligned assumed =
-      concurrent_aligned tree before s after n that_now that_adds assumed
-      (this_like tree before s after n that_now that_adds refl
+  drops_none : drops.reports_of_require_concurrent_index_deletion tree s ≡ []
+  drops_none =
+      (let e = ap drops_plainly takes.has in λ i. cond (same_kind s.kind stmt.DropIndex && e i) (drops.report tree s ∷ []) [] ++ [])
+      ∙ (λ i. cond (false_and (same_kind s.kind stmt.DropIndex) i) (drops.report tree s ∷ []) [] ++ [])
+
+  rebuilds_none : reindexes.reports_of_require_concurrent_reindex tree s ≡ []
+  rebuilds_none = let e = ap rebuilds_plainly takes.has in λ i. cond (e i) (reindexes.report tree s ∷ []) [] ++ []
+
+  pub detach_aligned : (gone : ℕ) (assumed : Bool) → Aligned false by_word gone assumed tree (concurrently_tree tree n before (detached_stmt n s path earlier b later) after)
+  detach_aligned gone assumed =
+      concurrent_aligned tree before s after n that_now that_adds false gone assumed
+      (this_like tree before s after n that_now that_adds false gone refl
       (record { parameter = ap parameter_by takes.has; reference = ap has_reference takes.has }) (record { parameter = refl; reference = refl })
-      (record { builds_none = λ settings j. refl; drops_none = refl; rebuilds_none = refl }) acts_kept
-      (subst (λ (l : List ColType). All (λ r. Kept by_word (reports_on r next l) (reports_on r tree (column_types s))) type_rules) (sym types_are)
-      (types_kept by_word g tree next (column_types s)
-      (fixed_types (TypeFollows by_word g tree next) (outside s.first (s.last + 1))
-      (λ ty e. record { name = in_text ty.name (ap (λ (t : ColType). t.name) e); first = in_text ty.whole.first (ap (λ (t : ColType). t.whole.first) e) })
+      (record { builds_none = λ settings j. refl; drops_none = refl; rebuilds_none = refl })
+      (record {
+        builds_at = λ settings i. nil_begins gone _ (ap (build.reports_by settings tree i s) takes.has);
+        drops_at = nil_begins gone _ drops_none;
+        rebuilds_at = nil_begins gone _ rebuilds_none;
+      }) acts_kept
+      (subst (λ (l : List ColType). All (λ r. Left false by_word gone (reports_on r next l) (reports_on r tree (column_types s))) type_rules) (sym types_are)
+      (types_left false by_word g gone tree next (column_types s)
+      (fixed_types (TypeFollows false by_word g gone tree next) (outside s.first (s.last + 1))
+      (λ ty e. record {
+        name = in_text ty.name (ap (λ (t : ColType). t.name) e);
+        first = in_text ty.whole.first (ap (λ (t : ColType). t.whole.first) e);
+        close = λ on. absurd (false≢true on);
+      })
       (column_types s) (sym (types_moved (outside s.first (s.last + 1)) s) ∙ ap column_types fixed)) type_rules all_see)))

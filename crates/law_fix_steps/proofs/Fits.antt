@@ -6,12 +6,18 @@ use Rattle.lint_base.specs.declared.settings.LinterSettings.{LinterSettings}
 use Rattle.lint_base.specs.RuleSets.{Rules}
 use Rattle.law_fixes.specs.Mended.{Table}
 use Rattle.law_type_fixes.specs.Mended.{AreApart}
+use Rattle.law_fix_steps.specs.Leaves.{FixLeaves}
 use Rattle.law_fix_steps.specs.Step.{FixSteps}
 
 -- The fix of each report of a table is a step, if its edits fit.
 abbrev pub StepsIf : (Tree → List Edit → Type 0) → Table → Type 0
 StepsIf Fits table =
     (tree : Tree) (rules : Rules) (settings : LinterSettings) → IsTree tree → All (FixSteps tree rules settings (Fits tree)) (table tree rules settings)
+
+-- The same, and all other reports are left.
+abbrev pub LeavesIf : (Tree → List Edit → Type 0) → Table → Type 0
+LeavesIf Fits table =
+    (tree : Tree) (rules : Rules) (settings : LinterSettings) → IsTree tree → All (FixLeaves table tree rules settings (Fits tree)) (table tree rules settings)
 
 -- An insertion asks for nothing.
 abbrev pub Anywhere : Tree → List Edit → Type 0

@@ -38,10 +38,13 @@ use Rattle.law_fixes.proofs.Words.{start_high}
 use Rattle.law_type_fixes.specs.Rules.{TypeRule, reports_on}
 use Rattle.law_type_fixes.proofs.ColumnTypes.{no_types}
 use Rattle.law_fix_steps.specs.Kept.{Kept}
+use Rattle.law_fix_steps.specs.Left.{Left}
 use Rattle.law_fix_steps.proofs.Alignments.{Idle, one_in_front}
+use Rattle.law_fix_steps.proofs.Left.{nil_left}
 use Rattle.law_fix_steps.proofs.Like.{Aligned, Like, type_rules}
 use Rattle.law_fix_steps.proofs.Concurrently as concurrently
 use Rattle.law_fix_steps.proofs.Moved.{Follows, Moves, moved_like}
+use Rattle.law_fix_steps.proofs.Near.{Shifts, tok_shifts}
 use Rattle.law_fix_steps.proofs.Paths.{path_follows}
 
 room_is : (n x : ℕ) → n ≤ x → room_before n x ≡ x + 9
@@ -59,16 +62,16 @@ and_false false = refl
 no_drops : (t : Tree) → drops.reports_of_require_concurrent_index_deletion t no_stmt ≡ []
 no_drops t = λ i. cond (and_false (same_kind no_stmt.kind stmt.DropIndex) i) (drops.report t no_stmt ∷ []) [] ++ []
 
-no_types_kept : (move : ℕ → ℕ) (tree new : Tree) (tys : List ColType) (rs : List TypeRule) → All (λ r. Kept move (reports_on r new []) (reports_on r tree tys)) rs
-no_types_kept move tree new tys [] = All-nil (λ r. Kept move (reports_on r new []) (reports_on r tree tys))
-no_types_kept move tree new tys (r ∷ rs) = All-cons (λ r. Kept move (reports_on r new []) (reports_on r tree tys)) r rs tt (no_types_kept move tree new tys rs)
+no_types_left : (exact : Bool) (move : ℕ → ℕ) (gone : ℕ) (tree new : Tree) (rs : List TypeRule) → All (λ r. Left exact move gone (reports_on r new []) (reports_on r tree [])) rs
+no_types_left exact move gone tree new [] = All-nil (λ r. Left exact move gone (reports_on r new []) (reports_on r tree []))
+no_types_left exact move gone tree new (r ∷ rs) = All-cons (λ r. Left exact move gone (reports_on r new []) (reports_on r tree [])) r rs tt (no_types_left exact move gone tree new rs)
 
 nil_kept : (move : ℕ → ℕ) (ws vs : List Violation) → ws ≡ [] → Kept move ws vs
 nil_kept move ws vs e = subst (λ (l : List Violation). Kept move l vs) (sym e) tt
 
 -- a statement that is only kept
-pub none_like : (move : ℕ → ℕ) (tree new : Tree) → Like move tree new no_stmt no_stmt
-none_like move tree new = record {
+pub none_like : (exact : Bool) (move : ℕ → ℕ) (gone : ℕ) (tree new : Tree) → Like exact move gone tree new no_stmt no_stmt
+none_like exact move gone tree new = record {
   begins_is = refl;
   ends_is = refl;
   chains_is = refl;
@@ -77,15 +80,15 @@ none_like move tree new = record {
   sets_is = λ name. refl;
   place = λ slow. cc;
   builds_are = λ settings i j news. tt;
-  drops_are = λ settings i j. nil_kept move _ _ (no_drops new);
+  drops_are = λ settings i j. nil_left exact move gone _ _ (no_drops new) (no_drops tree);
   rebuilds_are = λ settings i j. tt;
   detaches_are = nil_kept move _ _ (concurrently.no_detaches new no_stmt refl);
-  types_are = subst (λ (l : List ColType). All (λ r. Kept move (reports_on r new l) (reports_on r tree (column_types no_stmt))) type_rules) (sym no_types) (no_types_kept move tree new (column_types no_stmt) type_rules);
+  types_are = subst (λ (l : List ColType). All (λ r. Left exact move gone (reports_on r new l) (reports_on r tree l)) type_rules) (sym no_types) (no_types_left exact move gone tree new type_rules);
 }
 
 -- ---- the Set
 
-module _ (tree : Tree) (is : IsTree tree) (name : Text) (digit : ℕ) (ending : Text) (f : FirstOf tree.toks) where
+module _ (exact : Bool) (gone : ℕ) (tree : Tree) (is : IsTree tree) (name : Text) (digit : ℕ) (ending : Text) (f : FirstOf tree.toks) where
   abbrev pub new : Tree
   new = set_tree tree name digit ending f.front f.k f.after
 
@@ -149,6 +152,16 @@ module _ (tree : Tree) (is : IsTree tree) (name : Text) (digit : ℕ) (ending : 
             ∙ sym (text_after tree.text new.text at (at + size) (token_at tree.toks x) (sym (exchanged_after tree.text (made_text (set_made name digit ending)) at at low)) start (omega (arith, some)));
       }
 
+  shifts : (x : ℕ) → n ≤ x → x < length tree.toks → Shifts g at (at + size) tree new x
+  shifts x h lt =
+      let token = new_token x h lt in
+      let old = old_token x h in
+      let total = count in
+      let p = placed tree.text at (length tree.text) (f.k ∷ f.after) (x - n) lead.1 (omega (arith, h, lt, total)) in
+      let start : at ≤ (token_at tree.toks x).start = subst (λ (k : Tok). at ≤ k.start) (sym old) p.low in
+      let some : (token_at tree.toks x).start < (token_at tree.toks x).end = subst (λ (k : Tok). k.start < k.end) (sym old) p.some in
+      tok_shifts g tree new at (at + size) x token start (omega (arith, start, some))
+
   new_count : length new.toks ≡ length tree.toks + 9
   new_count =
       let total = count in
@@ -160,6 +173,9 @@ module _ (tree : Tree) (is : IsTree tree) (name : Text) (digit : ℕ) (ending : 
   moves : (lo hi : ℕ) → n ≤ lo → hi ≤ length tree.toks → Moves move g lo hi tree new
   moves lo hi p q = record {
     tokens = λ x a b. follows x (omega (arith, p, a)) (omega (arith, q, b));
+    down = at;
+    up = at + size;
+    shifts = λ x a b. shifts x (omega (arith, p, a)) (omega (arith, q, b));
     paths = λ span e.
         (let u = stays_within lo hi span.first (ap (λ (s : Span). s.first) e) in
         let v = stays_within lo hi span.last (ap (λ (s : Span). s.last) e) in
@@ -198,14 +214,14 @@ module _ (tree : Tree) (is : IsTree tree) (name : Text) (digit : ℕ) (ending : 
 
   -- ---- all statements
 
-  one_like : (before : List Stmt) (x : Stmt) (after : List Stmt) → tree.stmts ≡ before ++ x ∷ after → Like move tree new x (stmt_moved g x)
+  one_like : (before : List Stmt) (x : Stmt) (after : List Stmt) → tree.stmts ≡ before ++ x ∷ after → Like exact move gone tree new x (stmt_moved g x)
   one_like before x after parts =
       let a = statements_apart tree before x after is parts in
       let within = a.within in
-      moved_like move g x.first (x.last + 1) tree new (moves x.first (x.last + 1) (begins_late before x after parts) (omega (arith, within))) x a.here_is
+      moved_like exact move g gone x.first (x.last + 1) tree new (moves x.first (x.last + 1) (begins_late before x after parts) (omega (arith, within))) x a.here_is
 
-  each_like : (pre xs : List Stmt) → tree.stmts ≡ pre ++ xs → (i : ℕ) → Like move tree new (get_or xs i no_stmt) (get_or (map (stmt_moved g) xs) i no_stmt)
-  each_like pre [] e i = none_like move tree new
+  each_like : (pre xs : List Stmt) → tree.stmts ≡ pre ++ xs → (i : ℕ) → Like exact move gone tree new (get_or xs i no_stmt) (get_or (map (stmt_moved g) xs) i no_stmt)
+  each_like pre [] e i = none_like exact move gone tree new
   each_like pre (x ∷ xs) e zero = one_like pre x xs e
   each_like pre (x ∷ xs) e (suc i) = each_like (pre ++ x ∷ []) xs (e ∙ sym (append_assoc pre (x ∷ []) xs)) i
 
@@ -225,5 +241,5 @@ module _ (tree : Tree) (is : IsTree tree) (name : Text) (digit : ℕ) (ending : 
     };
   }
 
-  pub set_aligned : (assumed : Bool) → Aligned move assumed tree new
-  set_aligned assumed = one_in_front move assumed tree new idle (each_like [] tree.stmts refl) (ap suc (length-map tree.stmts (stmt_moved g)))
+  pub set_aligned : (assumed : Bool) → Aligned exact move gone assumed tree new
+  set_aligned assumed = one_in_front exact move gone assumed tree new idle (each_like [] tree.stmts refl) (ap suc (length-map tree.stmts (stmt_moved g)))

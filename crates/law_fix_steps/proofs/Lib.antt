@@ -1,5 +1,8 @@
 pub mod Fits
+pub mod Begins
 pub mod Kept
+pub mod Left
+pub mod Near
 pub mod Earlier
 pub mod Like
 pub mod TypeNames

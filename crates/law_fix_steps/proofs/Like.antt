@@ -21,15 +21,18 @@ use Rattle.pass_session.specs.RequireTimeoutSettings.{both_reports, is_first_slo
 use Rattle.law_fixes.specs.Mended.{Reports, Table, table_by, builds_of, deletions_of, rebuilds_of, detachments_of, builds, dropped, rebuilt, detached}
 use Rattle.law_type_fixes.specs.Rules.{TypeRule, reports_on, type_reports, type_table, ints, smallints, timestamps, varchars}
 use Rattle.law_fix_steps.specs.Kept.{SameAt, Kept}
+use Rattle.law_fix_steps.specs.Leaves.{followed_tables}
+use Rattle.law_fix_steps.specs.Left.{Left}
 use Rattle.law_fix_steps.specs.Step.{listed_tables, timeouts}
 use Rattle.law_fix_steps.proofs.Kept.{kept_append, kept_one, kept_where}
+use Rattle.law_fix_steps.proofs.Left.{left_kept, left_where}
 
 abbrev pub type_rules : List TypeRule
 type_rules = varchars ∷ timestamps ∷ ints ∷ smallints ∷ []
 
 -- The statement y of the new tree, and the statement x of the old one: transactions and timeouts see them alike, and no report on y
 -- is new. (What is new is asked of a path at the numbers i and j of the two statements.)
-pub record Like (move : ℕ → ℕ) (tree new : Tree) (x y : Stmt) : Type 0 where
+pub record Like (exact : Bool) (move : ℕ → ℕ) (gone : ℕ) (tree new : Tree) (x y : Stmt) : Type 0 where
   pub begins_is : begins y ≡ begins x
   pub ends_is : ends y ≡ ends x
   pub chains_is : chains y ≡ chains x
@@ -39,11 +42,11 @@ pub record Like (move : ℕ → ℕ) (tree new : Tree) (x y : Stmt) : Type 0 whe
   pub place : is_slow x ≡ true → (token_at new.toks y.first).start ≡ move (token_at tree.toks x.first).start
   pub builds_are : (settings : LinterSettings) (i j : ℕ) →
       ((path : List (List ℕ)) → is_new settings.assume_in_transaction new path j ≡ is_new settings.assume_in_transaction tree path i) →
-      Kept move (builds_of settings new j y) (builds_of settings tree i x)
-  pub drops_are : (settings : LinterSettings) (i j : ℕ) → Kept move (deletions_of settings new j y) (deletions_of settings tree i x)
-  pub rebuilds_are : (settings : LinterSettings) (i j : ℕ) → Kept move (rebuilds_of settings new j y) (rebuilds_of settings tree i x)
+      Left exact move gone (builds_of settings new j y) (builds_of settings tree i x)
+  pub drops_are : (settings : LinterSettings) (i j : ℕ) → Left exact move gone (deletions_of settings new j y) (deletions_of settings tree i x)
+  pub rebuilds_are : (settings : LinterSettings) (i j : ℕ) → Left exact move gone (rebuilds_of settings new j y) (rebuilds_of settings tree i x)
   pub detaches_are : Kept move (reports_of_require_concurrent_partition_detach new y) (reports_of_require_concurrent_partition_detach tree x)
-  pub types_are : All (λ r. Kept move (reports_on r new (column_types y)) (reports_on r tree (column_types x))) type_rules
+  pub types_are : All (λ r. Left exact move gone (reports_on r new (column_types y)) (reports_on r tree (column_types x))) type_rules
 
 -- Nothing is reported of this statement, which is not the first slow one.
 pub record Quiet (new : Tree) (k : ℕ) : Type 0 where
@@ -55,18 +58,20 @@ pub record Quiet (new : Tree) (k : ℕ) : Type 0 where
   pub not_slow : is_first_slow new k ≡ false
 
 -- Statement i of the old tree is statement `at i` of the new one, and those of `more` are in no place of an old one.
-pub record Aligned (move : ℕ → ℕ) (assumed : Bool) (tree new : Tree) : Type 0 where
+pub record Aligned (exact : Bool) (move : ℕ → ℕ) (gone : ℕ) (assumed : Bool) (tree new : Tree) : Type 0 where
   pub at : ℕ → ℕ
   pub more : List ℕ
   pub quiet : All (Quiet new) more
-  pub like : (i : ℕ) → Like move tree new (stmt_at tree i) (stmt_at new (at i))
+  pub like : (i : ℕ) → Like exact move gone tree new (stmt_at tree i) (stmt_at new (at i))
   pub news : (path : List (List ℕ)) (i : ℕ) → is_new assumed new path (at i) ≡ is_new assumed tree path i
   pub slows : (i : ℕ) → is_first_slow new (at i) ≡ is_first_slow tree i
   pub set_is : (name : List ℕ) (i : ℕ) → is_set tree name i ≡ true → is_set new name (at i) ≡ true
   pub pieces : (F G : ℕ → List Violation) → All (λ k. F k ≡ []) more → ((i : ℕ) → Kept move (F (at i)) (G i)) →
       Kept move (concat_below F (length new.stmts)) (concat_below G (length tree.stmts))
+  pub pieces_left : (F G : ℕ → List Violation) → All (λ k. F k ≡ []) more → ((i : ℕ) → Left exact move gone (F (at i)) (G i)) →
+      Left exact move gone (concat_below F (length new.stmts)) (concat_below G (length tree.stmts))
 
-module _ (move : ℕ → ℕ) (tree new : Tree) (rules : Rules) (settings : LinterSettings) (a : Aligned move settings.assume_in_transaction tree new) where
+module _ (exact : Bool) (move : ℕ → ℕ) (gone : ℕ) (tree new : Tree) (rules : Rules) (settings : LinterSettings) (a : Aligned exact move gone settings.assume_in_transaction tree new) where
   abbrev K : List Violation → List Violation → Type 0
   K ws vs = Kept move ws vs
 
@@ -82,6 +87,15 @@ module _ (move : ℕ → ℕ) (tree new : Tree) (rules : Rules) (settings : Lint
       (All-weaker (λ k. reports settings new k (stmt_at new k) ≡ []) (λ k. cond (has rules code) (reports settings new k (stmt_at new k)) [] ≡ [])
       (λ k e. where_none (has rules code) (reports settings new k (stmt_at new k)) e) a.more none)
       (λ i. kept_where move (has rules code) (reports settings new (a.at i) (stmt_at new (a.at i))) (reports settings tree i (stmt_at tree i)) (h i))
+
+  one_left : (code : Rule) (reports : Reports) → All (λ k. reports settings new k (stmt_at new k) ≡ []) a.more →
+      ((i : ℕ) → Left exact move gone (reports settings new (a.at i) (stmt_at new (a.at i))) (reports settings tree i (stmt_at tree i))) →
+      Left exact move gone (table_by code reports new rules settings) (table_by code reports tree rules settings)
+  one_left code reports none h =
+      a.pieces_left (enabled_reports code (λ j. reports settings new j (stmt_at new j)) rules) (enabled_reports code (λ i. reports settings tree i (stmt_at tree i)) rules)
+      (All-weaker (λ k. reports settings new k (stmt_at new k) ≡ []) (λ k. cond (has rules code) (reports settings new k (stmt_at new k)) [] ≡ [])
+      (λ k e. where_none (has rules code) (reports settings new k (stmt_at new k)) e) a.more none)
+      (λ i. left_where exact move gone (has rules code) (reports settings new (a.at i) (stmt_at new (a.at i))) (reports settings tree i (stmt_at tree i)) (h i))
 
   -- ---- timeouts
 
@@ -133,49 +147,71 @@ module _ (move : ℕ → ℕ) (tree new : Tree) (rules : Rules) (settings : Lint
 
   -- ---- column types
 
-  type_tables : (rs : List TypeRule) → ((i : ℕ) → All (λ r. K (reports_on r new (column_types (stmt_at new (a.at i)))) (reports_on r tree (column_types (stmt_at tree i)))) rs) →
-      All (λ r. K (type_table r new rules settings) (type_table r tree rules settings)) rs
-  type_tables [] h = All-nil (λ r. K (type_table r new rules settings) (type_table r tree rules settings))
+  abbrev LeftIn : Table → Type 0
+  LeftIn table = Left exact move gone (table new rules settings) (table tree rules settings)
+
+  abbrev TypesLeft : TypeRule → Type 0
+  TypesLeft r = LeftIn (type_table r)
+
+  type_tables : (rs : List TypeRule) → ((i : ℕ) → All (λ r. Left exact move gone (reports_on r new (column_types (stmt_at new (a.at i)))) (reports_on r tree (column_types (stmt_at tree i)))) rs) → All TypesLeft rs
+  type_tables [] h = All-nil TypesLeft
   type_tables (r ∷ rs) h =
-      All-cons (λ r. K (type_table r new rules settings) (type_table r tree rules settings)) r rs
-      (one_table r.code (type_reports r)
+      All-cons TypesLeft r rs
+      (one_left r.code (type_reports r)
       (All-weaker (Quiet new) (λ k. reports_on r new (column_types (stmt_at new k)) ≡ []) (λ k q. ap (reports_on r new) q.types_none) a.more a.quiet)
-      (λ i. All-head (λ r. K (reports_on r new (column_types (stmt_at new (a.at i)))) (reports_on r tree (column_types (stmt_at tree i)))) r rs (h i)))
-      (type_tables rs (λ i. All-tail (λ r. K (reports_on r new (column_types (stmt_at new (a.at i)))) (reports_on r tree (column_types (stmt_at tree i)))) r rs (h i)))
+      (λ i. All-head (λ r. Left exact move gone (reports_on r new (column_types (stmt_at new (a.at i)))) (reports_on r tree (column_types (stmt_at tree i)))) r rs (h i)))
+      (type_tables rs (λ i. All-tail (λ r. Left exact move gone (reports_on r new (column_types (stmt_at new (a.at i)))) (reports_on r tree (column_types (stmt_at tree i)))) r rs (h i)))
+
+  builds_left : LeftIn builds
+  builds_left =
+      one_left rule.RequireConcurrentIndexCreation builds_of (All-weaker (Quiet new) (λ k. builds_of settings new k (stmt_at new k) ≡ []) (λ k q. q.builds_none settings) a.more a.quiet)
+      (λ i. (a.like i).builds_are settings i (a.at i) (λ path. a.news path i))
+
+  dropped_left : LeftIn dropped
+  dropped_left =
+      one_left rule.RequireConcurrentIndexDeletion deletions_of (All-weaker (Quiet new) (λ k. deletions_of settings new k (stmt_at new k) ≡ []) (λ k q. q.drops_none settings) a.more a.quiet)
+      (λ i. (a.like i).drops_are settings i (a.at i))
+
+  rebuilt_left : LeftIn rebuilt
+  rebuilt_left =
+      one_left rule.RequireConcurrentReindex rebuilds_of (All-weaker (Quiet new) (λ k. rebuilds_of settings new k (stmt_at new k) ≡ []) (λ k q. q.rebuilds_none settings) a.more a.quiet)
+      (λ i. (a.like i).rebuilds_are settings i (a.at i))
+
+  types_left : All TypesLeft type_rules
+  types_left = type_tables type_rules (λ i. (a.like i).types_are)
+
+  map_left : (rs : List TypeRule) → All TypesLeft rs → All LeftIn (map type_table rs)
+  map_left [] h = All-nil LeftIn
+  map_left (r ∷ rs) h = All-cons LeftIn (type_table r) (map type_table rs) (All-head TypesLeft r rs h) (map_left rs (All-tail TypesLeft r rs h))
+
+  -- of the rules whose fixes are followed nothing is gone but at one place
+  pub tables_left : All LeftIn followed_tables
+  tables_left =
+      All-cons LeftIn builds (dropped ∷ rebuilt ∷ map type_table type_rules) builds_left
+      (All-cons LeftIn dropped (rebuilt ∷ map type_table type_rules) dropped_left
+      (All-cons LeftIn rebuilt (map type_table type_rules) rebuilt_left (map_left type_rules types_left)))
+
+  -- ---- all tables
 
   abbrev Keeps : Table → Type 0
   Keeps table = K (table new rules settings) (table tree rules settings)
 
-  builds_kept : Keeps builds
-  builds_kept =
-      one_table rule.RequireConcurrentIndexCreation builds_of (All-weaker (Quiet new) (λ k. builds_of settings new k (stmt_at new k) ≡ []) (λ k q. q.builds_none settings) a.more a.quiet)
-      (λ i. (a.like i).builds_are settings i (a.at i) (λ path. a.news path i))
-
-  dropped_kept : Keeps dropped
-  dropped_kept =
-      one_table rule.RequireConcurrentIndexDeletion deletions_of (All-weaker (Quiet new) (λ k. deletions_of settings new k (stmt_at new k) ≡ []) (λ k q. q.drops_none settings) a.more a.quiet)
-      (λ i. (a.like i).drops_are settings i (a.at i))
-
-  rebuilt_kept : Keeps rebuilt
-  rebuilt_kept =
-      one_table rule.RequireConcurrentReindex rebuilds_of (All-weaker (Quiet new) (λ k. rebuilds_of settings new k (stmt_at new k) ≡ []) (λ k q. q.rebuilds_none settings) a.more a.quiet)
-      (λ i. (a.like i).rebuilds_are settings i (a.at i))
+  kept_in : (table : Table) → LeftIn table → Keeps table
+  kept_in table h = left_kept exact move gone (table new rules settings) (table tree rules settings) h
 
   detached_kept : Keeps detached
   detached_kept =
       one_table rule.RequireConcurrentPartitionDetach detachments_of (All-weaker (Quiet new) (λ k. reports_of_require_concurrent_partition_detach new (stmt_at new k) ≡ []) (λ k q. q.detaches_none) a.more a.quiet)
       (λ i. (a.like i).detaches_are)
 
-  all_types : (tables : List TypeRule) (rest : List Table) → All (λ r. K (type_table r new rules settings) (type_table r tree rules settings)) tables → All Keeps rest → All Keeps (map type_table tables ++ rest)
+  all_types : (rs : List TypeRule) (rest : List Table) → All TypesLeft rs → All Keeps rest → All Keeps (map type_table rs ++ rest)
   all_types [] rest h k = k
-  all_types (r ∷ rs) rest h k =
-      All-cons Keeps (type_table r) (map type_table rs ++ rest) (All-head (λ r. K (type_table r new rules settings) (type_table r tree rules settings)) r rs h)
-      (all_types rs rest (All-tail (λ r. K (type_table r new rules settings) (type_table r tree rules settings)) r rs h) k)
+  all_types (r ∷ rs) rest h k = All-cons Keeps (type_table r) (map type_table rs ++ rest) (kept_in (type_table r) (All-head TypesLeft r rs h)) (all_types rs rest (All-tail TypesLeft r rs h) k)
 
   pub tables_kept : All Keeps listed_tables
   tables_kept =
-      All-cons Keeps builds (dropped ∷ rebuilt ∷ detached ∷ (map type_table type_rules ++ timeouts ∷ [])) builds_kept
-      (All-cons Keeps dropped (rebuilt ∷ detached ∷ (map type_table type_rules ++ timeouts ∷ [])) dropped_kept
-      (All-cons Keeps rebuilt (detached ∷ (map type_table type_rules ++ timeouts ∷ [])) rebuilt_kept
+      All-cons Keeps builds (dropped ∷ rebuilt ∷ detached ∷ (map type_table type_rules ++ timeouts ∷ [])) (kept_in builds builds_left)
+      (All-cons Keeps dropped (rebuilt ∷ detached ∷ (map type_table type_rules ++ timeouts ∷ [])) (kept_in dropped dropped_left)
+      (All-cons Keeps rebuilt (detached ∷ (map type_table type_rules ++ timeouts ∷ [])) (kept_in rebuilt rebuilt_left)
       (All-cons Keeps detached (map type_table type_rules ++ timeouts ∷ []) detached_kept
-      (all_types type_rules (timeouts ∷ []) (type_tables type_rules (λ i. (a.like i).types_are)) (All-cons Keeps timeouts [] timeouts_table (All-nil Keeps))))))
+      (all_types type_rules (timeouts ∷ []) types_left (All-cons Keeps timeouts [] timeouts_table (All-nil Keeps))))))

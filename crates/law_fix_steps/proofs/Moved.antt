@@ -1,7 +1,7 @@
 -- A statement under other numbers is seen alike.
 use Rattle.std.proofs.Common.{◌≡◌, ℕ, ◌<◌, ◌≤◌, Bool, true, false, cond, List, [], ◌∷◌, map, sym, refl, ap, ◌∙◌, subst, Option, Some, None}
 use Rattle.std.proofs.lemmas.List.Elements.{All-nil, All-cons, All-head, All-tail, All-weaker}
-use Rattle.std.specs.Prelude.{All, ◌&&◌, ◌||◌, ◌==◌}
+use Rattle.std.specs.Prelude.{All, ◌&&◌, ◌||◌, ◌==◌, codes}
 use Rattle.std.specs.List.{list_any}
 use Rattle.std.specs.Option.{option_map}
 use Rattle.std.specs.Str.{bytes_eq}
@@ -19,13 +19,14 @@ use Rattle.sql_tree.specs.declared.nodes.Elem.TheVariants as elem
 use Rattle.sql_tree.specs.declared.nodes.Stmt.{Stmt}
 use Rattle.sql_tree.specs.Nodes.{actions_in}
 use Rattle.sql_tree.specs.Path.{path_cuts}
-use Rattle.sql_tree.specs.Range.{token_at}
+use Rattle.sql_tree.specs.Range.{span_range_of, token_at}
 use Rattle.sql_tree.specs.Statement.{Tree}
 use Rattle.law_renumber.specs.Moved.{action_moved, body_moved, constraint_moved, elem_moved, span_moved, stmt_moved, type_moved}
 use Rattle.law_edit_inserts.specs.Apart.{outside}
 use Rattle.law_edit_inserts.proofs.Apart.{stays_within}
 use Rattle.lint_base.specs.declared.settings.LinterSettings.{LinterSettings}
 use Rattle.lint_base.specs.declared.violation.Violation.{Violation}
+use Rattle.lint_base.specs.Edits.{insertion}
 use Rattle.lint_lock.specs.Slow.{has_reference, is_reference, refers, slow_by}
 use Rattle.lint_node.specs.ColumnTypes.{column_types}
 use Rattle.lint_node.specs.Plain.{drops_plainly, is_plain_detach, is_plain_drop, is_plain_reindex, rebuilds_plainly}
@@ -44,9 +45,12 @@ use Rattle.law_type_fixes.proofs.ColumnTypes.{types_moved}
 use Rattle.law_fixes.proofs.DetachStays.{plain_moved}
 use Rattle.law_fixes.proofs.Statements.{created_moved}
 use Rattle.law_fix_steps.specs.Kept.{SameAt, Kept}
-use Rattle.law_fix_steps.proofs.Kept.{NodeKept, kept_one, those_kept}
+use Rattle.law_fix_steps.specs.Left.{Carried, EditsFollow, FixFollows, Left}
+use Rattle.law_fix_steps.proofs.Kept.{NodeKept, those_kept}
+use Rattle.law_fix_steps.proofs.Left.{NodeLeft, left_one, those_left}
 use Rattle.law_fix_steps.proofs.Like.{Like, type_rules}
-use Rattle.law_fix_steps.proofs.TypeNames.{SeesNames, all_see}
+use Rattle.law_fix_steps.proofs.Near.{Near, Shifts, insertion_follows, near}
+use Rattle.law_fix_steps.proofs.TypeNames.{SeesNames, TypeNear, all_see}
 
 -- ---- what tests see of bodies under other numbers
 
@@ -97,50 +101,77 @@ pub record Follows (move f : ℕ → ℕ) (tree new : Tree) (x : ℕ) : Type 0 w
   pub start : (token_at new.toks (f x)).start ≡ move (token_at tree.toks x).start
   pub text : text_of new.text (token_at new.toks (f x)) ≡ text_of tree.text (token_at tree.toks x)
 
--- So it is of the numbers from lo to before hi, and of the paths of such numbers.
+-- So it is of the numbers from lo to before hi, all as many bytes further on or back, and of the paths of such numbers.
 pub record Moves (move f : ℕ → ℕ) (lo hi : ℕ) (tree new : Tree) : Type 0 where
   pub tokens : (x : ℕ) → lo ≤ x → x < hi → Follows move f tree new x
+  pub down : ℕ
+  pub up : ℕ
+  pub shifts : (x : ℕ) → lo ≤ x → x < hi → Shifts f down up tree new x
   pub paths : (span : Span) → span_moved (outside lo hi) span ≡ span → path_cuts new.text new.toks (span_moved f span) ≡ path_cuts tree.text tree.toks span
   pub apart : (x y : ℕ) → lo ≤ x → x < hi → lo ≤ y → y < hi → (f x == f y) ≡ (x == y)
 
 some_span : {p q : Span} → Some p ≡ Some q → p ≡ q
 some_span e = cc
 
+-- ---- actions and types
+
 module _ (move f : ℕ → ℕ) (tree new : Tree) where
-  abbrev K : List Violation → List Violation → Type 0
-  K ws vs = Kept move ws vs
-
-  -- ---- actions and types
-
   -- the actions that begin at the old place, moved
   pub detach_node : (c : Action) → (token_at new.toks (f c.first)).start ≡ move (token_at tree.toks c.first).start →
       NodeKept move is_plain_detach is_plain_detach (detaches.report tree) (detaches.report new) (action_moved f c) c
   unfolding detaches.report
   detach_node c e = record { passed = λ h. sym (plain_moved f c) ∙ h; same = λ h. record { code = refl; place = e } }
 
+module _ (exact : Bool) (move f : ℕ → ℕ) (gone : ℕ) (tree new : Tree) where
+  abbrev L : List Violation → List Violation → Type 0
+  L ws vs = Left exact move gone ws vs
+
+  abbrev TypeNode : TypeRule → ColType → Type 0
+  TypeNode r ty = NodeLeft exact move gone (r.test tree) (r.test new) (r.report tree) (r.report new) (type_moved f ty) ty
+
   pub type_node : (r : TypeRule) → SeesNames r → (ty : ColType) → Follows move f tree new ty.name → (token_at new.toks (f ty.whole.first)).start ≡ move (token_at tree.toks ty.whole.first).start →
-      NodeKept move (r.test tree) (r.test new) (r.report tree) (r.report new) (type_moved f ty) ty
-  type_node r sees ty name start = record {
-    passed = λ h. sym (sees.test tree new f ty (ap full_name name.text)) ∙ h;
-    same = λ h. record {
-      code = sees.code new (type_moved f ty) ∙ sym (sees.code tree ty);
-      place = sees.place new (type_moved f ty) ∙ start ∙ ap move (sym (sees.place tree ty));
+      (exact ≡ true → TypeNear f tree new ty) → TypeNode r ty
+  type_node r sees ty name start close = record {
+    passed = sees.test tree new f ty (ap full_name name.text);
+    carried = λ passes. record {
+      same = record {
+        code = sees.code new (type_moved f ty) ∙ sym (sees.code tree ty);
+        place = sees.place new (type_moved f ty) ∙ start ∙ ap move (sym (sees.place tree ty));
+      };
+      fix = λ on.
+          subst (λ (p : ℕ). FixFollows p (r.report tree ty).text_range.start (r.report new (type_moved f ty)).fix (r.report tree ty).fix) (sym (sees.place new (type_moved f ty)))
+          (subst (λ (q : ℕ). FixFollows (token_at new.toks (f ty.whole.first)).start q (r.report new (type_moved f ty)).fix (r.report tree ty).fix) (sym (sees.place tree ty))
+          (sees.fix tree new f ty (ap full_name name.text) (close on)));
     };
   }
 
-  -- a type whose two tokens follow
+  -- a type whose tokens follow
   pub record TypeFollows (ty : ColType) : Type 0 where
     pub name : Follows move f tree new ty.name
     pub first : Follows move f tree new ty.whole.first
+    pub close : exact ≡ true → TypeNear f tree new ty
 
-  pub types_kept : (tys : List ColType) → All TypeFollows tys → (rs : List TypeRule) → All SeesNames rs → All (λ r. K (reports_on r new (map (type_moved f) tys)) (reports_on r tree tys)) rs
-  types_kept tys h [] sees = All-nil (λ r. K (reports_on r new (map (type_moved f) tys)) (reports_on r tree tys))
-  types_kept tys h (r ∷ rs) sees =
-      All-cons (λ r. K (reports_on r new (map (type_moved f) tys)) (reports_on r tree tys)) r rs
-      (those_kept move (r.test tree) (r.test new) (r.report tree) (r.report new) (type_moved f) tys
-      (All-weaker TypeFollows (λ ty. NodeKept move (r.test tree) (r.test new) (r.report tree) (r.report new) (type_moved f ty) ty)
-      (λ ty t. type_node r (All-head SeesNames r rs sees) ty t.name t.first.start) tys h))
-      (types_kept tys h rs (All-tail SeesNames r rs sees))
+  pub types_left : (tys : List ColType) → All TypeFollows tys → (rs : List TypeRule) → All SeesNames rs → All (λ r. L (reports_on r new (map (type_moved f) tys)) (reports_on r tree tys)) rs
+  types_left tys h [] sees = All-nil (λ r. L (reports_on r new (map (type_moved f) tys)) (reports_on r tree tys))
+  types_left tys h (r ∷ rs) sees =
+      All-cons (λ r. L (reports_on r new (map (type_moved f) tys)) (reports_on r tree tys)) r rs
+      (those_left exact move gone (r.test tree) (r.test new) (r.report tree) (r.report new) (type_moved f) tys
+      (All-weaker TypeFollows (TypeNode r) (λ ty t. type_node r (All-head SeesNames r rs sees) ty t.name t.first.start t.close) tys h))
+      (types_left tys h rs (All-tail SeesNames r rs sees))
+
+-- a type whose tokens are as many bytes further on or back
+pub type_near : (f : ℕ → ℕ) (down up lo hi : ℕ) (tree new : Tree) → ((x : ℕ) → lo ≤ x → x < hi → Shifts f down up tree new x) → (ty : ColType) → type_moved (outside lo hi) ty ≡ ty → TypeNear f tree new ty
+type_near f down up lo hi tree new shifts ty e = record {
+  inner_first = near_one ty.inner.first (ap (λ (t : ColType). t.inner.first) e);
+  inner_last = near_one ty.inner.last (ap (λ (t : ColType). t.inner.last) e);
+  name = near_one ty.name (ap (λ (t : ColType). t.name) e);
+}
+  where
+    at : (x : ℕ) → outside lo hi x ≡ x → Shifts f down up tree new x
+    at x h = let w = stays_within lo hi x h in shifts x w.0 w.1
+
+    near_one : (x : ℕ) → outside lo hi x ≡ x → Near f tree new ty.whole.first x
+    near_one x h = near f tree new ty.whole.first down up x (at ty.whole.first (ap (λ (t : ColType). t.whole.first) e)) (at x h)
 
 -- the types of a statement that is fixed
 pub fixed_types : (P : ColType → Type 0) (g : ℕ → ℕ) → ((ty : ColType) → type_moved g ty ≡ ty → P ty) → (tys : List ColType) → map (type_moved g) tys ≡ tys → All P tys
@@ -158,16 +189,41 @@ abbrev build_path : Body → Span
 build_path (body.Index word unique concurrently guarded name path) = path
 build_path _ = record { first = 0; last = 0 }
 
-module _ (move f : ℕ → ℕ) (lo hi : ℕ) (tree new : Tree) (m : Moves move f lo hi tree new) where
+second_true : (a b : Bool) → (a && b) ≡ true → b ≡ true
+second_true true b h = h
+second_true false b h = absurd (cc)
+
+-- the word of an index that is built, and the words of one that is dropped or rebuilt
+abbrev build_word : Body → ℕ
+build_word (body.Index word unique concurrently guarded name path) = word
+build_word _ = 0
+
+dropped_word : (f : ℕ → ℕ) (b : Body) → drops_plainly b ≡ true → drops.index_word (body_moved f b) ≡ f (drops.index_word b)
+dropped_word f (body.Drop word c g paths) h = refl
+dropped_word f b h = absurd (cc)
+
+rebuilt_word : (f : ℕ → ℕ) (b : Body) → rebuilds_plainly b ≡ true → reindexes.target_word (body_moved f b) ≡ f (reindexes.target_word b)
+rebuilt_word f (body.Reindex t word c v path) h = refl
+rebuilt_word f b h = absurd (cc)
+
+module _ (exact : Bool) (move f : ℕ → ℕ) (gone lo hi : ℕ) (tree new : Tree) (m : Moves move f lo hi tree new) where
   starts_at : (g : ℕ) → outside lo hi g ≡ g → Follows move f tree new g
   starts_at g e = let w = stays_within lo hi g e in m.tokens g w.0 w.1
+
+  near_at : (a x : ℕ) → outside lo hi a ≡ a → outside lo hi x ≡ x → Near f tree new a x
+  near_at a x d e =
+      let u = stays_within lo hi a d in let v = stays_within lo hi x e in
+      near f tree new a m.down m.up x (m.shifts a u.0 u.1) (m.shifts x v.0 v.1)
 
   module _ (x : Stmt) (e : stmt_moved (outside lo hi) x ≡ x) where
     abbrev y : Stmt
     y = stmt_moved f x
 
+    first_back : outside lo hi x.first ≡ x.first
+    first_back = ap (λ (s : Stmt). s.first) e
+
     first : Follows move f tree new x.first
-    first = starts_at x.first (ap (λ (s : Stmt). s.first) e)
+    first = starts_at x.first first_back
 
     path_same : (o : Option Span) → option_map (span_moved (outside lo hi)) o ≡ o → (path : List (List ℕ)) → is_path new (option_map (span_moved f) o) path ≡ is_path tree o path
     path_same None g path = refl
@@ -195,45 +251,65 @@ module _ (move f : ℕ → ℕ) (lo hi : ℕ) (tree new : Tree) (m : Moves move 
             λ i. same i && bytes_eq (text i) name
 
     builds_same : (settings : LinterSettings) (i j : ℕ) → ((path : List (List ℕ)) → is_new settings.assume_in_transaction new path j ≡ is_new settings.assume_in_transaction tree path i) →
-        Kept move (builds_of settings new j y) (builds_of settings tree i x)
+        Left exact move gone (builds_of settings new j y) (builds_of settings tree i x)
     unfolding build.report
     builds_same settings i j news = by x.body refl
       where
-        by : (b : Body) → x.body ≡ b → Kept move (build.reports_by settings new j y (body_moved f b)) (build.reports_by settings tree i x b)
+        by : (b : Body) → x.body ≡ b → Left exact move gone (build.reports_by settings new j y (body_moved f b)) (build.reports_by settings tree i x b)
         by (body.Index word unique None guarded name path) h =
             let fixed = ap (λ (s : Stmt). build_path s.body) e in
             let back : span_moved (outside lo hi) path ≡ path = sym (ap (λ (b : Body). build_path (body_moved (outside lo hi) b)) h) ∙ fixed ∙ ap build_path h in
+            let word_back : outside lo hi word ≡ word = sym (ap (λ (b : Body). build_word (body_moved (outside lo hi) b)) h) ∙ ap (λ (s : Stmt). build_word s.body) e ∙ ap build_word h in
             let cuts = m.paths path back in
             let new_is = ap (λ (q : List (List ℕ)). is_new settings.assume_in_transaction new q j) cuts ∙ news (path_cuts tree.text tree.toks path) in
-            one (is_new settings.assume_in_transaction tree (path_cuts tree.text tree.toks path) i) _ new_is _ _ (record { code = refl; place = (let t = first in t.start) })
+            one (is_new settings.assume_in_transaction tree (path_cuts tree.text tree.toks path) i) _ new_is _ _
+            (record { same = record { code = refl; place = (let t = first in t.start) }; fix = λ on. insertion_follows f tree new x.first (codes " concurrently") word (near_at x.first word first_back word_back) })
           where
-            one : (p q : Bool) → q ≡ p → (v w : Violation) → SameAt move w v → Kept move (cond q [] (w ∷ [])) (cond p [] (v ∷ []))
-            one p q g v w same = subst (λ (b : Bool). Kept move (cond b [] (w ∷ [])) (cond p [] (v ∷ []))) (sym g) (both p)
+            one : (p q : Bool) → q ≡ p → (v w : Violation) → Carried exact move w v → Left exact move gone (cond q [] (w ∷ [])) (cond p [] (v ∷ []))
+            one p q g v w same = subst (λ (b : Bool). Left exact move gone (cond b [] (w ∷ [])) (cond p [] (v ∷ []))) (sym g) (both p)
               where
-                both : (b : Bool) → Kept move (cond b [] (w ∷ [])) (cond b [] (v ∷ []))
+                both : (b : Bool) → Left exact move gone (cond b [] (w ∷ [])) (cond b [] (v ∷ []))
                 both true = tt
-                both false = kept_one move w v same
+                both false = left_one exact move gone w v same
         by (body.Index word unique (Some c) guarded name path) h = tt
         by b h = tt
 
-    deletions_same : Kept move (drops.reports_of_require_concurrent_index_deletion new y) (drops.reports_of_require_concurrent_index_deletion tree x)
+    -- what is put after a word of the statement
+    word_follows : (k word : ℕ) → k ≡ f word → outside lo hi word ≡ word →
+        EditsFollow (token_at new.toks (f x.first)).start (token_at tree.toks x.first).start
+        (insertion (codes " concurrently") (span_range_of new.toks k k).end ∷ []) (insertion (codes " concurrently") (span_range_of tree.toks word word).end ∷ [])
+    word_follows k word same back =
+        subst
+        (λ (n : ℕ). EditsFollow (token_at new.toks (f x.first)).start (token_at tree.toks x.first).start
+        (insertion (codes " concurrently") (span_range_of new.toks n n).end ∷ []) (insertion (codes " concurrently") (span_range_of tree.toks word word).end ∷ []))
+        (sym same) (insertion_follows f tree new x.first (codes " concurrently") word (near_at x.first word first_back back))
+
+    deletions_same : Left exact move gone (drops.reports_of_require_concurrent_index_deletion new y) (drops.reports_of_require_concurrent_index_deletion tree x)
     unfolding drops.report
     deletions_same =
-        those_kept move is_plain_drop is_plain_drop (drops.report tree) (drops.report new) (stmt_moved f) (x ∷ [])
-        (All-cons (λ s. NodeKept move is_plain_drop is_plain_drop (drops.report tree) (drops.report new) (stmt_moved f s) s) x []
+        those_left exact move gone is_plain_drop is_plain_drop (drops.report tree) (drops.report new) (stmt_moved f) (x ∷ [])
+        (All-cons (λ s. NodeLeft exact move gone is_plain_drop is_plain_drop (drops.report tree) (drops.report new) (stmt_moved f s) s) x []
         (record {
-          passed = λ h. ap (λ (b : Bool). same_kind x.kind stmt.DropIndex && b) (sym (drops_same f x.body)) ∙ h;
-          same = λ h. record { code = refl; place = (let t = first in t.start) };
+          passed = ap (λ (b : Bool). same_kind x.kind stmt.DropIndex && b) (drops_same f x.body);
+          carried = λ passes.
+              (let plain = second_true (same_kind x.kind stmt.DropIndex) (drops_plainly x.body) passes in
+              record {
+                same = record { code = refl; place = (let t = first in t.start) };
+                fix = λ on. word_follows (drops.index_word (body_moved f x.body)) (drops.index_word x.body) (dropped_word f x.body plain) (sym (dropped_word (outside lo hi) x.body plain) ∙ ap (λ (s : Stmt). drops.index_word s.body) e);
+              });
         }) (All-nil _))
 
-    rebuilt_same : Kept move (reindexes.reports_of_require_concurrent_reindex new y) (reindexes.reports_of_require_concurrent_reindex tree x)
+    rebuilt_same : Left exact move gone (reindexes.reports_of_require_concurrent_reindex new y) (reindexes.reports_of_require_concurrent_reindex tree x)
     unfolding reindexes.report
     rebuilt_same =
-        those_kept move is_plain_reindex is_plain_reindex (reindexes.report tree) (reindexes.report new) (stmt_moved f) (x ∷ [])
-        (All-cons (λ s. NodeKept move is_plain_reindex is_plain_reindex (reindexes.report tree) (reindexes.report new) (stmt_moved f s) s) x []
+        those_left exact move gone is_plain_reindex is_plain_reindex (reindexes.report tree) (reindexes.report new) (stmt_moved f) (x ∷ [])
+        (All-cons (λ s. NodeLeft exact move gone is_plain_reindex is_plain_reindex (reindexes.report tree) (reindexes.report new) (stmt_moved f s) s) x []
         (record {
-          passed = λ h. sym (rebuilds_same f x.body) ∙ h;
-          same = λ h. record { code = refl; place = (let t = first in t.start) };
+          passed = rebuilds_same f x.body;
+          carried = λ plain. record {
+            same = record { code = refl; place = (let t = first in t.start) };
+            fix = λ on. word_follows (reindexes.target_word (body_moved f x.body)) (reindexes.target_word x.body) (rebuilt_word f x.body plain) (sym (rebuilt_word (outside lo hi) x.body plain) ∙ ap (λ (s : Stmt). reindexes.target_word s.body) e);
+          };
         }) (All-nil _))
 
     actions_kept : (xs : List Action) → All (λ c. action_moved (outside lo hi) c ≡ c) xs →
@@ -252,15 +328,19 @@ module _ (move f : ℕ → ℕ) (lo hi : ℕ) (tree new : Tree) (m : Moves move 
         by true = actions_kept (actions_in x.body) (stmt_actions_fixed (outside lo hi) x e)
         by false = tt
 
-    types_same : All (λ r. Kept move (reports_on r new (column_types y)) (reports_on r tree (column_types x))) type_rules
+    types_same : All (λ r. Left exact move gone (reports_on r new (column_types y)) (reports_on r tree (column_types x))) type_rules
     types_same =
-        subst (λ (l : List ColType). All (λ r. Kept move (reports_on r new l) (reports_on r tree (column_types x))) type_rules) (sym (types_moved f x))
-        (types_kept move f tree new (column_types x)
-        (fixed_types (TypeFollows move f tree new) (outside lo hi)
-        (λ ty g. record { name = starts_at ty.name (ap (λ (t : ColType). t.name) g); first = starts_at ty.whole.first (ap (λ (t : ColType). t.whole.first) g) })
+        subst (λ (l : List ColType). All (λ r. Left exact move gone (reports_on r new l) (reports_on r tree (column_types x))) type_rules) (sym (types_moved f x))
+        (types_left exact move f gone tree new (column_types x)
+        (fixed_types (TypeFollows exact move f gone tree new) (outside lo hi)
+        (λ ty g. record {
+          name = starts_at ty.name (ap (λ (t : ColType). t.name) g);
+          first = starts_at ty.whole.first (ap (λ (t : ColType). t.whole.first) g);
+          close = λ on. type_near f m.down m.up lo hi tree new m.shifts ty g;
+        })
         (column_types x) (sym (types_moved (outside lo hi) x) ∙ ap column_types e)) type_rules all_see)
 
-    pub moved_like : Like move tree new x y
+    pub moved_like : Like exact move gone tree new x y
     moved_like = record {
       begins_is = refl;
       ends_is = ends_moved f y x.body;

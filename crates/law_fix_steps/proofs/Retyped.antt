@@ -44,12 +44,15 @@ use Rattle.law_type_fixes.proofs.Tokens.{word_number, word_text, fused_low}
 use Rattle.law_type_fixes.proofs.Homes.{flat_append}
 use Rattle.law_fixes.proofs.DetachStays.{plain_moved}
 use Rattle.law_fix_steps.specs.Kept.{Kept}
-use Rattle.law_fix_steps.proofs.Kept.{NodeKept, kept_after, kept_append, that_kept, those_kept}
+use Rattle.law_fix_steps.specs.Left.{Left}
+use Rattle.law_fix_steps.proofs.Kept.{NodeKept, kept_append, that_kept, those_kept}
+use Rattle.law_fix_steps.proofs.Left.{BeginsAt, left_after, left_append, nil_left}
 use Rattle.law_fix_steps.proofs.Like.{Like, type_rules}
 use Rattle.law_fix_steps.proofs.Concurrently as concurrently
-use Rattle.law_fix_steps.proofs.Moved.{Follows, TypeFollows, fixed_types, slow_same, types_kept}
+use Rattle.law_fix_steps.proofs.Moved.{Follows, TypeFollows, fixed_types, slow_same, type_near, types_left}
+use Rattle.law_fix_steps.proofs.Near.{Shifts}
 use Rattle.law_fix_steps.proofs.Paths.{path_follows}
-use Rattle.law_fix_steps.proofs.TypeNames.{all_see}
+use Rattle.law_fix_steps.proofs.TypeNames.{SeesNames, all_see}
 use Rattle.law_fix_steps.proofs.CreatedPaths.{Below}
 use Rattle.law_fix_steps.proofs.Worded as worded
 
@@ -76,10 +79,18 @@ and_false : (b : Bool) → (b && false) ≡ false
 and_false true = refl
 and_false false = refl
 
-inert_like : (move : ℕ → ℕ) (tree new : Tree) (x y : Stmt) → y.kind ≡ x.kind → Inert x.body → Inert y.body → ((path : List (List ℕ)) → creates new path y ≡ creates tree path x) → has_reference y.body ≡ has_reference x.body →
+no_drops : (t : Tree) (x : Stmt) → Inert x.body → drops.reports_of_require_concurrent_index_deletion t x ≡ []
+no_drops t x p =
+    (λ i. cond (same_kind x.kind stmt.DropIndex && p.drops_not i) (drops.report t x ∷ []) [] ++ [])
+    ∙ (λ i. cond (and_false (same_kind x.kind stmt.DropIndex) i) (drops.report t x ∷ []) [] ++ [])
+
+no_rebuilds : (t : Tree) (x : Stmt) → Inert x.body → reindexes.reports_of_require_concurrent_reindex t x ≡ []
+no_rebuilds t x p = λ i. cond (p.rebuilds_not i) (reindexes.report t x ∷ []) [] ++ []
+
+inert_like : (exact : Bool) (move : ℕ → ℕ) (gone : ℕ) (tree new : Tree) (x y : Stmt) → y.kind ≡ x.kind → Inert x.body → Inert y.body → ((path : List (List ℕ)) → creates new path y ≡ creates tree path x) → has_reference y.body ≡ has_reference x.body →
     (token_at new.toks y.first).start ≡ move (token_at tree.toks x.first).start → Kept move (detaches.reports_of_require_concurrent_partition_detach new y) (detaches.reports_of_require_concurrent_partition_detach tree x) →
-    All (λ r. Kept move (reports_on r new (column_types y)) (reports_on r tree (column_types x))) type_rules → Like move tree new x y
-inert_like move tree new x y kind p q makes reference place acts types = record {
+    All (λ r. Left exact move gone (reports_on r new (column_types y)) (reports_on r tree (column_types x))) type_rules → Like exact move gone tree new x y
+inert_like exact move gone tree new x y kind p q makes reference place acts types = record {
   begins_is = ap (λ (k : StmtKind). begins (record y { kind = k })) kind;
   ends_is = q.ends_not ∙ sym p.ends_not;
   chains_is = q.chains_not ∙ sym p.chains_not;
@@ -87,11 +98,9 @@ inert_like move tree new x y kind p q makes reference place acts types = record 
   slow_is = ap (λ (k : StmtKind). is_slow (record y { kind = k })) kind ∙ slow_same x.kind y.body x.body reference;
   sets_is = λ name. ap (λ (o : Option Span). is_parameter new name o) q.parameter ∙ sym (ap (λ (o : Option Span). is_parameter tree name o) p.parameter);
   place = λ slow. place;
-  builds_are = λ settings i j news. nil_kept move _ _ (q.builds_none settings new j y);
-  drops_are = λ settings i j.
-      nil_kept move _ _ ((λ i. cond (same_kind y.kind stmt.DropIndex && q.drops_not i) (drops.report new y ∷ []) [] ++ [])
-      ∙ (λ i. cond (and_false (same_kind y.kind stmt.DropIndex) i) (drops.report new y ∷ []) [] ++ []));
-  rebuilds_are = λ settings i j. nil_kept move _ _ (λ i. cond (q.rebuilds_not i) (reindexes.report new y ∷ []) [] ++ []);
+  builds_are = λ settings i j news. nil_left exact move gone _ _ (q.builds_none settings new j y) (p.builds_none settings tree i x);
+  drops_are = λ settings i j. nil_left exact move gone _ _ (no_drops new y q) (no_drops tree x p);
+  rebuilds_are = λ settings i j. nil_left exact move gone _ _ (no_rebuilds new y q) (no_rebuilds tree x p);
   detaches_are = acts;
   types_are = types;
 }
@@ -126,21 +135,43 @@ module _ (tree : Tree) (before : List Stmt) (st : Stmt) (after : List Stmt) (now
 
   -- ---- the types
 
-  -- Types of these numbers follow.
-  pub side_types : (lo hi : ℕ) → ((x : ℕ) → lo ≤ x → x < hi → Follows move f tree new x) → (tys : List ColType) → map (type_moved (outside lo hi)) tys ≡ tys → All (TypeFollows move f tree new) tys
-  side_types lo hi each tys e =
-      fixed_types (TypeFollows move f tree new) (outside lo hi)
+  -- Types of these numbers follow, all as many bytes further on or back.
+  pub side_types : (exact : Bool) (gone lo hi down up : ℕ) → ((x : ℕ) → lo ≤ x → x < hi → Follows move f tree new x) → ((x : ℕ) → lo ≤ x → x < hi → Shifts f down up tree new x) →
+      (tys : List ColType) → map (type_moved (outside lo hi)) tys ≡ tys → All (TypeFollows exact move f gone tree new) tys
+  side_types exact gone lo hi down up each shifts tys e =
+      fixed_types (TypeFollows exact move f gone tree new) (outside lo hi)
       (λ ty g. (let u = stays_within lo hi ty.name (ap (λ (t : ColType). t.name) g) in let v = stays_within lo hi ty.whole.first (ap (λ (t : ColType). t.whole.first) g) in
-      record { name = each ty.name u.0 u.1; first = each ty.whole.first v.0 v.1 })) tys e
+      record { name = each ty.name u.0 u.1; first = each ty.whole.first v.0 v.1; close = λ on. type_near f down up lo hi tree new shifts ty g })) tys e
 
-  abbrev pub KeptOn : List ColType → List ColType → TypeRule → Type 0
-  KeptOn now_types old_types r = Kept move (reports_on r new now_types) (reports_on r tree old_types)
+  pub low_shifts : (x : ℕ) → x < n → Shifts f 0 0 tree new x
+  low_shifts = worded.low_shifts tree before st after now n m w is parts order within
+
+  abbrev pub down : ℕ
+  down = worded.until tree before st after now n m w is parts order within
+
+  abbrev pub up : ℕ
+  up = worded.from tree before st after now n m w is parts order within + worded.size tree before st after now n m w is parts order within
+
+  pub high_shifts : (x : ℕ) → m + 1 ≤ x → x < length tree.toks → Shifts f down up tree new x
+  high_shifts = worded.high_shifts tree before st after now n m w is parts order within
+
+  abbrev pub LeftOn : Bool → ℕ → List ColType → List ColType → TypeRule → Type 0
+  LeftOn exact gone now_types old_types r = Left exact move gone (reports_on r new now_types) (reports_on r tree old_types)
+
+  -- what is reported on a type begins with it
+  that_begins : (gone : ℕ) (r : TypeRule) → SeesNames r → (ty : ColType) → (token_at tree.toks ty.whole.first).start ≡ gone → All (BeginsAt gone) (that (r.test tree) (r.report tree) ty)
+  that_begins gone r sees ty at = by (r.test tree ty)
+    where
+      by : (b : Bool) → All (BeginsAt gone) (cond b (r.report tree ty ∷ []) [])
+      by true = All-cons (BeginsAt gone) (r.report tree ty) [] (sees.place tree ty ∙ at) (All-nil (BeginsAt gone))
+      by false = All-nil (BeginsAt gone)
 
   -- with other types in the place of one, which no rule reports
-  pub types_now : (earlier : List ColType) (ty : ColType) (later types : List ColType) → All (TypeFollows move f tree new) earlier → All (TypeFollows move f tree new) later →
-      All (λ t. All (λ r. r.test new t ≡ false) type_rules) types →
-      All (λ r. Kept move (reports_on r new (map (type_moved f) earlier ++ (types ++ map (type_moved f) later))) (reports_on r tree (earlier ++ ty ∷ later))) type_rules
-  types_now earlier ty later types low high silent = by type_rules (types_kept move f tree new earlier low type_rules all_see) (types_kept move f tree new later high type_rules all_see) silent
+  pub types_now : (exact : Bool) (gone : ℕ) (earlier : List ColType) (ty : ColType) (later types : List ColType) → (token_at tree.toks ty.whole.first).start ≡ gone →
+      All (TypeFollows exact move f gone tree new) earlier → All (TypeFollows exact move f gone tree new) later → All (λ t. All (λ r. r.test new t ≡ false) type_rules) types →
+      All (LeftOn exact gone (map (type_moved f) earlier ++ (types ++ map (type_moved f) later)) (earlier ++ ty ∷ later)) type_rules
+  types_now exact gone earlier ty later types at low high silent =
+      by type_rules (types_left exact move f gone tree new earlier low type_rules all_see) (types_left exact move f gone tree new later high type_rules all_see) all_see silent
     where
       of_rule : (r : TypeRule) (rs : List TypeRule) (tys : List ColType) → All (λ t. All (λ q. q.test new t ≡ false) (r ∷ rs)) tys → All (λ t. r.test new t ≡ false) tys
       of_rule r rs tys h = All-weaker (λ t. All (λ q. q.test new t ≡ false) (r ∷ rs)) (λ t. r.test new t ≡ false) (λ t k. All-head (λ q. q.test new t ≡ false) r rs k) tys h
@@ -148,21 +179,25 @@ module _ (tree : Tree) (before : List Stmt) (st : Stmt) (after : List Stmt) (now
       of_rest : (r : TypeRule) (rs : List TypeRule) (tys : List ColType) → All (λ t. All (λ q. q.test new t ≡ false) (r ∷ rs)) tys → All (λ t. All (λ q. q.test new t ≡ false) rs) tys
       of_rest r rs tys h = All-weaker (λ t. All (λ q. q.test new t ≡ false) (r ∷ rs)) (λ t. All (λ q. q.test new t ≡ false) rs) (λ t k. All-tail (λ q. q.test new t ≡ false) r rs k) tys h
 
-      one : (r : TypeRule) → KeptOn (map (type_moved f) earlier) earlier r → KeptOn (map (type_moved f) later) later r → All (λ t. r.test new t ≡ false) types → KeptOn (map (type_moved f) earlier ++ (types ++ map (type_moved f) later)) (earlier ++ ty ∷ later) r
-      one r p q none =
-          subst (λ (l : List Violation). Kept move l (reports_on r tree (earlier ++ ty ∷ later)))
+      one : (r : TypeRule) → SeesNames r → LeftOn exact gone (map (type_moved f) earlier) earlier r → LeftOn exact gone (map (type_moved f) later) later r → All (λ t. r.test new t ≡ false) types →
+          LeftOn exact gone (map (type_moved f) earlier ++ (types ++ map (type_moved f) later)) (earlier ++ ty ∷ later) r
+      one r sees p q none =
+          subst (λ (l : List Violation). Left exact move gone l (reports_on r tree (earlier ++ ty ∷ later)))
           (sym (flat_append (that (r.test new) (r.report new)) (map (type_moved f) earlier) (types ++ map (type_moved f) later)
           ∙ ap (λ (l : List Violation). reports_on r new (map (type_moved f) earlier) ++ l)
           (flat_append (that (r.test new) (r.report new)) types (map (type_moved f) later) ∙ ap (λ (l : List Violation). l ++ reports_on r new (map (type_moved f) later)) (none_that (r.test new) (r.report new) types none))))
-          (subst (λ (l : List Violation). Kept move (reports_on r new (map (type_moved f) earlier) ++ reports_on r new (map (type_moved f) later)) l)
+          (subst (λ (l : List Violation). Left exact move gone (reports_on r new (map (type_moved f) earlier) ++ reports_on r new (map (type_moved f) later)) l)
           (sym (flat_append (that (r.test tree) (r.report tree)) earlier (ty ∷ later)))
-          (kept_append move (reports_on r new (map (type_moved f) earlier)) (reports_on r tree earlier) (reports_on r new (map (type_moved f) later)) (that (r.test tree) (r.report tree) ty ++ reports_on r tree later) p
-          (kept_after move (that (r.test tree) (r.report tree) ty) (reports_on r new (map (type_moved f) later)) (reports_on r tree later) q)))
+          (left_append exact move gone (reports_on r new (map (type_moved f) earlier)) (reports_on r tree earlier) (reports_on r new (map (type_moved f) later)) (that (r.test tree) (r.report tree) ty ++ reports_on r tree later) p
+          (left_after exact move gone (that (r.test tree) (r.report tree) ty) (reports_on r new (map (type_moved f) later)) (reports_on r tree later) (that_begins gone r sees ty at) q)))
 
-      by : (rs : List TypeRule) → All (KeptOn (map (type_moved f) earlier) earlier) rs → All (KeptOn (map (type_moved f) later) later) rs → All (λ t. All (λ r. r.test new t ≡ false) rs) types → All (KeptOn (map (type_moved f) earlier ++ (types ++ map (type_moved f) later)) (earlier ++ ty ∷ later)) rs
-      by [] p q h = All-nil (KeptOn (map (type_moved f) earlier ++ (types ++ map (type_moved f) later)) (earlier ++ ty ∷ later))
-      by (r ∷ rs) p q h =
-          All-cons (KeptOn (map (type_moved f) earlier ++ (types ++ map (type_moved f) later)) (earlier ++ ty ∷ later)) r rs (one r (All-head (KeptOn (map (type_moved f) earlier) earlier) r rs p) (All-head (KeptOn (map (type_moved f) later) later) r rs q) (of_rule r rs types h)) (by rs (All-tail (KeptOn (map (type_moved f) earlier) earlier) r rs p) (All-tail (KeptOn (map (type_moved f) later) later) r rs q) (of_rest r rs types h))
+      by : (rs : List TypeRule) → All (LeftOn exact gone (map (type_moved f) earlier) earlier) rs → All (LeftOn exact gone (map (type_moved f) later) later) rs → All SeesNames rs → All (λ t. All (λ r. r.test new t ≡ false) rs) types →
+          All (LeftOn exact gone (map (type_moved f) earlier ++ (types ++ map (type_moved f) later)) (earlier ++ ty ∷ later)) rs
+      by [] p q sees h = All-nil (LeftOn exact gone (map (type_moved f) earlier ++ (types ++ map (type_moved f) later)) (earlier ++ ty ∷ later))
+      by (r ∷ rs) p q sees h =
+          All-cons (LeftOn exact gone (map (type_moved f) earlier ++ (types ++ map (type_moved f) later)) (earlier ++ ty ∷ later)) r rs
+          (one r (All-head SeesNames r rs sees) (All-head (LeftOn exact gone (map (type_moved f) earlier) earlier) r rs p) (All-head (LeftOn exact gone (map (type_moved f) later) later) r rs q) (of_rule r rs types h))
+          (by rs (All-tail (LeftOn exact gone (map (type_moved f) earlier) earlier) r rs p) (All-tail (LeftOn exact gone (map (type_moved f) later) later) r rs q) (All-tail SeesNames r rs sees) (of_rest r rs types h))
 
   -- the name of the new word
   pub word_name : name_at new (f n) ≡ full_name w
@@ -219,7 +254,7 @@ module _ (tree : Tree) (before : List Stmt) (st : Stmt) (after : List Stmt) (now
 
   -- ---- the statement
 
-  module _ (first : st.first ≤ n) (types : All (λ r. Kept move (reports_on r new (column_types now)) (reports_on r tree (column_types st))) type_rules) where
+  module _ (exact : Bool) (gone : ℕ) (first : st.first ≤ n) (types : All (λ r. Left exact move gone (reports_on r new (column_types now)) (reports_on r tree (column_types st))) type_rules) where
     begins_there : now.first ≡ f st.first → (token_at new.toks now.first).start ≡ move (token_at tree.toks st.first).start
     begins_there e =
         ap (λ (x : ℕ). (token_at new.toks x).start) e ∙ starts_follow st.first (inl first) (omega (arith, first, order, within))
@@ -229,19 +264,19 @@ module _ (tree : Tree) (before : List Stmt) (st : Stmt) (after : List Stmt) (now
 
     -- CREATE TABLE with other elements, of which the same refer to other tables
     pub table_like : (head : TableHead) (elems elems' : List Elem) → st.kind ≡ stmt.CreateTable → st.body ≡ table_of head elems → now ≡ record (stmt_moved f st) { body = table_of (head_moved f head) elems' } →
-        list_any refers elems' ≡ list_any refers elems → Below head.path n → Like move tree new st now
+        list_any refers elems' ≡ list_any refers elems → Below head.path n → Like exact move gone tree new st now
     table_like head elems elems' kind has is_now reference below =
         let body_is : now.body ≡ table_of (head_moved f head) elems' = ap (λ (x : Stmt). x.body) is_now in
         let kind_is : now.kind ≡ st.kind = ap (λ (x : Stmt). x.kind) is_now in
         let cuts = path_same head.path below in
-        inert_like move tree new st now kind_is (subst Inert (sym has) (table_inert head elems)) (subst Inert (sym body_is) (table_inert (head_moved f head) elems'))
+        inert_like exact move gone tree new st now kind_is (subst Inert (sym has) (table_inert head elems)) (subst Inert (sym body_is) (table_inert (head_moved f head) elems'))
         (λ path.
         (λ i. is_path new (created_by ((kind_is ∙ kind) i) (body_is i)) path) ∙ ap (λ (q : List (List ℕ)). same_path path q) cuts ∙ sym (λ i. is_path tree (created_by (kind i) (has i)) path))
         (ap has_reference body_is ∙ reference ∙ sym (ap has_reference has)) (begins_there (ap (λ (x : Stmt). x.first) is_now)) (no_actions refl (ap actions_in body_is)) types
 
     -- ALTER TABLE with other actions
     pub alter_like : (path : Option Span) (actions actions' : List Action) → st.kind ≡ stmt.AlterTable → st.body ≡ body.Alter path actions → now ≡ record (stmt_moved f st) { body = body.Alter (option_map (span_moved f) path) actions' } →
-        Kept move (those is_plain_detach (detaches.report new) actions') (those is_plain_detach (detaches.report tree) actions) → Like move tree new st now
+        Kept move (those is_plain_detach (detaches.report new) actions') (those is_plain_detach (detaches.report tree) actions) → Like exact move gone tree new st now
     unfolding same_kind
     alter_like path actions actions' kind has is_now acts =
         let body_is : now.body ≡ body.Alter (option_map (span_moved f) path) actions' = ap (λ (x : Stmt). x.body) is_now in
@@ -249,7 +284,7 @@ module _ (tree : Tree) (before : List Stmt) (st : Stmt) (after : List Stmt) (now
         let old : detaches.reports_of_require_concurrent_partition_detach tree st ≡ those is_plain_detach (detaches.report tree) actions = λ i. those is_plain_detach (detaches.report tree) (cond (same_kind (kind i) stmt.AlterTable) (actions_in (has i)) []) in
         let fresh : detaches.reports_of_require_concurrent_partition_detach new now ≡ those is_plain_detach (detaches.report new) actions' =
         λ i. those is_plain_detach (detaches.report new) (cond (same_kind ((kind_is ∙ kind) i) stmt.AlterTable) (actions_in (body_is i)) []) in
-        inert_like move tree new st now kind_is (subst Inert (sym has) (alter_inert path actions)) (subst Inert (sym body_is) (alter_inert (option_map (span_moved f) path) actions'))
+        inert_like exact move gone tree new st now kind_is (subst Inert (sym has) (alter_inert path actions)) (subst Inert (sym body_is) (alter_inert (option_map (span_moved f) path) actions'))
         (λ q. (λ i. is_path new (created_by now.kind (body_is i)) q) ∙ sym (λ i. is_path tree (created_by st.kind (has i)) q))
         (ap has_reference body_is ∙ sym (ap has_reference has)) (begins_there (ap (λ (x : Stmt). x.first) is_now))
         (subst (λ (l : List Violation). Kept move l (detaches.reports_of_require_concurrent_partition_detach tree st)) (sym fresh) (subst (λ (l : List Violation). Kept move (those is_plain_detach (detaches.report new) actions') l) (sym old) acts)) types

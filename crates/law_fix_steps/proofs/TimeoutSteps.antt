@@ -1,5 +1,5 @@
 -- The fixes that set a timeout at the start of a text are steps.
-use Rattle.std.proofs.Common.{◌≡◌, ◌≢◌, ◌⊎◌, inl, inr, ℕ, ◌<◌, ◌^◌, Bool, true, List, [], ◌∷◌, ◌++◌, length, sym, refl, ap, ◌∙◌, subst, Some}
+use Rattle.std.proofs.Common.{◌≡◌, ◌≢◌, ◌⊎◌, inl, inr, ℕ, ◌<◌, ◌^◌, Bool, true, false, List, [], ◌∷◌, ◌++◌, length, sym, refl, ap, ◌∙◌, subst, Some}
 use Rattle.std.proofs.lemmas.List.Elements.{All-nil, All-append}
 use Rattle.std.specs.Prelude.{All, codes}
 use Rattle.text_pos.specs.Line.{ending_bytes, line_ending_of}
@@ -35,16 +35,16 @@ use Rattle.sql_tree.proofs.TreeLaws.{one_tree}
 use Rattle.law_fix_steps.specs.Kept.{SameAt}
 use Rattle.law_fix_steps.specs.Step.{timeouts}
 use Rattle.law_fix_steps.proofs.Fits.{Anywhere, StepsIf}
-use Rattle.law_fix_steps.proofs.Comments.{set_says}
+use Rattle.law_fix_steps.proofs.Comments.{set_ignores, set_says}
 use Rattle.law_fix_steps.proofs.InFront.{set_aligned}
 use Rattle.law_fix_steps.proofs.Steps.{Aligns, FixAligns, FixSilences, table_steps}
 
 -- ---- the fix
 
-aligns : (tree : Tree) (settings : LinterSettings) (name : Text) (digit : ℕ) (title setting : Text) → IsTree tree → FirstOf tree.toks → Parameter name digit →
+aligns : (tree : Tree) (settings : LinterSettings) (gone : ℕ) (name : Text) (digit : ℕ) (title setting : Text) → IsTree tree → FirstOf tree.toks → Parameter name digit →
     ((ending : Text) → setting ++ ending ≡ made_text (set_made name digit ending)) →
-    (f : FixValue) → setting_fix tree title setting ≡ f → length (edited tree.text f.edits) < 2 ^ 32 → Aligns tree settings f.edits
-aligns tree settings name digit title setting is first parameter texts f has short =
+    (f : FixValue) → setting_fix tree title setting ≡ f → length (edited tree.text f.edits) < 2 ^ 32 → Aligns false tree settings gone f.edits
+aligns tree settings gone name digit title setting is first parameter texts f has short =
     let ending : Text = ending_bytes (line_ending_of tree.text) in
     let end = ending_is (line_ending_of tree.text) in
     let at : ℕ = first.k.start in
@@ -61,23 +61,24 @@ aligns tree settings name digit title setting is first parameter texts f has sho
       is = reads.is;
       move = start_moved at (length (made_text (set_made name digit ending)));
       place = λ x. ap (λ (es : List Edit). place_moved es x) edits ∙ one_moved (made_text (set_made name digit ending)) at x;
-      aligned = set_aligned tree is name digit ending first settings.assume_in_transaction;
+      aligned = set_aligned false gone tree is name digit ending first settings.assume_in_transaction;
       comments = set_says tree name ending digit first.front first.k first.after is first.parts;
+      ignores = set_ignores tree name ending digit first.front first.k first.after is first.parts;
     }
 
 module _ (tree : Tree) (rules : Rules) (settings : LinterSettings) (is : IsTree tree) where
   abbrev Goes : Violation → Type 0
-  Goes v = FixAligns tree settings (Anywhere tree) v
+  Goes v = FixAligns false tree settings (Anywhere tree) v
 
   lock_aligns : FirstOf tree.toks → (st : Stmt) → Goes (lock_report tree st)
   unfolding lock_report
   lock_aligns first st f fixed fits short =
-      aligns tree settings lock_timeout 49 (codes "Add lock timeout") (codes "set lock_timeout = '1s';") is first lock_parameter lock_text f (inside_some fixed) short
+      aligns tree settings (lock_report tree st).text_range.start lock_timeout 49 (codes "Add lock timeout") (codes "set lock_timeout = '1s';") is first lock_parameter lock_text f (inside_some fixed) short
 
   statement_aligns : FirstOf tree.toks → (st : Stmt) → Goes (statement_report tree st)
   unfolding statement_report
   statement_aligns first st f fixed fits short =
-      aligns tree settings statement_timeout 53 (codes "Add statement timeout") (codes "set statement_timeout = '5s';") is first statement_parameter statement_text f (inside_some fixed) short
+      aligns tree settings (statement_report tree st).text_range.start statement_timeout 53 (codes "Add statement timeout") (codes "set statement_timeout = '5s';") is first statement_parameter statement_text f (inside_some fixed) short
 
   both_align : FirstOf tree.toks → (a b : Bool) (st : Stmt) → All Goes (both_reports a b tree rules st)
   both_align first a b st =
@@ -107,5 +108,5 @@ module _ (tree : Tree) (rules : Rules) (settings : LinterSettings) (is : IsTree 
 
 pub timeouts_step : StepsIf Anywhere timeouts
 timeouts_step tree rules settings is =
-    table_steps (builds ∷ dropped ∷ rebuilt ∷ detached ∷ type_table varchars ∷ type_table timestamps ∷ type_table ints ∷ type_table smallints ∷ []) timeouts [] refl tree rules settings (Anywhere tree)
+    table_steps (builds ∷ dropped ∷ rebuilt ∷ detached ∷ type_table varchars ∷ type_table timestamps ∷ type_table ints ∷ type_table smallints ∷ []) timeouts [] refl false tree rules settings (Anywhere tree)
     (all_align tree rules settings is) (silences tree rules settings is)

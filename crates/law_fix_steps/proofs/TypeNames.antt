@@ -1,14 +1,18 @@
 -- What the four rules on column types see of a type: nothing of the text but its name.
-use Rattle.std.proofs.Common.{◌≡◌, ℕ, Bool, true, false, cond, List, sym, refl, ap, ◌∙◌, subst, None}
+use Rattle.std.proofs.Common.{◌≡◌, ℕ, Bool, true, false, cond, List, sym, refl, ap, ◌∙◌, subst, Option, Some, None}
 use Rattle.std.proofs.lemmas.List.Elements.{All-nil, All-cons}
 use Rattle.std.specs.Prelude.{All, ◌&&◌, ◌||◌, not, codes, is_some, [], ◌∷◌}
+use Rattle.std.specs.Option.{unwrap_or}
 use Rattle.std.specs.Str.{bytes_eq}
 use Rattle.sql_name.specs.Name.{full_name}
 use Rattle.sql_tree.specs.declared.nodes.ColType.{ColType}
 use Rattle.sql_tree.specs.declared.nodes.TyKind.TheVariants as kind
-use Rattle.sql_tree.specs.Range.{token_at}
+use Rattle.sql_tree.specs.Range.{span_range_of, token_at}
 use Rattle.sql_tree.specs.Statement.{Tree}
 use Rattle.law_renumber.specs.Moved.{type_moved}
+use Rattle.lint_base.specs.declared.violation.Violation.{Violation}
+use Rattle.lint_base.specs.Edits.{replacement}
+use Rattle.lint_pass.specs.Fixes.{replacement_fix}
 use Rattle.lint_node.specs.ColumnTypes.{has_arguments, is_of_kind, is_without_zone}
 use Rattle.lint_node.specs.Same.{same_type}
 use Rattle.lint_transaction.specs.Names.{name_at}
@@ -20,45 +24,79 @@ use Rattle.pass_data_type.specs.TypeNames.{row_for, row_of}
 use Rattle.pass_data_type.specs.WiderIntegers as integer
 use Rattle.law_type_fixes.specs.Rules.{TypeRule, varchars, timestamps, ints, smallints}
 use Rattle.law_type_fixes.proofs.Reports.{arguments_stay, row_stays}
+use Rattle.law_fix_steps.specs.Left.{EditsFollow, FixFollows}
 use Rattle.law_fix_steps.proofs.Like.{type_rules}
+use Rattle.law_fix_steps.proofs.Near.{Near, replacement_follows}
 
 -- ---- a type of the same name
+
+-- the tokens of a type keep their distance from its first one
+pub record TypeNear (f : ℕ → ℕ) (tree new : Tree) (ty : ColType) : Type 0 where
+  pub inner_first : Near f tree new ty.whole.first ty.inner.first
+  pub inner_last : Near f tree new ty.whole.first ty.inner.last
+  pub name : Near f tree new ty.whole.first ty.name
+
+-- and so do the fixes of two reports on it
+abbrev pub ReportFollows : (Tree → ColType → Violation) → (ℕ → ℕ) → Tree → Tree → ColType → Type 0
+ReportFollows report f tree new ty =
+    FixFollows (token_at new.toks (f ty.whole.first)).start (token_at tree.toks ty.whole.first).start (report new (type_moved f ty)).fix (report tree ty).fix
 
 pub record SeesNames (r : TypeRule) : Type 0 where
   pub code : (tree : Tree) (ty : ColType) → (r.report tree ty).code ≡ r.code
   pub place : (tree : Tree) (ty : ColType) → (r.report tree ty).text_range.start ≡ (token_at tree.toks ty.whole.first).start
   pub test : (tree new : Tree) (f : ℕ → ℕ) (ty : ColType) → name_at new (f ty.name) ≡ name_at tree ty.name → r.test new (type_moved f ty) ≡ r.test tree ty
+  pub fix : (tree new : Tree) (f : ℕ → ℕ) (ty : ColType) → name_at new (f ty.name) ≡ name_at tree ty.name → TypeNear f tree new ty → ReportFollows r.report f tree new ty
 
-varchars_see : SeesNames varchars
+pub varchars_see : SeesNames varchars
 unfolding varchar.report
 varchars_see = record {
   code = λ tree ty. refl;
   place = λ tree ty. refl;
   test = λ tree new f ty name. (let args = arguments_stay f ty in λ i. args i && (is_of_kind kind.Varchar ty || (is_of_kind kind.Path ty && bytes_eq (name i) (codes "varchar"))));
+  fix = λ tree new f ty name near. replacement_follows f tree new ty.whole.first (codes "text") (codes "text") ty.inner.first ty.inner.last refl near.inner_first near.inner_last;
 }
 
-timestamps_see : SeesNames timestamps
+pub timestamps_see : SeesNames timestamps
 unfolding timestamp.report
 timestamps_see = record {
   code = λ tree ty. refl;
   place = λ tree ty. refl;
   test = λ tree new f ty name. (let args = arguments_stay f ty in λ i. is_without_zone ty || (args i && (is_of_kind kind.Path ty && bytes_eq (name i) (codes "varchar"))));
+  fix = λ tree new f ty name near. fixes tree new f ty near (is_without_zone ty);
 }
+  where
+    fixes : (tree new : Tree) (f : ℕ → ℕ) (ty : ColType) → TypeNear f tree new ty → (b : Bool) →
+        FixFollows (token_at new.toks (f ty.whole.first)).start (token_at tree.toks ty.whole.first).start
+        (cond b (Some (replacement_fix (codes "Replace with `timestamptz`") (codes "timestamptz") (span_range_of new.toks (f ty.inner.first) (f ty.inner.last)))) None)
+        (cond b (Some (replacement_fix (codes "Replace with `timestamptz`") (codes "timestamptz") (span_range_of tree.toks ty.inner.first ty.inner.last))) None)
+    fixes tree new f ty near true = replacement_follows f tree new ty.whole.first (codes "timestamptz") (codes "timestamptz") ty.inner.first ty.inner.last refl near.inner_first near.inner_last
+    fixes tree new f ty near false = tt
 
-ints_see : SeesNames ints
+-- a wide type in place of a narrow one
+wide_follows : (rows : List (List ℕ × WideInteger)) (tree new : Tree) (f : ℕ → ℕ) (ty : ColType) → name_at new (f ty.name) ≡ name_at tree ty.name → TypeNear f tree new ty →
+    EditsFollow (token_at new.toks (f ty.whole.first)).start (token_at tree.toks ty.whole.first).start
+    (replacement (span_range_of new.toks (f ty.name) (f ty.name)) (integer.word (unwrap_or (row_for rows new (type_moved f ty)) wide.Bigint)) ∷ [])
+    (replacement (span_range_of tree.toks ty.name ty.name) (integer.word (unwrap_or (row_for rows tree ty) wide.Bigint)) ∷ [])
+wide_follows rows tree new f ty name near =
+    replacement_follows f tree new ty.whole.first (integer.word (unwrap_or (row_for rows new (type_moved f ty)) wide.Bigint)) (integer.word (unwrap_or (row_for rows tree ty) wide.Bigint)) ty.name ty.name
+    (ap (λ (o : Option WideInteger). integer.word (unwrap_or o wide.Bigint)) (row_stays rows tree new f ty name)) near.name near.name
+
+pub ints_see : SeesNames ints
 unfolding integer.report
 ints_see = record {
   code = λ tree ty. refl;
   place = λ tree ty. refl;
   test = λ tree new f ty name. ap is_some (row_stays integer.int_rows tree new f ty name);
+  fix = wide_follows integer.int_rows;
 }
 
-smallints_see : SeesNames smallints
+pub smallints_see : SeesNames smallints
 unfolding integer.report
 smallints_see = record {
   code = λ tree ty. refl;
   place = λ tree ty. refl;
   test = λ tree new f ty name. ap is_some (row_stays integer.smallint_rows tree new f ty name);
+  fix = wide_follows integer.smallint_rows;
 }
 
 pub all_see : All SeesNames type_rules

@@ -54,6 +54,7 @@ use Rattle.law_type_fixes.proofs.TypesApart.{types_apart}
 use Rattle.sql_tree.proofs.TreeLaws.{one_tree}
 use Rattle.law_type_fixes.proofs.Tables.{one_of}
 use Rattle.law_fix_steps.specs.Kept.{Kept}
+use Rattle.law_fix_steps.specs.Left.{Left}
 use Rattle.law_fix_steps.proofs.ActionsAside.{Aside, actions_aside}
 use Rattle.law_fix_steps.proofs.CreatedPaths.{Below, path_below}
 use Rattle.law_fix_steps.proofs.Kept.{NodeKept, those_kept}
@@ -108,6 +109,9 @@ module _ (tree : Tree) (before : List Stmt) (st : Stmt) (after : List Stmt) (ear
       let high = v.1 in let top = a.within in
       record { begins = p.0; ends = q.1; low = u.0; high = high; within = omega (arith, high, top) }
 
+  abbrev pub type_start : ℕ
+  type_start = (token_at tree.toks ty.whole.first).start
+
   -- ---- with the tree that has the word
 
   module _ (n m : ℕ) (w : Text) (order : n ≤ m) (place : Place tree st ty apart.until n m) (now : Stmt) where
@@ -122,17 +126,20 @@ module _ (tree : Tree) (before : List Stmt) (st : Stmt) (after : List Stmt) (ear
 
     -- The types are the old ones, and in the place of one are those that no rule reports.
     types_kept : (types : List ColType) → column_types now ≡ map (type_moved f) earlier ++ (types ++ map (type_moved f) later) → All (λ t. All (λ r. r.test new t ≡ false) type_rules) types →
-        All (λ r. Kept move (reports_on r new (column_types now)) (reports_on r tree (column_types st))) type_rules
+        All (λ r. Left true move type_start (reports_on r new (column_types now)) (reports_on r tree (column_types st))) type_rules
     types_kept types e silent =
         let a = apart in
         let low = place.low in let high = place.high in
-        subst (λ (l : List ColType). All (λ r. Kept move (reports_on r new l) (reports_on r tree (column_types st))) type_rules) (sym e)
-        (subst (λ (l : List ColType). All (λ r. Kept move (reports_on r new (map (type_moved f) earlier ++ (types ++ map (type_moved f) later))) (reports_on r tree l)) type_rules) (sym cut)
-        (retyped.types_now tree before st after now n m w is parts order place.within earlier ty later types
-        (retyped.side_types tree before st after now n m w is parts order place.within 0 ty.whole.first
-        (λ x p q. retyped.low_follows tree before st after now n m w is parts order place.within x (omega (arith, q, low))) earlier a.earlier_is)
-        (retyped.side_types tree before st after now n m w is parts order place.within a.until (length tree.toks)
-        (λ x p q. retyped.high_follows tree before st after now n m w is parts order place.within x (omega (arith, p, high)) q) later a.later_is) silent))
+        subst (λ (l : List ColType). All (λ r. Left true move type_start (reports_on r new l) (reports_on r tree (column_types st))) type_rules) (sym e)
+        (subst (λ (l : List ColType). All (λ r. Left true move type_start (reports_on r new (map (type_moved f) earlier ++ (types ++ map (type_moved f) later))) (reports_on r tree l)) type_rules) (sym cut)
+        (retyped.types_now tree before st after now n m w is parts order place.within true type_start earlier ty later types refl
+        (retyped.side_types tree before st after now n m w is parts order place.within true type_start 0 ty.whole.first 0 0
+        (λ x p q. retyped.low_follows tree before st after now n m w is parts order place.within x (omega (arith, q, low)))
+        (λ x p q. retyped.low_shifts tree before st after now n m w is parts order place.within x (omega (arith, q, low))) earlier a.earlier_is)
+        (retyped.side_types tree before st after now n m w is parts order place.within true type_start a.until (length tree.toks)
+        (retyped.down tree before st after now n m w is parts order place.within) (retyped.up tree before st after now n m w is parts order place.within)
+        (λ x p q. retyped.high_follows tree before st after now n m w is parts order place.within x (omega (arith, p, high)) q)
+        (λ x p q. retyped.high_shifts tree before st after now n m w is parts order place.within x (omega (arith, p, high)) q) later a.later_is) silent))
 
     below : (head : TableHead) (elems : List Elem) → st.kind ≡ stmt.CreateTable → st.body ≡ table_of head elems → Below head.path n
     below head elems kind has =
@@ -140,8 +147,8 @@ module _ (tree : Tree) (before : List Stmt) (st : Stmt) (after : List Stmt) (ear
         let first = b.first in let last = b.last in let low = place.low in
         record { first = omega (arith, first, low); last = omega (arith, last, low) }
 
-    aligned : (assumed : Bool) → Like move tree new st now → Aligned move assumed tree new
-    aligned assumed like = worded_aligned tree before st after now n m w is parts order place.within place.begins place.ends assumed like
+    aligned : (assumed : Bool) → Like true move type_start tree new st now → Aligned true move type_start assumed tree new
+    aligned assumed like = worded_aligned tree before st after now n m w is parts order place.within true type_start place.begins place.ends assumed like
 
     -- the actions, of which none that detaches begins in the run
     nodes : (path : Option Span) (actions : List Action) → st.body ≡ body.Alter path actions → All (λ c. is_plain_detach c ≡ true → (c.first ≤ n) ⊎ (m + 1 ≤ c.first)) actions →
@@ -150,16 +157,16 @@ module _ (tree : Tree) (before : List Stmt) (st : Stmt) (after : List Stmt) (ear
         retyped.nodes tree before st after now n m w is parts order place.within actions
         (subst (λ (b : Body). All (λ c. action_moved (outside st.first (st.last + 1)) c ≡ c) (actions_in b)) has (stmt_actions_fixed (outside st.first (st.last + 1)) st fixed)) side
 
-    table_like : (types : All (λ r. Kept move (reports_on r new (column_types now)) (reports_on r tree (column_types st))) type_rules) (head : TableHead) (elems elems' : List Elem) →
-        st.kind ≡ stmt.CreateTable → st.body ≡ table_of head elems → now ≡ record (stmt_moved f st) { body = table_of (head_moved f head) elems' } → list_any refers elems' ≡ list_any refers elems → Like move tree new st now
+    table_like : (types : All (λ r. Left true move type_start (reports_on r new (column_types now)) (reports_on r tree (column_types st))) type_rules) (head : TableHead) (elems elems' : List Elem) →
+        st.kind ≡ stmt.CreateTable → st.body ≡ table_of head elems → now ≡ record (stmt_moved f st) { body = table_of (head_moved f head) elems' } → list_any refers elems' ≡ list_any refers elems → Like true move type_start tree new st now
     table_like types head elems elems' kind has is_now reference =
-        retyped.table_like tree before st after now n m w is parts order place.within place.begins types head elems elems' kind has is_now reference (below head elems kind has)
+        retyped.table_like tree before st after now n m w is parts order place.within true type_start place.begins types head elems elems' kind has is_now reference (below head elems kind has)
 
-    alter_like : (types : All (λ r. Kept move (reports_on r new (column_types now)) (reports_on r tree (column_types st))) type_rules) (path : Option Span) (actions actions' : List Action) →
+    alter_like : (types : All (λ r. Left true move type_start (reports_on r new (column_types now)) (reports_on r tree (column_types st))) type_rules) (path : Option Span) (actions actions' : List Action) →
         st.kind ≡ stmt.AlterTable → st.body ≡ body.Alter path actions → now ≡ record (stmt_moved f st) { body = body.Alter (option_map (span_moved f) path) actions' } →
-        Kept move (those is_plain_detach (detaches.report new) actions') (those is_plain_detach (detaches.report tree) actions) → Like move tree new st now
+        Kept move (those is_plain_detach (detaches.report new) actions') (those is_plain_detach (detaches.report tree) actions) → Like true move type_start tree new st now
     alter_like types path actions actions' kind has is_now acts =
-        retyped.alter_like tree before st after now n m w is parts order place.within place.begins types path actions actions' kind has is_now acts
+        retyped.alter_like tree before st after now n m w is parts order place.within true type_start place.begins types path actions actions' kind has is_now acts
 
   -- ---- the last name becomes the word
 
@@ -176,7 +183,7 @@ module _ (tree : Tree) (before : List Stmt) (st : Stmt) (after : List Stmt) (ear
     abbrev pub renamed : Tree
     renamed = worded_tree tree ty.name ty.name w before now after
 
-    renamed_types : All (λ r. Kept (move ty.name ty.name w same_order name_place now) (reports_on r renamed (column_types now)) (reports_on r tree (column_types st))) type_rules
+    renamed_types : All (λ r. Left true (move ty.name ty.name w same_order name_place now) type_start (reports_on r renamed (column_types now)) (reports_on r tree (column_types st))) type_rules
     renamed_types =
         types_kept ty.name ty.name w same_order name_place now (type_moved g ty ∷ [])
         (ap column_types is_now ∙ types_moved g st ∙ ap (λ (l : List ColType). map (type_moved g) l) cut ∙ map-append (type_moved g) earlier (ty ∷ later))
@@ -191,23 +198,23 @@ module _ (tree : Tree) (before : List Stmt) (st : Stmt) (after : List Stmt) (ear
         by (inl h) = inr (omega (arith, h))
         by (inr h) = inl h
 
-    by_actions : (path : Option Span) (actions : List Action) → st.kind ≡ stmt.AlterTable → st.body ≡ body.Alter path actions → Like (move ty.name ty.name w same_order name_place now) tree renamed st now
+    by_actions : (path : Option Span) (actions : List Action) → st.kind ≡ stmt.AlterTable → st.body ≡ body.Alter path actions → Like true (move ty.name ty.name w same_order name_place now) type_start tree renamed st now
     by_actions path actions kind has =
         alter_like ty.name ty.name w same_order name_place now renamed_types path actions (map (action_moved g) actions) kind has (is_now ∙ (λ i. record (stmt_moved g st) { body = body_moved g (has i) }))
         (those_kept (move ty.name ty.name w same_order name_place now) is_plain_detach is_plain_detach (detaches.report tree) (detaches.report renamed) (action_moved g) actions
         (nodes ty.name ty.name w same_order name_place now path actions has (each_side actions)))
 
-    renamed_like : Like (move ty.name ty.name w same_order name_place now) tree renamed st now
+    renamed_like : Like true (move ty.name ty.name w same_order name_place now) type_start tree renamed st now
     renamed_like = by (has_type st earlier ty later cut)
       where
-        by : HasType st ty → Like (move ty.name ty.name w same_order name_place now) tree renamed st now
+        by : HasType st ty → Like true (move ty.name ty.name w same_order name_place now) type_start tree renamed st now
         by (created head front c back kind has typed) =
             table_like ty.name ty.name w same_order name_place now renamed_types head (front ++ elem.Column c ∷ back) (map (elem_moved g) (front ++ elem.Column c ∷ back)) kind has
             (is_now ∙ (λ i. record (stmt_moved g st) { body = body_moved g (has i) })) (any_same refers (elem_moved g) (refers_same g) (front ++ elem.Column c ∷ back))
         by (added path front b back c kind has p q) = by_actions path (front ++ b ∷ back) kind has
         by (altered path front b back first p others kind has q r s) = by_actions path (front ++ b ∷ back) kind has
 
-    pub renamed_aligned : (assumed : Bool) → Aligned (move ty.name ty.name w same_order name_place now) assumed tree renamed
+    pub renamed_aligned : (assumed : Bool) → Aligned true (move ty.name ty.name w same_order name_place now) type_start assumed tree renamed
     renamed_aligned assumed = aligned ty.name ty.name w same_order name_place now assumed renamed_like
 
   -- ---- the inner tokens become the word
@@ -237,7 +244,7 @@ module _ (tree : Tree) (before : List Stmt) (st : Stmt) (after : List Stmt) (ear
         (all_silent w is_new next t kind (ap (name_at next) at ∙ retyped.word_name_at tree before st after now ty.inner.first ty.inner.last w is parts inner_order inner_place.within)) (All-nil (λ t. All (λ r. r.test next t ≡ false) type_rules)))
     word_silent types (gone e why) = subst (λ (l : List ColType). All (λ t. All (λ r. r.test next t ≡ false) type_rules) l) (sym e) (All-nil (λ t. All (λ r. r.test next t ≡ false) type_rules))
 
-    next_types : All (λ r. Kept by_word (reports_on r next (column_types now)) (reports_on r tree (column_types st))) type_rules
+    next_types : All (λ r. Left true by_word type_start (reports_on r next (column_types now)) (reports_on r tree (column_types st))) type_rules
     next_types = types_kept ty.inner.first ty.inner.last w inner_order inner_place now now_types.types now_types.is (word_silent now_types.types now_types.are)
 
     -- a tree of the same text has the same statement
@@ -296,7 +303,7 @@ module _ (tree : Tree) (before : List Stmt) (st : Stmt) (after : List Stmt) (ear
         none p = other (sym kind ∙ (is_plain a p).kind)
 
     by_action : (path : Option Span) (front : List Action) (b : Action) (back : List Action) (Is : Action → Type 0) → st.kind ≡ stmt.AlterTable → st.body ≡ body.Alter path (front ++ b ∷ back) →
-        ((a : Action) → Is a → OneNode (action_moved h b) b → OneNode a b) → ActionNow h st path front Is back now → Like by_word tree next st now
+        ((a : Action) → Is a → OneNode (action_moved h b) b → OneNode a b) → ActionNow h st path front Is back now → Like true by_word type_start tree next st now
     by_action path front b back Is kind has one act =
         let all = all_nodes path (front ++ b ∷ back) kind has in
         alter_like ty.inner.first ty.inner.last w inner_order inner_place now next_types path (front ++ b ∷ back) (map (action_moved h) front ++ act.action ∷ map (action_moved h) back) kind has act.is
@@ -310,10 +317,10 @@ module _ (tree : Tree) (before : List Stmt) (st : Stmt) (after : List Stmt) (ear
     retyped_one c b a (column e) node = subst (λ (x : Action). OneNode x b) (sym e) (like_action (retyped_action ty.inner.first (action_moved h b)) b refl refl refl node)
     retyped_one c b a (constraint i) node = constraint_node a b (ap (λ (x : Action). x.kind) i.is)
 
-    next_like : Like by_word tree next st now
+    next_like : Like true by_word type_start tree next st now
     next_like = by (has_type st earlier ty later cut)
       where
-        by : HasType st ty → Like by_word tree next st now
+        by : HasType st ty → Like true by_word type_start tree next st now
         by (created head front c back kind has typed) =
             let e = same_now (λ x. x ≡ retyped_table h ty.inner.first st head front c back)
             (created_type_reads tree before st after head front c back ty w is parts kind has typed replaced name joins short) in
@@ -330,5 +337,5 @@ module _ (tree : Tree) (before : List Stmt) (st : Stmt) (after : List Stmt) (ear
             (same_now (ActionNow h st path front (λ x. x ≡ retyped_in h ty.inner.first b first p others) back)
             (set_type_reads tree before st after path front b back first p others ty w is parts kind has q r s replaced name joins short))
 
-    pub retyped_aligned : (assumed : Bool) → Aligned by_word assumed tree next
+    pub retyped_aligned : (assumed : Bool) → Aligned true by_word type_start assumed tree next
     retyped_aligned assumed = aligned ty.inner.first ty.inner.last w inner_order inner_place now assumed next_like

@@ -41,11 +41,13 @@ use Rattle.law_type_fixes.proofs.LastNames.{names_become_words}
 use Rattle.law_type_fixes.proofs.Tokens.{bounds}
 use Rattle.law_type_fixes.proofs.TypesApart.{types_apart}
 use Rattle.law_type_fixes.proofs.Words.{HasFix, InnerFix, NameFix, ints_fix, smallints_fix, timestamps_fix, varchars_fix}
-use Rattle.law_fix_steps.specs.Step.{FixesStep, FixSteps, JoinNoWord, timeouts}
-use Rattle.law_fix_steps.proofs.Fits.{BetweenWords, StepsIf}
-use Rattle.law_fix_steps.proofs.Comments.{type_says}
-use Rattle.law_fix_steps.proofs.Steps.{FixAligns, FixSilences, both_of, mended_silences, table_steps}
-use Rattle.law_fix_steps.proofs.TypeNames.{IsNewName}
+use Rattle.law_fix_steps.specs.Leaves.{FixLeaves, FixesLeave}
+use Rattle.law_fix_steps.specs.Step.{JoinNoWord, timeouts}
+use Rattle.law_fix_steps.proofs.Fits.{BetweenWords, LeavesIf}
+use Rattle.law_fix_steps.proofs.Comments.{type_ignores, type_says}
+use Rattle.law_fix_steps.proofs.Steps.{FixAligns, FixSilences, both_of, mended_silences, table_leaves}
+use Rattle.law_fix_steps.proofs.Like.{Aligned}
+use Rattle.law_fix_steps.proofs.TypeNames.{IsNewName, SeesNames, ints_see, smallints_see, timestamps_see, varchars_see}
 use Rattle.law_fix_steps.proofs.TypeNames.IsNewName.{text, timestamptz, wider}
 use Rattle.law_fix_steps.proofs.TypeSteps.{renamed_aligned, retyped_aligned}
 
@@ -106,8 +108,8 @@ FixJoins tree v = (f : FixValue) → v.fix ≡ Some f → JoinNoWord tree f.edit
 
 module _ (of : TypeRule) (names : NamesFix of) (tree : Tree) (settings : LinterSettings) (before : List Stmt) (st : Stmt) (after : List Stmt)
     (earlier : List ColType) (ty : ColType) (later : List ColType) (is : IsTree tree) (parts : tree.stmts ≡ before ++ st ∷ after) (cut : column_types st ≡ earlier ++ ty ∷ later) where
-  inner_aligns : HasFix of InnerFix → of.test tree ty ≡ true → FixAligns tree settings (BetweenWords tree) (of.report tree ty)
-  inner_aligns fixes passes f has fits short =
+  inner_aligns : SeesNames of → HasFix of InnerFix → of.test tree ty ≡ true → FixAligns true tree settings (BetweenWords tree) (of.report tree ty)
+  inner_aligns sees fixes passes f has fits short =
       let fix = fixes tree ty f passes has in
       let a = types_apart tree before st after earlier ty later is parts cut in
       let last = stays_within ty.whole.first a.until ty.inner.last (ap (λ (x : ColType). x.inner.last) a.here_is) in
@@ -123,12 +125,16 @@ module _ (of : TypeRule) (names : NamesFix of) (tree : Tree) (settings : LinterS
         is = worded.is;
         move = byte_moved (replaced tree ty.inner.first ty.inner.last fix.word);
         place = puts.place;
-        aligned = retyped_aligned tree before st after earlier ty later is parts cut fix.word name fix.replaced fix.names joins room worded.now worded.is worded.has settings.assume_in_transaction;
+        aligned = subst
+            (λ (k : ℕ). Aligned true (byte_moved (replaced tree ty.inner.first ty.inner.last fix.word)) k settings.assume_in_transaction tree (worded_tree tree ty.inner.first ty.inner.last fix.word before worded.now after))
+            (sym (sees.place tree ty))
+            (retyped_aligned tree before st after earlier ty later is parts cut fix.word name fix.replaced fix.names joins room worded.now worded.is worded.has settings.assume_in_transaction);
         comments = type_says tree before worded.now after ty.inner.first ty.inner.last fix.word is a.inner (omega (arith, high, top));
+        ignores = type_ignores tree before worded.now after ty.inner.first ty.inner.last fix.word is a.inner (omega (arith, high, top));
       }
 
-  name_aligns : HasFix of NameFix → of.test tree ty ≡ true → FixAligns tree settings (BetweenWords tree) (of.report tree ty)
-  name_aligns fixes passes f has fits short =
+  name_aligns : SeesNames of → HasFix of NameFix → of.test tree ty ≡ true → FixAligns true tree settings (BetweenWords tree) (of.report tree ty)
+  name_aligns sees fixes passes f has fits short =
       let fix = fixes tree ty f passes has in
       let a = types_apart tree before st after earlier ty later is parts cut in
       let last = stays_within ty.whole.first a.until ty.name (ap (λ (x : ColType). x.name) a.here_is) in
@@ -144,8 +150,11 @@ module _ (of : TypeRule) (names : NamesFix of) (tree : Tree) (settings : LinterS
         is = worded.is;
         move = byte_moved (replaced tree ty.name ty.name fix.word);
         place = puts.place;
-        aligned = renamed_aligned tree before st after earlier ty later is parts cut fix.word name fix.path worded.now worded.has settings.assume_in_transaction;
+        aligned = subst
+            (λ (k : ℕ). Aligned true (byte_moved (replaced tree ty.name ty.name fix.word)) k settings.assume_in_transaction tree (worded_tree tree ty.name ty.name fix.word before worded.now after))
+            (sym (sees.place tree ty)) (renamed_aligned tree before st after earlier ty later is parts cut fix.word name fix.path worded.now worded.has settings.assume_in_transaction);
         comments = type_says tree before worded.now after ty.name ty.name fix.word is (omega arith) (omega (arith, high, top));
+        ignores = type_ignores tree before worded.now after ty.name ty.name fix.word is (omega arith) (omega (arith, high, top));
       }
 
   -- Its range is not empty, so that it joins no word if none is joined at such a range.
@@ -193,9 +202,9 @@ of_all of P one tree rules settings is =
         all_reports (P tree settings) of tree (column_types (stmt_at tree j)) [] (column_types (stmt_at tree j)) refl
         (λ earlier ty later cut passes. one tree settings a.before (stmt_at tree j) a.after earlier ty later is a.parts cut passes)
 
-all_align : (of : TypeRule) → OfEach of (λ tree settings v. FixAligns tree settings (BetweenWords tree) v) → (tree : Tree) (rules : Rules) (settings : LinterSettings) → IsTree tree →
-    All (FixAligns tree settings (BetweenWords tree)) (type_table of tree rules settings)
-all_align of one tree rules settings is = of_all of (λ tree settings v. FixAligns tree settings (BetweenWords tree) v) one tree rules settings is
+all_align : (of : TypeRule) → OfEach of (λ tree settings v. FixAligns true tree settings (BetweenWords tree) v) → (tree : Tree) (rules : Rules) (settings : LinterSettings) → IsTree tree →
+    All (FixAligns true tree settings (BetweenWords tree)) (type_table of tree rules settings)
+all_align of one tree rules settings is = of_all of (λ tree settings v. FixAligns true tree settings (BetweenWords tree) v) one tree rules settings is
 
 silences : (of : TypeRule) → TypeFixesMend (type_table of) → (tree : Tree) (rules : Rules) (settings : LinterSettings) → IsTree tree →
     All (FixSilences (type_table of) tree rules settings (BetweenWords tree)) (type_table of tree rules settings)
@@ -206,49 +215,49 @@ silences of law tree rules settings is =
 abbrev word_tables : List Table
 word_tables = builds ∷ dropped ∷ rebuilt ∷ detached ∷ []
 
-varchars_apart : StepsIf BetweenWords (type_table varchars)
+varchars_apart : LeavesIf BetweenWords (type_table varchars)
 varchars_apart tree rules settings is =
-    table_steps word_tables (type_table varchars) (type_table timestamps ∷ type_table ints ∷ type_table smallints ∷ timeouts ∷ []) refl tree rules settings (BetweenWords tree)
-    (all_align varchars (λ tree settings before st after earlier ty later is parts cut passes. inner_aligns varchars varchars_name tree settings before st after earlier ty later is parts cut varchars_fix passes) tree rules settings is)
+    table_leaves word_tables (type_table varchars) (type_table timestamps ∷ type_table ints ∷ type_table smallints ∷ timeouts ∷ []) refl tree rules settings (BetweenWords tree)
+    (all_align varchars (λ tree settings before st after earlier ty later is parts cut passes. inner_aligns varchars varchars_name tree settings before st after earlier ty later is parts cut varchars_see varchars_fix passes) tree rules settings is)
     (silences varchars (varchars_mend inners_become_words) tree rules settings is)
 
-timestamps_apart : StepsIf BetweenWords (type_table timestamps)
+timestamps_apart : LeavesIf BetweenWords (type_table timestamps)
 timestamps_apart tree rules settings is =
-    table_steps (word_tables ++ type_table varchars ∷ []) (type_table timestamps) (type_table ints ∷ type_table smallints ∷ timeouts ∷ []) refl tree rules settings (BetweenWords tree)
-    (all_align timestamps (λ tree settings before st after earlier ty later is parts cut passes. inner_aligns timestamps timestamps_name tree settings before st after earlier ty later is parts cut timestamps_fix passes) tree rules settings is)
+    table_leaves (word_tables ++ type_table varchars ∷ []) (type_table timestamps) (type_table ints ∷ type_table smallints ∷ timeouts ∷ []) refl tree rules settings (BetweenWords tree)
+    (all_align timestamps (λ tree settings before st after earlier ty later is parts cut passes. inner_aligns timestamps timestamps_name tree settings before st after earlier ty later is parts cut timestamps_see timestamps_fix passes) tree rules settings is)
     (silences timestamps (timestamps_mend inners_become_words) tree rules settings is)
 
-ints_apart : StepsIf BetweenWords (type_table ints)
+ints_apart : LeavesIf BetweenWords (type_table ints)
 ints_apart tree rules settings is =
-    table_steps (word_tables ++ type_table varchars ∷ type_table timestamps ∷ []) (type_table ints) (type_table smallints ∷ timeouts ∷ []) refl tree rules settings (BetweenWords tree)
-    (all_align ints (λ tree settings before st after earlier ty later is parts cut passes. name_aligns ints ints_name tree settings before st after earlier ty later is parts cut ints_fix passes) tree rules settings is)
+    table_leaves (word_tables ++ type_table varchars ∷ type_table timestamps ∷ []) (type_table ints) (type_table smallints ∷ timeouts ∷ []) refl tree rules settings (BetweenWords tree)
+    (all_align ints (λ tree settings before st after earlier ty later is parts cut passes. name_aligns ints ints_name tree settings before st after earlier ty later is parts cut ints_see ints_fix passes) tree rules settings is)
     (silences ints (ints_mend names_become_words) tree rules settings is)
 
-smallints_apart : StepsIf BetweenWords (type_table smallints)
+smallints_apart : LeavesIf BetweenWords (type_table smallints)
 smallints_apart tree rules settings is =
-    table_steps (word_tables ++ type_table varchars ∷ type_table timestamps ∷ type_table ints ∷ []) (type_table smallints) (timeouts ∷ []) refl tree rules settings (BetweenWords tree)
-    (all_align smallints (λ tree settings before st after earlier ty later is parts cut passes. name_aligns smallints smallints_name tree settings before st after earlier ty later is parts cut smallints_fix passes) tree rules settings is)
+    table_leaves (word_tables ++ type_table varchars ∷ type_table timestamps ∷ type_table ints ∷ []) (type_table smallints) (timeouts ∷ []) refl tree rules settings (BetweenWords tree)
+    (all_align smallints (λ tree settings before st after earlier ty later is parts cut passes. name_aligns smallints smallints_name tree settings before st after earlier ty later is parts cut smallints_see smallints_fix passes) tree rules settings is)
     (silences smallints (smallints_mend names_become_words) tree rules settings is)
 
 -- ---- the same, where no word is joined at a range that is not empty
 
-free_steps : (of : TypeRule) → OfEach of (λ tree settings v. FixJoins tree v) → StepsIf BetweenWords (type_table of) → FixesStep (type_table of)
-free_steps of joins steps tree rules settings is =
-    All-weaker (λ v. FixSteps tree rules settings (BetweenWords tree) v × FixJoins tree v) (FixSteps tree rules settings (JoinNoWord tree)) (λ v both f has fits short. both.0 f has (both.1 f has fits) short) (type_table of tree rules settings)
-    (both_of (FixSteps tree rules settings (BetweenWords tree)) (FixJoins tree) (type_table of tree rules settings) (steps tree rules settings is) (of_all of (λ tree settings v. FixJoins tree v) joins tree rules settings is))
+free_leaves : (of : TypeRule) → OfEach of (λ tree settings v. FixJoins tree v) → LeavesIf BetweenWords (type_table of) → FixesLeave (type_table of)
+free_leaves of joins steps tree rules settings is =
+    All-weaker (λ v. FixLeaves (type_table of) tree rules settings (BetweenWords tree) v × FixJoins tree v) (FixLeaves (type_table of) tree rules settings (JoinNoWord tree)) (λ v both f has fits short. both.0 f has (both.1 f has fits) short) (type_table of tree rules settings)
+    (both_of (FixLeaves (type_table of) tree rules settings (BetweenWords tree)) (FixJoins tree) (type_table of tree rules settings) (steps tree rules settings is) (of_all of (λ tree settings v. FixJoins tree v) joins tree rules settings is))
 
-pub varchars_step : FixesStep (type_table varchars)
-varchars_step =
-    free_steps varchars (λ tree settings before st after earlier ty later is parts cut passes. inner_joins varchars varchars_name tree settings before st after earlier ty later is parts cut varchars_fix passes) varchars_apart
+pub varchars_leave : FixesLeave (type_table varchars)
+varchars_leave =
+    free_leaves varchars (λ tree settings before st after earlier ty later is parts cut passes. inner_joins varchars varchars_name tree settings before st after earlier ty later is parts cut varchars_fix passes) varchars_apart
 
-pub timestamps_step : FixesStep (type_table timestamps)
-timestamps_step =
-    free_steps timestamps (λ tree settings before st after earlier ty later is parts cut passes. inner_joins timestamps timestamps_name tree settings before st after earlier ty later is parts cut timestamps_fix passes) timestamps_apart
+pub timestamps_leave : FixesLeave (type_table timestamps)
+timestamps_leave =
+    free_leaves timestamps (λ tree settings before st after earlier ty later is parts cut passes. inner_joins timestamps timestamps_name tree settings before st after earlier ty later is parts cut timestamps_fix passes) timestamps_apart
 
-pub ints_step : FixesStep (type_table ints)
-ints_step =
-    free_steps ints (λ tree settings before st after earlier ty later is parts cut passes. name_joins ints ints_name tree settings before st after earlier ty later is parts cut ints_fix passes) ints_apart
+pub ints_leave : FixesLeave (type_table ints)
+ints_leave =
+    free_leaves ints (λ tree settings before st after earlier ty later is parts cut passes. name_joins ints ints_name tree settings before st after earlier ty later is parts cut ints_fix passes) ints_apart
 
-pub smallints_step : FixesStep (type_table smallints)
-smallints_step =
-    free_steps smallints (λ tree settings before st after earlier ty later is parts cut passes. name_joins smallints smallints_name tree settings before st after earlier ty later is parts cut smallints_fix passes) smallints_apart
+pub smallints_leave : FixesLeave (type_table smallints)
+smallints_leave =
+    free_leaves smallints (λ tree settings before st after earlier ty later is parts cut passes. name_joins smallints smallints_name tree settings before st after earlier ty later is parts cut smallints_fix passes) smallints_apart

@@ -1,5 +1,5 @@
 -- The fixes that put the word CONCURRENTLY into a text are steps.
-use Rattle.std.proofs.Common.{◌≡◌, ℕ, ◌<◌, ◌⊎◌, ◌^◌, inl, inr, true, List, [], ◌∷◌, ◌++◌, length, sym, refl, ap, ◌∙◌, subst, Option, Some, None}
+use Rattle.std.proofs.Common.{◌≡◌, ℕ, ◌<◌, ◌⊎◌, ◌^◌, inl, inr, true, false, List, [], ◌∷◌, ◌++◌, length, sym, refl, ap, ◌∙◌, subst, Option, Some, None}
 use Rattle.std.proofs.lemmas.List.Elements.{All-nil, All-weaker}
 use Rattle.std.specs.Prelude.{All}
 use Rattle.sql_token.specs.Token.{Text}
@@ -37,15 +37,15 @@ use Rattle.law_fixes.proofs.WordRules.{Same, added, builds_are, deletion_rule, d
 use Rattle.law_fixes.proofs.Words.{IsWordRule, Target, WordRule, is_excused, kept_is, word_report, word_reports, word_reports_at, word_reports_by, word_table}
 use Rattle.law_type_fixes.specs.Rules.{type_table, ints, smallints, timestamps, varchars}
 use Rattle.law_fix_steps.specs.Step.{timeouts}
-use Rattle.law_fix_steps.proofs.Fits.{Anywhere, StepsIf}
-use Rattle.law_fix_steps.proofs.Comments.{word_says}
+use Rattle.law_fix_steps.proofs.Fits.{Anywhere, LeavesIf, StepsIf}
+use Rattle.law_fix_steps.proofs.Comments.{word_ignores, word_says}
 use Rattle.law_fix_steps.proofs.Concurrently.{detach_aligned, word_aligned}
-use Rattle.law_fix_steps.proofs.Steps.{FixAligns, FixSilences, mended_silences, table_steps}
+use Rattle.law_fix_steps.proofs.Steps.{FixAligns, FixSilences, mended_silences, table_leaves, table_steps}
 
 -- ---- CREATE INDEX, DROP INDEX and REINDEX
 
 word_aligns : (r : WordRule) (tree : Tree) (settings : LinterSettings) (before : List Stmt) (s : Stmt) (after : List Stmt) (n : ℕ) → IsTree tree → tree.stmts ≡ before ++ s ∷ after → TakesConcurrently n s →
-    FixAligns tree settings (Anywhere tree) (word_report r tree s n)
+    FixAligns true tree settings (Anywhere tree) (word_report r tree s n)
 word_aligns r tree settings before s after n is parts takes f fixed fits short =
     let add = added tree before s after n is parts takes in
     let i = inside tree before s after n (concurrent_stmt n s) add in
@@ -57,17 +57,18 @@ word_aligns r tree settings before s after n is parts takes f fixed fits short =
       is = reads.is;
       move = start_moved (place_of tree n) inserted;
       place = puts.place;
-      aligned = word_aligned tree before s after n is parts takes settings.assume_in_transaction;
+      aligned = word_aligned tree before s after n is parts takes true settings.assume_in_transaction;
       comments = word_says tree before (concurrent_stmt n s) after n is i.within;
+      ignores = word_ignores tree before (concurrent_stmt n s) after n is i.within;
     }
 
-words_align : (r : WordRule) → IsWordRule r → (tree : Tree) (rules : Rules) (settings : LinterSettings) → IsTree tree → All (FixAligns tree settings (Anywhere tree)) (word_table r tree rules settings)
+words_align : (r : WordRule) → IsWordRule r → (tree : Tree) (rules : Rules) (settings : LinterSettings) → IsTree tree → All (FixAligns true tree settings (Anywhere tree)) (word_table r tree rules settings)
 words_align r law tree rules settings is =
     pieces_all Goes (word_reports_at r tree rules settings) (length tree.stmts)
     (λ j. where_all Goes (has rules r.code) (word_reports r settings tree j (stmt_at tree j)) (λ enabled. each j (at_or_none tree.stmts j)))
   where
     Goes : Violation → Type 0
-    Goes v = FixAligns tree settings (Anywhere tree) v
+    Goes v = FixAligns true tree settings (Anywhere tree) v
 
     each : (j : ℕ) → At tree.stmts j ⊎ (stmt_at tree j ≡ no_stmt) → All Goes (word_reports r settings tree j (stmt_at tree j))
     each j (inr e) =
@@ -82,9 +83,9 @@ words_align r law tree rules settings is =
             (word_aligns r tree settings a.before (stmt_at tree j) a.after t.word is a.parts (law.takes (stmt_at tree j) t h)))
 
 tables_align : (r : WordRule) → IsWordRule r → (reports : Reports) → Same r reports → (tree : Tree) (rules : Rules) (settings : LinterSettings) → IsTree tree →
-    All (FixAligns tree settings (Anywhere tree)) (table_by r.code reports tree rules settings)
+    All (FixAligns true tree settings (Anywhere tree)) (table_by r.code reports tree rules settings)
 tables_align r law reports same tree rules settings is =
-    subst (λ (vs : List Violation). All (FixAligns tree settings (Anywhere tree)) vs) (sym (table_is r reports same tree rules settings)) (words_align r law tree rules settings is)
+    subst (λ (vs : List Violation). All (FixAligns true tree settings (Anywhere tree)) vs) (sym (table_is r reports same tree rules settings)) (words_align r law tree rules settings is)
 
 silences : (table : Table) → FixesMend table → (tree : Tree) (rules : Rules) (settings : LinterSettings) → IsTree tree → All (FixSilences table tree rules settings (Anywhere tree)) (table tree rules settings)
 silences table law tree rules settings is =
@@ -94,24 +95,24 @@ silences table law tree rules settings is =
 abbrev type_tables : List Table
 type_tables = type_table varchars ∷ type_table timestamps ∷ type_table ints ∷ type_table smallints ∷ timeouts ∷ []
 
-pub builds_step : StepsIf Anywhere builds
-builds_step tree rules settings is =
-    table_steps [] builds (dropped ∷ rebuilt ∷ detached ∷ type_tables) refl tree rules settings (Anywhere tree) (tables_align index_rule is_index_rule builds_of builds_are tree rules settings is) (silences builds builds_mend tree rules settings is)
+pub builds_leave : LeavesIf Anywhere builds
+builds_leave tree rules settings is =
+    table_leaves [] builds (dropped ∷ rebuilt ∷ detached ∷ type_tables) refl tree rules settings (Anywhere tree) (tables_align index_rule is_index_rule builds_of builds_are tree rules settings is) (silences builds builds_mend tree rules settings is)
 
-pub dropped_step : StepsIf Anywhere dropped
-dropped_step tree rules settings is =
-    table_steps (builds ∷ []) dropped (rebuilt ∷ detached ∷ type_tables) refl tree rules settings (Anywhere tree) (tables_align deletion_rule is_deletion_rule deletions_of deletions_are tree rules settings is)
+pub dropped_leave : LeavesIf Anywhere dropped
+dropped_leave tree rules settings is =
+    table_leaves (builds ∷ []) dropped (rebuilt ∷ detached ∷ type_tables) refl tree rules settings (Anywhere tree) (tables_align deletion_rule is_deletion_rule deletions_of deletions_are tree rules settings is)
     (silences dropped dropped_mend tree rules settings is)
 
-pub rebuilt_step : StepsIf Anywhere rebuilt
-rebuilt_step tree rules settings is =
-    table_steps (builds ∷ dropped ∷ []) rebuilt (detached ∷ type_tables) refl tree rules settings (Anywhere tree) (tables_align reindex_rule is_reindex_rule rebuilds_of rebuilds_are tree rules settings is)
+pub rebuilt_leave : LeavesIf Anywhere rebuilt
+rebuilt_leave tree rules settings is =
+    table_leaves (builds ∷ dropped ∷ []) rebuilt (detached ∷ type_tables) refl tree rules settings (Anywhere tree) (tables_align reindex_rule is_reindex_rule rebuilds_of rebuilds_are tree rules settings is)
     (silences rebuilt rebuilt_mend tree rules settings is)
 
 -- ---- DETACH PARTITION
 
 detach_aligns : (tree : Tree) (settings : LinterSettings) (before : List Stmt) (s : Stmt) (after : List Stmt) (n : ℕ) (path : Option Span) (earlier : List Action) (b : Action) (later : List Action) →
-    IsTree tree → tree.stmts ≡ before ++ s ∷ after → DetachTakesConcurrently n s path earlier b later → concurrently_after tree (end_of b.path) ≡ concurrently_after tree n → FixAligns tree settings (Anywhere tree) (report tree b)
+    IsTree tree → tree.stmts ≡ before ++ s ∷ after → DetachTakesConcurrently n s path earlier b later → concurrently_after tree (end_of b.path) ≡ concurrently_after tree n → FixAligns false tree settings (Anywhere tree) (report tree b)
 unfolding report
 detach_aligns tree settings before s after n path earlier b later is parts takes same f fixed fits short =
     let i = inside tree before s after n (detached_stmt n s path earlier b later) (build tree before s after n path earlier b later is parts takes) in
@@ -123,17 +124,18 @@ detach_aligns tree settings before s after n path earlier b later is parts takes
       is = reads.is;
       move = start_moved (place_of tree n) inserted;
       place = puts.place;
-      aligned = detach_aligned tree before s after n path earlier b later is parts takes settings.assume_in_transaction;
+      aligned = detach_aligned tree before s after n path earlier b later is parts takes (report tree b).text_range.start settings.assume_in_transaction;
       comments = word_says tree before (detached_stmt n s path earlier b later) after n is i.within;
+      ignores = word_ignores tree before (detached_stmt n s path earlier b later) after n is i.within;
     }
 
-detaches_align : (tree : Tree) (rules : Rules) (settings : LinterSettings) → IsTree tree → All (FixAligns tree settings (Anywhere tree)) (detached tree rules settings)
+detaches_align : (tree : Tree) (rules : Rules) (settings : LinterSettings) → IsTree tree → All (FixAligns false tree settings (Anywhere tree)) (detached tree rules settings)
 detaches_align tree rules settings is =
     pieces_all Goes (enabled_reports rule.RequireConcurrentPartitionDetach (λ i. detachments_of settings tree i (stmt_at tree i)) rules) (length tree.stmts)
     (λ j. where_all Goes (has rules rule.RequireConcurrentPartitionDetach) (reports_of_require_concurrent_partition_detach tree (stmt_at tree j)) (λ e. each j (at_or_none tree.stmts j)))
   where
     Goes : Violation → Type 0
-    Goes v = FixAligns tree settings (Anywhere tree) v
+    Goes v = FixAligns false tree settings (Anywhere tree) v
 
     one : (before : List Stmt) (s : Stmt) (after : List Stmt) → tree.stmts ≡ before ++ s ∷ after → s.kind ≡ stmt.AlterTable → (path : Option Span) (actions : List Action) → s.body ≡ body.Alter path actions →
         (earlier : List Action) (c : Action) (later : List Action) → actions ≡ earlier ++ c ∷ later → is_plain_detach c ≡ true → Goes (report tree c)
@@ -158,4 +160,4 @@ detaches_align tree rules settings is =
 
 pub detached_step : StepsIf Anywhere detached
 detached_step tree rules settings is =
-    table_steps (builds ∷ dropped ∷ rebuilt ∷ []) detached type_tables refl tree rules settings (Anywhere tree) (detaches_align tree rules settings is) (silences detached detached_mend tree rules settings is)
+    table_steps (builds ∷ dropped ∷ rebuilt ∷ []) detached type_tables refl false tree rules settings (Anywhere tree) (detaches_align tree rules settings is) (silences detached detached_mend tree rules settings is)

@@ -26,6 +26,7 @@ use Rattle.law_fix_steps.proofs.Alignments.{one_by_one}
 use Rattle.law_fix_steps.proofs.InFront.{none_like}
 use Rattle.law_fix_steps.proofs.Like.{Aligned, Like}
 use Rattle.law_fix_steps.proofs.Moved.{Follows, Moves, moved_like}
+use Rattle.law_fix_steps.proofs.Near.{Shifts, same_shifts, tok_shifts}
 use Rattle.law_fix_steps.proofs.Paths.{path_follows}
 
 -- the same number, of two on the same side
@@ -54,13 +55,13 @@ module _ (tree : Tree) (before : List Stmt) (st : Stmt) (after : List Stmt) (now
   abbrev pub move : ℕ → ℕ
   move = byte_moved (replaced tree n m w)
 
-  abbrev from : ℕ
+  abbrev pub from : ℕ
   from = (token_at tree.toks n).start
 
-  abbrev until : ℕ
+  abbrev pub until : ℕ
   until = (token_at tree.toks m).end
 
-  abbrev size : ℕ
+  abbrev pub size : ℕ
   size = length (made_text (word_made w))
 
   size_is : size ≡ length w
@@ -90,6 +91,15 @@ module _ (tree : Tree) (before : List Stmt) (st : Stmt) (after : List Stmt) (now
         text = ap (λ (t : Tok). text_of new.text t) k.token
             ∙ sym (text_after tree.text new.text until (from + size) (token_at tree.toks x) (sym (exchanged_after tree.text (made_text (word_made w)) from until b.low)) start (omega (arith, some)));
       }
+
+  pub low_shifts : (x : ℕ) → x < n → Shifts f 0 0 tree new x
+  low_shifts x h = same_shifts f tree new x (low_token tree.text tree.toks n m w is.lexed order within x h).token
+
+  pub high_shifts : (x : ℕ) → m + 1 ≤ x → x < length tree.toks → Shifts f until (from + size) tree new x
+  high_shifts x h lt =
+      let k = high_token tree.text tree.toks n m w is.lexed order within x h lt in
+      let start = k.start in let some = k.some in
+      tok_shifts f tree new until (from + size) x k.token start (omega (arith, start, some))
 
   -- the word begins where the run began
   pub word_start : (token_at new.toks (f n)).start ≡ move (token_at tree.toks n).start
@@ -122,6 +132,9 @@ module _ (tree : Tree) (before : List Stmt) (st : Stmt) (after : List Stmt) (now
   pub low_moves : (lo hi : ℕ) → hi ≤ n → Moves move f lo hi tree new
   low_moves lo hi top = record {
     tokens = λ x a b. low_follows x (omega (arith, b, top));
+    down = 0;
+    up = 0;
+    shifts = λ x a b. low_shifts x (omega (arith, b, top));
     paths = λ span e.
         (let u = stays_within lo hi span.first (ap (λ (s : Span). s.first) e) in
         let v = stays_within lo hi span.last (ap (λ (s : Span). s.last) e) in
@@ -136,6 +149,9 @@ module _ (tree : Tree) (before : List Stmt) (st : Stmt) (after : List Stmt) (now
   pub high_moves : (lo hi : ℕ) → m + 1 ≤ lo → hi ≤ length tree.toks → Moves move f lo hi tree new
   high_moves lo hi low top = record {
     tokens = λ x a b. high_follows x (omega (arith, low, a)) (omega (arith, b, top));
+    down = until;
+    up = from + size;
+    shifts = λ x a b. high_shifts x (omega (arith, low, a)) (omega (arith, b, top));
     paths = λ span e.
         (let u = stays_within lo hi span.first (ap (λ (s : Span). s.first) e) in
         let v = stays_within lo hi span.last (ap (λ (s : Span). s.last) e) in
@@ -150,7 +166,7 @@ module _ (tree : Tree) (before : List Stmt) (st : Stmt) (after : List Stmt) (now
 
   -- ---- all other statements
 
-  module _ (first : st.first ≤ n) (last : m < st.last + 1) where
+  module _ (exact : Bool) (gone : ℕ) (first : st.first ≤ n) (last : m < st.last + 1) where
     stmts_first : {x y : Stmt} {xs ys : List Stmt} → x ∷ xs ≡ y ∷ ys → x ≡ y
     stmts_first e = cc
 
@@ -158,18 +174,18 @@ module _ (tree : Tree) (before : List Stmt) (st : Stmt) (after : List Stmt) (now
     stmts_rest e = cc
 
     abbrev L : Stmt → Stmt → Type 0
-    L x y = Like move tree new x y
+    L x y = Like exact move gone tree new x y
 
     side_like : (lo hi : ℕ) → Moves move f lo hi tree new → (ss : List Stmt) → map (stmt_moved (outside lo hi)) ss ≡ ss → (i : ℕ) → L (get_or ss i no_stmt) (get_or (map (stmt_moved f) ss) i no_stmt)
-    side_like lo hi mv [] e i = none_like move tree new
-    side_like lo hi mv (x ∷ xs) e zero = moved_like move f lo hi tree new mv x (stmts_first e)
+    side_like lo hi mv [] e i = none_like exact move gone tree new
+    side_like lo hi mv (x ∷ xs) e zero = moved_like exact move f gone lo hi tree new mv x (stmts_first e)
     side_like lo hi mv (x ∷ xs) e (suc i) = side_like lo hi mv xs (stmts_rest e) i
 
     list_like : (lo hi : ℕ) → Moves move f lo hi tree new → L st now → (xs ys : List Stmt) → map (stmt_moved (outside lo hi)) xs ≡ xs →
         ((i : ℕ) → L (get_or ys i no_stmt) (get_or (map (stmt_moved f) ys) i no_stmt)) → (i : ℕ) → L (get_or (xs ++ st ∷ ys) i no_stmt) (get_or (map (stmt_moved f) xs ++ now ∷ map (stmt_moved f) ys) i no_stmt)
     list_like lo hi mv this [] ys e others zero = this
     list_like lo hi mv this [] ys e others (suc i) = others i
-    list_like lo hi mv this (x ∷ xs) ys e others zero = moved_like move f lo hi tree new mv x (stmts_first e)
+    list_like lo hi mv this (x ∷ xs) ys e others zero = moved_like exact move f gone lo hi tree new mv x (stmts_first e)
     list_like lo hi mv this (x ∷ xs) ys e others (suc i) = list_like lo hi mv this xs ys (stmts_rest e) others i
 
     count : length new.stmts ≡ length tree.stmts
@@ -183,8 +199,8 @@ module _ (tree : Tree) (before : List Stmt) (st : Stmt) (after : List Stmt) (now
           ap length parts,
         )
 
-    pub worded_aligned : (assumed : Bool) → L st now → Aligned move assumed tree new
-    worded_aligned assumed this = one_by_one move assumed tree new likes count
+    pub worded_aligned : (assumed : Bool) → L st now → Aligned exact move gone assumed tree new
+    worded_aligned assumed this = one_by_one exact move gone assumed tree new likes count
       where
         likes : (i : ℕ) → L (stmt_at tree i) (stmt_at new i)
         likes i =

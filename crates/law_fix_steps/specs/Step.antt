@@ -1,12 +1,13 @@
 -- One fix of a listed rule: no report of a listed rule is new, and one at least is gone.
-use Rattle.std.specs.Prelude.{◌≡◌, ◌<◌, ℕ, ◌+◌, ◌^◌, true, List, [], ◌∷◌, length, All, Some}
+use Rattle.std.specs.Prelude.{◌≡◌, ◌<◌, ℕ, ◌+◌, ◌^◌, Bool, true, List, [], ◌∷◌, length, is_some, All, Some}
+use Rattle.std.specs.List.{list_any}
 use Rattle.sql_tree.specs.Statement.{Tree, IsTree}
 use Rattle.lint_base.specs.declared.edit.Edit.{Edit}
 use Rattle.lint_base.specs.declared.settings.LinterSettings.{LinterSettings}
 use Rattle.lint_base.specs.declared.violation.Violation.{Violation}
 use Rattle.lint_base.specs.Fixes.{FixValue}
 use Rattle.lint_base.specs.RuleSets.{Rules}
-use Rattle.lint_ignore.specs.Comment.{has_disable_comment}
+use Rattle.lint_ignore.specs.Comment.{has_disable_comment, ignore_in_token}
 use Rattle.pass_session.specs.RequireTimeoutSettings.{reports_of_require_timeout_settings}
 use Rattle.law_fixes.specs.Edited.{edited, place_moved}
 use Rattle.law_fixes.specs.Mended.{Table, builds, dropped, rebuilt, detached}
@@ -42,13 +43,18 @@ LoadIsSmall = (tree : Tree) (rules : Rules) (settings : LinterSettings) → IsTr
 
 -- ---- one step
 
+-- some token is an ignore comment
+abbrev pub has_ignore_comment : Tree → Bool
+has_ignore_comment tree = list_any (λ k. is_some (ignore_in_token tree.text k)) tree.toks
+
 -- The edited text has a tree, in whose listed tables no report is new, and there is at least one less. Where a comment says there that
--- no transaction is to be assumed, one says so in the old text.
+-- no transaction is to be assumed, one says so in the old text; and where it has an ignore comment, so has the old one.
 pub record Steps (tree : Tree) (rules : Rules) (settings : LinterSettings) (edits : List Edit) : Type 0 where
   pub new : Tree
   pub text : new.text ≡ edited tree.text edits
   pub is : IsTree new
   pub comments : has_disable_comment new ≡ true → has_disable_comment tree ≡ true
+  pub ignores : has_ignore_comment new ≡ true → has_ignore_comment tree ≡ true
   pub kept : All (λ table. Kept (place_moved edits) (table new rules settings) (table tree rules settings)) listed_tables
   pub less : load new rules settings < load tree rules settings
 

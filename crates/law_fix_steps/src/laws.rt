@@ -2,6 +2,7 @@
 
 ghost use Rattle.law_fixes.specs.Mended as word;
 ghost use Rattle.law_type_fixes.specs.Rules as column;
+ghost use Rattle.law_fix_steps.specs.Leaves.{FixesLeave};
 ghost use Rattle.law_fix_steps.specs.Step.{FixesStep, LoadIsSmall, timeouts};
 
 /// The fix of each report of a listed rule makes a text that has a tree, if it joins no word. In the tables of all ten
@@ -16,6 +17,18 @@ pub fn fixes_step()
     ensures ints { FixesStep (column.type_table column.ints) }
     ensures smallints { FixesStep (column.type_table column.smallints) }
     ensures timeouts { FixesStep timeouts }
+{}
+
+/// The fix of each report of a rule whose fixes are followed leaves all other reports of these rules, with their fixes, but
+/// for those that begin at the same place. So what is found in one text is known of the next one too, without looking for it again.
+pub fn fixes_leave()
+    ensures builds { FixesLeave word.builds }
+    ensures dropped { FixesLeave word.dropped }
+    ensures rebuilt { FixesLeave word.rebuilt }
+    ensures varchars { FixesLeave (column.type_table column.varchars) }
+    ensures timestamps { FixesLeave (column.type_table column.timestamps) }
+    ensures ints { FixesLeave (column.type_table column.ints) }
+    ensures smallints { FixesLeave (column.type_table column.smallints) }
 {}
 
 /// A text has less than 2^64 reports of listed rules, so fixes can be counted in a `u64`: each report is of a statement,

@@ -35,7 +35,7 @@ use Rattle.squawk_linter.specs.Reports.{cleared}
 inside : {x y : FixValue} → Some x ≡ Some y → x ≡ y
 inside e = cc
 
-both_true : (a b : Bool) → (a && b) ≡ true → (a ≡ true) × (b ≡ true)
+pub both_true : (a b : Bool) → (a && b) ≡ true → (a ≡ true) × (b ≡ true)
 both_true true b h = (refl, h)
 both_true false b h = cc
 
@@ -77,7 +77,7 @@ not_same a b h = grind (arith, nat_tests)
 is_more : (a : ℕ) → 0 < a → nat_lt 0 a ≡ true
 is_more a h = grind (arith, nat_tests)
 
-is_short : (n : ℕ) → nat_lt n (2 ^ 32) ≡ true → n < 2 ^ 32
+pub is_short : (n : ℕ) → nat_lt n (2 ^ 32) ≡ true → n < 2 ^ 32
 is_short n h = grind (arith, nat_tests)
 
 joins_none : (text : Text) (e : Edit) → joins_no_word text e ≡ true → (e.text_range.start < e.text_range.end → 0 < e.text_range.start) → e.text_range.start < e.text_range.end → JoinsNone text e
@@ -88,7 +88,7 @@ joins_none text e joins behind some =
     let place : end + 0 ≡ end = omega arith in
     record { before = p.0; after = ap is_word (get_or-drop end text 0 0 ∙ ap (λ (x : ℕ). get_or text x 0) place) ∙ p.1 }
 
-joined : (tree : Tree) (f : FixValue) → HasOneEdit f → list_all (joins_no_word tree.text) f.edits ≡ true → JoinNoWord tree f.edits
+pub joined : (tree : Tree) (f : FixValue) → HasOneEdit f → list_all (joins_no_word tree.text) f.edits ≡ true → JoinNoWord tree f.edits
 joined tree f one joins =
     let each : (joins_no_word tree.text one.edit && true) ≡ true = subst (λ (es : List Edit). list_all (joins_no_word tree.text) es ≡ true) one.one joins in
     subst (JoinNoWord tree) (sym one.one)

@@ -1,4 +1,8 @@
 mod Choosing
+mod Pending
+mod Plain
+mod Rounds
+mod Runs
 mod Stages
 mod Answered
 mod Complete

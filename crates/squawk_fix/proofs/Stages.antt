@@ -1,6 +1,7 @@
 -- The stages of repeated fixing.
-use Rattle.std.proofs.Common.{◌≡◌, ℕ, ◌+◌, ◌<◌, ◌≤◌, Bool, true, false, List, sym, refl, ap, ◌∙◌, subst, arith, add-one, Option, Some, None}
-use Rattle.std.specs.Prelude.{All, ◌&&◌, not}
+use Rattle.std.proofs.Common.{◌≡◌, ◌⊎◌, inl, inr, ℕ, zero, suc, ◌+◌, ◌<◌, ◌≤◌, Bool, true, false, List, sym, refl, ap, ◌∙◌, subst, arith, add-one, Option, Some, None}
+use Rattle.std.proofs.lemmas.Bool.{false≢true}
+use Rattle.std.specs.Prelude.{All, MatchOption, ◌&&◌, not}
 use Rattle.std.specs.Option.{option_map}
 use Rattle.std.specs.Str.{IsUtf8}
 use Rattle.sql_token.specs.Token.{Text}
@@ -13,8 +14,9 @@ use Rattle.lint_base.specs.Fixes.{FixValue}
 use Rattle.lint_base.specs.RuleSets.{Rules}
 use Rattle.lint_ignore.specs.Comment.{has_disable_comment}
 use Rattle.law_fixes.specs.Edited.{edited}
-use Rattle.law_fix_steps.specs.Step.{Steps, load}
+use Rattle.law_fix_steps.specs.Step.{Steps, has_ignore_comment, load}
 use Rattle.law_answer_steps.specs.Answers.{AnswersStep}
+use Rattle.law_answer_steps.proofs.Leaving.{stays}
 use Rattle.law_listed_edits.specs.OneEdit.{MendedByOne}
 use Rattle.fix_choice.specs.Fits.{ListedCanBeTried, first_fitting, next_text, with_fix}
 use Rattle.squawk_linter.specs.Answers.{IsAnswer, reports}
@@ -23,6 +25,7 @@ use Rattle.squawk_linter.specs.Mending.{AnswersAreInTheirTables}
 use Rattle.squawk_linter.specs.Placed.{AnsweredFixesAreGood}
 use Rattle.squawk_linter.specs.Reports.{cleared}
 use Rattle.squawk_fix.specs.Fixing.{IsFixed, IsStep, Reached}
+use Rattle.squawk_fix.specs.Round.{Answered, IsRound, Ran}
 use Rattle.squawk_fix.proofs.Choosing.{all_tried, first_steps}
 
 -- ---- the flag
@@ -32,24 +35,8 @@ and_again true true = refl
 and_again true false = refl
 and_again false b = refl
 
-and_true : (a : Bool) → (a && true) ≡ a
-and_true true = refl
-and_true false = refl
-
 again : (tree : Tree) (settings : LinterSettings) → cleared tree (cleared tree settings) ≡ cleared tree settings
 again tree settings = λ i. record settings { assume_in_transaction = and_again settings.assume_in_transaction (not (has_disable_comment tree)) i }
-
--- a flag that one text leaves is left by another one, if that has no new disable comment
-stays : (tree new : Tree) (settings : LinterSettings) → (has_disable_comment new ≡ true → has_disable_comment tree ≡ true) → cleared tree settings ≡ settings → cleared new settings ≡ settings
-stays tree new settings comments same = by (has_disable_comment new) refl
-  where
-    by : (b : Bool) → has_disable_comment new ≡ b → cleared new settings ≡ settings
-    by true e =
-        let equal : has_disable_comment new ≡ has_disable_comment tree = e ∙ sym (comments e) in
-        (λ i. record settings { assume_in_transaction = settings.assume_in_transaction && not (equal i) }) ∙ same
-    by false e =
-        (λ i. record settings { assume_in_transaction = settings.assume_in_transaction && not (e i) })
-        ∙ (λ i. record settings { assume_in_transaction = and_true settings.assume_in_transaction i })
 
 -- ---- stages
 
@@ -61,14 +48,16 @@ pub record Stage (file : Tree) (rules : Rules) (settings : LinterSettings) (made
   pub reached : Reached rules (cleared file settings) file.text applied made
   pub left_is : left ≡ reports tree rules (cleared file settings)
   pub few : applied + load tree rules (cleared file settings) ≤ load file rules (cleared file settings)
+  pub ignores : has_ignore_comment tree ≡ true → has_ignore_comment file ≡ true
 
--- One fix more makes the text s, which is not linted yet.
+-- After so many fixes the text is s, which is not linted yet.
 pub record Next (file : Tree) (rules : Rules) (settings : LinterSettings) (applied : ℕ) (s : Text) : Type 0 where
   pub tree : Tree
   pub of_text : IsTreeOf s tree
   pub same : cleared tree (cleared file settings) ≡ cleared file settings
-  pub reached : Reached rules (cleared file settings) file.text (applied + 1) s
-  pub few : applied + 1 + load tree rules (cleared file settings) ≤ load file rules (cleared file settings)
+  pub reached : Reached rules (cleared file settings) file.text applied s
+  pub few : applied + load tree rules (cleared file settings) ≤ load file rules (cleared file settings)
+  pub ignores : has_ignore_comment tree ≡ true → has_ignore_comment file ≡ true
 
 chosen : {s : Text} (f : FixValue → Text) (o : Option FixValue) → option_map f o ≡ Some s → (fix : FixValue) × (o ≡ Some fix) × (s ≡ f fix)
 chosen f None e = absurd (cc)
@@ -93,6 +82,7 @@ module _ (file : Tree) (rules : Rules) (settings : LinterSettings) where
     reached = text;
     left_is = answer ∙ sym (second file rules settings);
     few = omega arith;
+    ignores = λ h. h;
   }
 
   pub answered : (made : Text) (applied : ℕ) (left : List Violation) → Stage file rules settings made applied left → IsAnswer made rules set left
@@ -115,7 +105,7 @@ module _ (file : Tree) (rules : Rules) (settings : LinterSettings) where
       ((λ i. first_fitting (stage.of_text.0 i) (sym stage.left_is i)) ∙ first)
 
   pub next : MendedByOne → AnswersAreInTheirTables → AnswersStep → (made : Text) (applied : ℕ) (left : List Violation) → Stage file rules settings made applied left → (s : Text) →
-      next_text made left ≡ Some s → Next file rules settings applied s
+      next_text made left ≡ Some s → Next file rules settings (applied + 1) s
   next one tables steps made applied left stage s is =
       let c = chosen (with_fix made) (first_fitting made left) is in
       let step = stepped one tables steps made applied left stage c.0 c.1 in
@@ -129,19 +119,64 @@ module _ (file : Tree) (rules : Rules) (settings : LinterSettings) where
         same = stays stage.tree step.new set step.comments stage.same;
         reached = subst (λ (n : ℕ). Reached rules set file.text n s) (sym (add-one applied)) (made, stage.reached, made_is);
         few = omega (arith, less, few);
+        ignores = λ h. stage.ignores (step.ignores h);
       }
 
+  -- ---- many fixes
+
+  reached_on : (m : Text) (n : ℕ) → Reached rules set file.text n m → (k : ℕ) (s : Text) → Reached rules set m k s → Reached rules set file.text (n + k) s
+  reached_on m n before zero s same = let sum : n + 0 ≡ n = omega arith in subst (λ (x : ℕ). Reached rules set file.text x s) (sym sum) (subst (λ (t : Text). Reached rules set file.text n t) (sym same) before)
+  reached_on m n before (suc k) s after = let sum : n + suc k ≡ suc (n + k) = omega arith in subst (λ (x : ℕ). Reached rules set file.text x s) (sym sum) (after.0, reached_on m n before k after.0 after.1, after.2)
+
+  not_true : (b c : Bool) → (c ≡ true → b ≡ true) → b ≡ false → c ≡ false
+  not_true b true h e = absurd (false≢true (sym e ∙ h refl))
+  not_true b false h e = refl
+
+  -- what is answered can be run from
+  pub from_here : has_ignore_comment file ≡ false → (made : Text) (applied : ℕ) (left : List Violation) → Stage file rules settings made applied left → Answered made left
+  from_here plain made applied left stage = record {
+    rules = rules;
+    settings = set;
+    tree = stage.tree;
+    of_text = stage.of_text;
+    same = stage.same;
+    plain = not_true (has_ignore_comment file) (has_ignore_comment stage.tree) stage.ignores plain;
+    are = stage.left_is;
+  }
+
+  pub rounded : MendedByOne → AnswersAreInTheirTables → AnswersStep → (known : Bool) → (known ≡ true → has_ignore_comment file ≡ false) → (made : Text) (applied : ℕ) (left : List Violation) →
+      Stage file rules settings made applied left → (s : Text) (more : ℕ) → IsRound known made left s more → Next file rules settings (applied + more) s
+  unfolding from_here
+  rounded one tables steps known plain made applied left stage s more round = by round.made
+    where
+      by : ((next_text made left ≡ Some s) × (more ≡ 1)) ⊎ ((known ≡ true) × ((a : Answered made left) → Ran made left a s more)) → Next file rules settings (applied + more) s
+      by (inl first) = subst (λ (k : ℕ). Next file rules settings (applied + k) s) (sym first.1) (next one tables steps made applied left stage s first.0)
+      by (inr many) =
+          let ran = many.1 (from_here (plain many.0) made applied left stage) in
+          let few = stage.few in let fewer = ran.few in
+          record {
+            tree = ran.tree;
+            of_text = ran.of_text;
+            same = ran.same;
+            reached = reached_on made applied stage.reached more s ran.reached;
+            few = omega (arith, few, fewer);
+            ignores = λ h. absurd (false≢true (sym ran.plain ∙ h));
+          }
+
   -- the same of a value that has the text as its bytes
-  pub next_made : {X : Type 0} (bytes : X → Text) → MendedByOne → AnswersAreInTheirTables → AnswersStep → (made : Text) (applied : ℕ) (left : List Violation) → Stage file rules settings made applied left →
-      (text : Text) (vs : List Violation) → text ≡ made → vs ≡ left → (o : Option X) → option_map bytes o ≡ next_text text vs → (x : X) → o ≡ Some x → Next file rules settings applied (bytes x)
-  next_made {X} bytes one tables steps made applied left stage text vs same_text same_vs o is x some =
-      next one tables steps made applied left stage (bytes x)
-      ((λ i. next_text (sym same_text i) (sym same_vs i)) ∙ sym is ∙ ap (λ (p : Option X). option_map bytes p) some)
+  matched : {X : Type 0} (N : Type 0) (P : X → Type 0) (o : Option X) → MatchOption o N P → (x : X) → o ≡ Some x → P x
+  matched {X} N P o h x is = subst (λ (p : Option X). MatchOption p N P) is h
+
+  pub round_is : {X : Type 0} (bytes : X → Text) (count : X → ℕ) (known : Bool) (made : Text) (left : List Violation) (text : Text) (vs : List Violation) → text ≡ made → vs ≡ left → (N : Type 0) (o : Option X) →
+      MatchOption o N (λ x. IsRound known text vs (bytes x) (count x)) → (x : X) → o ≡ Some x → IsRound known made left (bytes x) (count x)
+  round_is bytes count known made left text vs same_text same_vs N o h x is =
+      subst (λ (t : Text). IsRound known t left (bytes x) (count x)) same_text
+      (subst (λ (l : List Violation). IsRound known text l (bytes x) (count x)) same_vs (matched N (λ y. IsRound known text vs (bytes y) (count y)) o h x is))
 
   pub is_valid : (applied : ℕ) (s : Text) → Next file rules settings applied s → IsValid s
   is_valid applied s n = (n.tree, n.of_text.0, n.of_text.1)
 
-  pub staged : (applied : ℕ) (s : Text) (left : List Violation) → Next file rules settings applied s → IsAnswer s rules set left → Stage file rules settings s (applied + 1) left
+  pub staged : (applied : ℕ) (s : Text) (left : List Violation) → Next file rules settings applied s → IsAnswer s rules set left → Stage file rules settings s applied left
   staged applied s left n answer =
       let one : answer.tree ≡ n.tree = one_tree answer.tree n.tree (answer.of_text.0 ∙ sym n.of_text.0) answer.of_text.1 n.of_text.1 in
       record {
@@ -151,6 +186,7 @@ module _ (file : Tree) (rules : Rules) (settings : LinterSettings) where
         reached = n.reached;
         left_is = answer.reports_of ∙ ap (λ (t : Tree). reports t rules set) one;
         few = n.few;
+        ignores = n.ignores;
       }
 
   -- ---- the end

@@ -1,4 +1,5 @@
 pub mod Fixing
+pub mod Round
 pub mod Chosen
 pub mod Lines
 pub mod Outcome

@@ -8,7 +8,7 @@ ghost use Rattle.squawk_linter.specs.Answers.{IsAnswer, SettingsAfter};
 ghost use Rattle.squawk_linter.specs.Reports.{cleared};
 ghost use Rattle.squawk_fix.specs.Fixing.{IsFixed, IsFixedText};
 
-use fix_choice::next_text;
+use crate::round::{is_plain, next_round};
 use law_answer_steps::laws::answers_step;
 use law_fix_steps::laws::load_is_small;
 use law_listed_edits::laws::listed_edits;
@@ -71,11 +71,12 @@ fn fix_tree(linter: &mut Linter, alloc: Global, file: &Parse<'_>) -> Result<Fixe
     load_is_small();
     let mut left = linter.lint(alloc, file)?;
     let mut made = String::from_str(alloc, file.text())?;
+    let plain = is_plain(alloc, file)?;
     let mut applied = 0;
-    while let Some(next) = next_text(alloc, made.as_str(), left.as_slice())? {
-        left = lint_again(linter, alloc, next.as_str())?;
-        made = next;
-        applied += 1;
+    while let Some(round) = next_round(alloc, plain, made.as_str(), left.as_slice())? {
+        left = lint_again(linter, alloc, round.text.as_str())?;
+        made = round.text;
+        applied += round.applied;
     }
     Ok(Fixed {
         text: made,
@@ -86,7 +87,8 @@ fn fix_tree(linter: &mut Linter, alloc: Global, file: &Parse<'_>) -> Result<Fixe
 
 /// Makes fixes in a text, one after another, until none is left that fits, and says what is still reported.
 ///
-/// Each time the text is linted, and the first fix is made that is of a listed rule and fits. It refuses as [`lint_text`] refuses the
+/// Each time the first fix is made that is of a listed rule and fits. The text is not linted again where it is known what the fix does
+/// to the other reports: in a text without ignore comments many fixes are made of one answer (`round`). It refuses as [`lint_text`] refuses the
 /// given text, and leaves the linter as that does: `TooLong`, `Unterminated` and `Syntax` come of the given text, since each text that is
 /// made is valid; `NoMemory` comes because memory ran out.
 pub fn fix_all(linter: &mut Linter, alloc: Global, text: &str) -> Result<Fixed, LintError>

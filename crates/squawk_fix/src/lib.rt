@@ -14,6 +14,7 @@ mod answer;
 mod choose;
 mod command;
 mod fixed;
+mod round;
 
 pub use command::fix_run;
 pub use fixed::{Fixed, fix_all};
