@@ -1,9 +1,9 @@
 -- From a run over files to what a run does that the words ask for.
-use Rattle.std.proofs.Common.{◌≡◌, ◌≤◌, subst, refl, ℕ, Bool, List, Option, Some, Result, Ok, Err, IfOk, IfErr}
+use Rattle.std.proofs.Common.{◌≡◌, ◌≤◌, subst, refl, ℕ, Bool, List, Option, Result, Ok, Err, IfOk, IfErr}
 use Rattle.check_command.specs.declared.failure.Failure.{Failure}
 use Rattle.check_command.specs.declared.failure.Failure.TheVariants as failure
 use Rattle.check_command.specs.Choosing.{IsChosenBy, IsUnchosen}
-use Rattle.check_command.specs.Command.{HasChecked, HasRefused, StoppedFor, answers_by, ended_by, judge_by, status_by, style_of}
+use Rattle.check_command.specs.Command.{HasChecked, StoppedFor, answers_by, ended_by, judge_by, status_by, style_of}
 use Rattle.check_command.specs.Failures.{failure_of}
 use Rattle.check_config.specs.declared.config.Config.{Config}
 use Rattle.check_print.specs.declared.style.Style.{Style}

@@ -1,5 +1,5 @@
 -- Answers over devices that were used before.
-use Rattle.std.proofs.Common.{◌≡◌, ◌≤◌, subst, ℕ, Bool, true, false, List, [], ◌∷◌, Option}
+use Rattle.std.proofs.Common.{◌≤◌, subst, ℕ, Bool, true, false, List, [], ◌∷◌, Option}
 use Rattle.checked_file.specs.declared.checked.Checked.{Checked}
 use Rattle.check_words.specs.declared.request.Request.{Request}
 use Rattle.file_store.specs.Contents.{Content, KeepsContents}
@@ -7,7 +7,7 @@ use Rattle.squawk_words.specs.Words.{Text}
 use Rattle.check_run.specs.Checks.{Answers}
 use Rattle.check_run.specs.Inputs.{reads_input}
 use Rattle.check_run.specs.Names.{AreNamed, StandFor}
-use Rattle.check_run.specs.Runs.{AreAnswers, AreAnswersBy, AreFileAnswers, Devices}
+use Rattle.check_run.specs.Runs.{AreAnswers, AreAnswersBy, AreFileAnswers}
 use Rattle.file_choice.specs.Choice.{chosen_of}
 use Rattle.check_run.proofs.Lists.{all_moved}
 

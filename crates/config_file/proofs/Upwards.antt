@@ -1,5 +1,5 @@
 -- From one folder to the one above.
-use Rattle.std.proofs.Common.{◌≡◌, ◌<◌, inl, inr, ap, arith, refl, subst, sym, ℕ, zero, suc, Bool, true, false, List, ◌++◌, Option, Some, None}
+use Rattle.std.proofs.Common.{◌≡◌, ◌<◌, inl, inr, ap, arith, refl, subst, sym, ℕ, zero, suc, Bool, true, false, ◌++◌, Option, Some, None}
 use Rattle.std.specs.Prelude.{codes}
 use Rattle.config_file.specs.Found.{IsFound, config_in, top_in}
 use Rattle.file_store.specs.Contents.{Content, IsThere}

@@ -1,5 +1,5 @@
 -- Which file is the configuration.
-use Rattle.std.specs.Prelude.{◌≡◌, ◌⊎◌, ℕ, zero, suc, true, false, List, [], ◌++◌, Option, Some, None, codes}
+use Rattle.std.specs.Prelude.{◌≡◌, ◌⊎◌, ℕ, zero, suc, true, false, [], ◌++◌, Option, Some, None, codes}
 use Rattle.file_store.specs.Contents.{Content, IsThere}
 use Rattle.squawk_words.specs.Words.{Text}
 

@@ -1,12 +1,12 @@
 -- The answer for the text that a followed fix makes.
-use Rattle.std.proofs.Common.{◌≡◌, ◌∙◌, ℕ, ◌+◌, ◌<◌, ◌≤◌, ◌⊎◌, ◌^◌, inl, inr, Bool, true, false, List, [], ◌∷◌, length, sym, refl, ap, subst, arith, Option, Some, None, IfSome}
+use Rattle.std.proofs.Common.{◌≡◌, ◌∙◌, ℕ, ◌+◌, inl, inr, Bool, true, false, List, [], ◌∷◌, length, sym, refl, ap, subst, arith, Option, Some, None, IfSome}
 use Rattle.std.proofs.lemmas.Bool.{false≢true}
-use Rattle.std.proofs.lemmas.List.Elements.{All-cons, All-contains, All-contains_itself, All-head, All-nil, All-tail, All-weaker}
+use Rattle.std.proofs.lemmas.List.Elements.{All-cons, All-contains, All-head, All-nil, All-tail, All-weaker}
 use Rattle.std.specs.List.{list_any}
 use Rattle.std.specs.Prelude.{All, Contains, ◌&&◌, ◌||◌, is_some, not}
 use Rattle.std.specs.Str.{IsUtf8}
 use Rattle.sql_token.specs.declared.token.Tok.{Tok}
-use Rattle.sql_tree.specs.Statement.{Tree, IsTree}
+use Rattle.sql_tree.specs.Statement.{Tree}
 use Rattle.lint_base.specs.declared.edit.Edit.{Edit}
 use Rattle.lint_base.specs.declared.rule.Rule.{Rule}
 use Rattle.lint_base.specs.declared.rule.Rule.TheVariants as rule
@@ -24,7 +24,7 @@ use Rattle.law_fix_steps.specs.Kept.{Kept, SameAt}
 use Rattle.law_fix_steps.specs.Leaves.{FixesLeave, FixLeaves, Leaves, followed_tables, is_followed}
 use Rattle.law_fix_steps.specs.Left.{Left}
 use Rattle.law_fix_steps.specs.Listed.{is_listed}
-use Rattle.law_fix_steps.specs.Step.{JoinNoWord, Steps, has_ignore_comment, listed_tables, timeouts}
+use Rattle.law_fix_steps.specs.Step.{JoinNoWord, has_ignore_comment, listed_tables, timeouts}
 use Rattle.law_answers.specs.Tables.{IsInItsTable, mended_table}
 use Rattle.squawk_linter.specs.Answers.{reports}
 use Rattle.squawk_linter.specs.Headline.{HasNoIgnoreComment}
@@ -32,7 +32,7 @@ use Rattle.squawk_linter.specs.Mending.{AnswersAreInTheirTables}
 use Rattle.squawk_linter.specs.Placed.{IsPlacedPass}
 use Rattle.squawk_linter.specs.Reports.{cleared, start_of}
 use Rattle.squawk_linter.proofs.HeadlineLaws.{plain_answer}
-use Rattle.law_answer_steps.specs.Leaves.{AnswerLeaves, AnswersLeave, Comes, ComesFrom, FixLeavesAnswer, IsLeft}
+use Rattle.law_answer_steps.specs.Leaves.{AnswerLeaves, AnswersLeave, ComesFrom, FixLeavesAnswer, IsLeft}
 use Rattle.law_answer_steps.proofs.Found.{From, KeptFrom, To, kept_from, left_from, left_to}
 use Rattle.law_answer_steps.proofs.Members.{builds_in, detached_in, dropped_in, ints_in, rebuilt_in, smallints_in, timeouts_in, timestamps_in, varchars_in}
 use Rattle.law_answer_steps.proofs.Ordered.{by_key_has}

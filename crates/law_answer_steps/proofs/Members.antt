@@ -1,5 +1,5 @@
 -- The tables of the listed rules are parts of the table of all passes.
-use Rattle.std.proofs.Common.{ℕ, List, ◌++◌, length}
+use Rattle.std.proofs.Common.{List, ◌++◌}
 use Rattle.std.proofs.lemmas.List.Elements.{Contains-append_left, Contains-append_right}
 use Rattle.std.specs.Prelude.{Contains}
 use Rattle.sql_tree.specs.Statement.{Tree}

@@ -1,15 +1,11 @@
 -- Entries in the order of a number.
-use Rattle.std.proofs.Common.{◌≡◌, ◌∙◌, ℕ, zero, suc, ◌+◌, ◌<◌, ◌≤◌, inl, inr, Bool, true, false, cond, List, [], ◌∷◌, ◌++◌, length, sym, refl, subst, arith}
+use Rattle.std.proofs.Common.{◌≡◌, ◌∙◌, ℕ, zero, suc, ◌+◌, ◌<◌, ◌≤◌, inl, inr, Bool, true, false, cond, List, [], ◌∷◌, ◌++◌, length, sym, refl, arith}
 use Rattle.std.proofs.lemmas.Bool.{cases_lt, false≢true}
 use Rattle.std.proofs.lemmas.Bool.Decides.{nat_tests}
 use Rattle.std.proofs.lemmas.List.Elements.{All-append, All-contains, All-cons, All-head, All-nil, All-tail, All-weaker, Contains-append_left, Contains-append_right}
 use Rattle.std.specs.Prelude.{All, Contains, ◌==◌, filter}
-use Rattle.sql_tree.specs.Statement.{Tree}
-use Rattle.lint_base.specs.declared.settings.LinterSettings.{LinterSettings}
 use Rattle.lint_base.specs.declared.violation.Violation.{Violation}
-use Rattle.lint_base.specs.RuleSets.{Rules}
 use Rattle.pass_groups.specs.OwnTable.{own_table}
-use Rattle.squawk_linter.specs.Answers.{reports}
 use Rattle.squawk_linter.specs.ByStart.{by_key}
 use Rattle.squawk_linter.specs.Reports.{cleared, gathered, reports_from, start_of, with_unknown_names}
 use Rattle.law_answer_steps.specs.Leaves.{Ascend, AnswersAscend}

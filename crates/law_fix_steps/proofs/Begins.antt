@@ -1,5 +1,5 @@
 -- Where the reports on a statement begin.
-use Rattle.std.proofs.Common.{◌≡◌, ℕ, Bool, true, false, cond, List, [], ◌∷◌, ◌++◌, refl, None, Some}
+use Rattle.std.proofs.Common.{ℕ, Bool, true, false, cond, [], ◌∷◌, ◌++◌, refl, None, Some}
 use Rattle.std.proofs.lemmas.List.Elements.{All-nil, All-cons}
 use Rattle.std.specs.Prelude.{All}
 use Rattle.sql_tree.specs.declared.nodes.Body.{Body}

@@ -26,7 +26,6 @@ use Rattle.law_edit_inserts.proofs.Statements.{full_parts, joined_append, of_rea
 use Rattle.law_renumber.proofs.Readings.{NoneEmpty, statements_full}
 use Rattle.law_edit_inserts.proofs.Tokens.{AtLeast, least_parts, terms_least}
 use Rattle.lint_base.specs.declared.violation.Violation.{Violation}
-use Rattle.lint_node.specs.ColumnTypes.{column_types}
 use Rattle.lint_node.specs.Same.{same_kind}
 use Rattle.lint_transaction.specs.Transaction.{no_stmt}
 use Rattle.pass_concurrent.specs.RequireConcurrentIndexDeletion as drops

@@ -44,7 +44,7 @@ use Rattle.law_type_fixes.specs.Rules.{TypeRule, reports_on}
 use Rattle.law_type_fixes.proofs.ColumnTypes.{types_moved}
 use Rattle.law_fixes.proofs.DetachStays.{plain_moved}
 use Rattle.law_fixes.proofs.Statements.{created_moved}
-use Rattle.law_fix_steps.specs.Kept.{SameAt, Kept}
+use Rattle.law_fix_steps.specs.Kept.{Kept}
 use Rattle.law_fix_steps.specs.Left.{Carried, EditsFollow, FixFollows, Left}
 use Rattle.law_fix_steps.proofs.Kept.{NodeKept, those_kept}
 use Rattle.law_fix_steps.proofs.Left.{NodeLeft, left_one, those_left}

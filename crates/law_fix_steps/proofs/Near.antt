@@ -1,5 +1,5 @@
 -- Tokens that keep their distance, and edits at them.
-use Rattle.std.proofs.Common.{◌≡◌, ◌∙◌, ℕ, ◌+◌, ◌-◌, ◌≤◌, max, List, [], ◌∷◌, refl, ap, arith}
+use Rattle.std.proofs.Common.{◌≡◌, ◌∙◌, ℕ, ◌+◌, ◌-◌, ◌≤◌, max, [], ◌∷◌, refl, ap, arith}
 use Rattle.sql_token.specs.declared.token.Tok.{Tok}
 use Rattle.sql_token.specs.Token.{Text}
 use Rattle.sql_tree.specs.Range.{span_range_of, token_at}

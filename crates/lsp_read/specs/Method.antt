@@ -1,7 +1,6 @@
 -- What the methods of requests and notifications ask for and tell.
 use Rattle.std.specs.Prelude.{ℕ, List, Option, Some, None, codes, bytes_eq, option_and_then, if◌then◌else◌}
 use Rattle.serde_json.specs.Data.{Data}
-use Rattle.serde_json.specs.Find.{get}
 use Rattle.lsp_message.specs.declared.message.Call.{Call}
 use Rattle.lsp_message.specs.declared.message.Call.TheVariants.{Initialize, Shutdown, Actions, Hover, Misread, Unknown}
 use Rattle.lsp_message.specs.declared.message.Document.{Document}

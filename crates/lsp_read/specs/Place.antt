@@ -1,5 +1,5 @@
 -- Positions in JSON.
-use Rattle.std.specs.Prelude.{ℕ, ◌^◌, List, Option, Some, None, codes, nat_lt, option_and_then, option_map, if◌then◌else◌}
+use Rattle.std.specs.Prelude.{ℕ, ◌^◌, List, Option, Some, None, codes, nat_lt, option_and_then, if◌then◌else◌}
 use Rattle.serde_json.specs.Data.{Data}
 use Rattle.serde_json.specs.Find.{as_number, as_u64, get}
 use Rattle.text_utf16.specs.declared.position.Pos.{Pos}

@@ -1,5 +1,5 @@
 -- JSON that has no float and is not deep.
-use Rattle.std.proofs.Common.{◌≡◌, ◌≤◌, ◌<◌, ◌+◌, ℕ, ℤ, pos, negsuc, suc, max, Bool, false, List, [], ◌∷◌, ◌++◌, map, flat_map, Option, None, Some, option_map, refl, sym, arith}
+use Rattle.std.proofs.Common.{◌≡◌, ◌≤◌, ◌<◌, ℕ, ℤ, pos, negsuc, suc, max, Bool, false, List, [], ◌∷◌, map, Option, None, Some, refl, arith}
 use Rattle.serde_json.specs.Data.{Data, Items, Members, array, boolean, depth, item, items_depth, member, members_depth, no_items, no_members, null, number, object, string, unsigned}
 use Rattle.serde_json.specs.View.{items_of}
 use Rattle.serde_json.specs.Written.{has_float, items_have_float, members_have_float}

@@ -1,10 +1,10 @@
 -- The JSON of a reply has no float and is not deep.
-use Rattle.std.proofs.Common.{◌≡◌, ◌≤◌, ℕ, ℤ, false, List, [], ◌∷◌, ◌++◌, map, flat_map, cond, Bool, true, Option, None, Some, option_map, option_to_list, unwrap_or, codes, refl, arith, subst, sym}
-use Rattle.serde_json.specs.Data.{Data, depth, no_members, member, string, object, array}
+use Rattle.std.proofs.Common.{◌≡◌, ◌≤◌, ℕ, ℤ, false, List, [], ◌∷◌, ◌++◌, flat_map, cond, Bool, true, Option, None, Some, option_map, refl, arith, subst}
+use Rattle.serde_json.specs.Data.{Data, depth}
 use Rattle.serde_json.specs.View.{items_of}
 use Rattle.serde_json.specs.Written.{has_float}
 use Rattle.text_utf16.specs.declared.position.Pos.{Pos}
-use Rattle.diag_json.specs.Json.{list_json, member_if, position_json, range_json}
+use Rattle.diag_json.specs.Json.{position_json, range_json}
 use Rattle.lint_base.specs.declared.rule.Rule.{Rule}
 use Rattle.lsp_message.specs.declared.message.Id.{Id}
 use Rattle.lsp_message.specs.declared.message.Id.TheVariants.{Null, Number, Text}
@@ -17,7 +17,7 @@ use Rattle.lsp_report.specs.declared.report.Change.{Change}
 use Rattle.lsp_report.specs.declared.report.Report.{Report}
 use Rattle.lsp_report.specs.Remedy.{RemedyValue}
 use Rattle.lsp_write.proofs.Fits.{Fits, ItemsFit, MembersFit, both, ends, in_array, in_list, in_object, integer, leaf, null_fits, one_item, next, then_if, truth, whole}
-use Rattle.lsp_write.specs.Action.{action_if, action_json, actions_json, actions_of, change_json, edit_json, meets}
+use Rattle.lsp_write.specs.Action.{action_if, action_json, actions_of, change_json, edit_json, meets}
 use Rattle.lsp_write.specs.Diagnostic.{diagnostic_by, diagnostic_json, from_message, integer_json, published_json, published_params}
 use Rattle.lsp_write.specs.Hover.{explanations, hover_json, hover_of}
 use Rattle.lsp_write.specs.Reply.{reply_json}

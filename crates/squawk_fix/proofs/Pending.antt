@@ -1,10 +1,9 @@
 -- Reports whose fixes are still to be made: where they and their fixes are in the text as it is.
 use Rattle.std.proofs.Common.{◌≡◌, ◌∙◌, ℕ, zero, suc, ◌+◌, ◌-◌, ◌<◌, ◌≤◌, ◌⊎◌, inl, inr, Bool, true, false, cond, List, [], ◌∷◌, ◌++◌, length, get_or, drop, sym, refl, ap, subst, arith, length-append, Option, Some, None}
-use Rattle.std.proofs.lemmas.Bool.{cases_lt, false≢true}
+use Rattle.std.proofs.lemmas.Bool.{false≢true}
 use Rattle.std.proofs.lemmas.Bool.Decides.{nat_tests}
 use Rattle.std.proofs.lemmas.List.{length-drop, length-take-le}
-use Rattle.std.proofs.lemmas.List.Elements.{All-cons, All-contains, All-head, All-nil, All-tail, All-weaker, Contains-append_right}
-use Rattle.std.specs.List.{list_all}
+use Rattle.std.proofs.lemmas.List.Elements.{All-cons, All-contains, All-head, All-nil, All-tail, All-weaker}
 use Rattle.std.specs.Option.{option_map, option_or}
 use Rattle.std.specs.Prelude.{All, Contains, ◌&&◌, nat_le, nat_lt, slice_range}
 use Rattle.sql_token.specs.Token.{Text}
@@ -20,7 +19,7 @@ use Rattle.law_fix_steps.specs.Listed.{is_listed}
 use Rattle.law_answer_steps.specs.Leaves.{Ascend, Comes}
 use Rattle.fix_choice.specs.Fits.{first_fitting, fits, fitting, listed_fix, made_by, with_fix}
 use Rattle.squawk_linter.specs.Reports.{start_of}
-use Rattle.squawk_fix.specs.Round.{HasOnly, IsMoved, IsNextFix, comes_first}
+use Rattle.squawk_fix.specs.Round.{HasOnly, IsMoved, comes_first}
 
 -- ---- members
 

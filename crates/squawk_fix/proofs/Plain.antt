@@ -1,11 +1,10 @@
 -- A text in which no ignore comment is found has none.
-use Rattle.std.proofs.Common.{◌≡◌, ◌∙◌, ℕ, Bool, true, false, List, [], ◌∷◌, length, sym, refl, ap, Option, Some, None}
+use Rattle.std.proofs.Common.{◌≡◌, ◌∙◌, ℕ, false, List, [], ◌∷◌, length, sym, refl, ap, Option, Some, None}
 use Rattle.std.proofs.lemmas.List.{nil_from_length}
 use Rattle.std.specs.List.{cons_option, filter_map, list_any}
 use Rattle.std.specs.Prelude.{◌||◌, is_some}
 use Rattle.sql_token.specs.declared.token.Tok.{Tok}
 use Rattle.sql_tree.specs.Statement.{Tree}
-use Rattle.lint_ignore.specs.declared.ignore.Ignore.{Ignore}
 use Rattle.lint_ignore.specs.declared.ignore.IgnoreKind.{IgnoreKind}
 use Rattle.lint_ignore.specs.Comment.{ignore_in_token}
 use Rattle.lint_ignore.specs.Found.{Lists, all_said, followed_by, found_from, ignore_comments, nothing}

@@ -1,24 +1,20 @@
 -- Fixes that are made one after another of one answer.
-use Rattle.std.proofs.Common.{◌≡◌, ◌∙◌, ℕ, zero, suc, ◌+◌, ◌<◌, ◌≤◌, ◌⊎◌, ◌^◌, inl, inr, Bool, true, false, List, [], ◌∷◌, length, get_or, sym, refl, ap, subst, arith, add-one, Option, Some, None, IfSome}
+use Rattle.std.proofs.Common.{◌≡◌, ◌∙◌, ℕ, ◌+◌, ◌<◌, ◌⊎◌, ◌^◌, inl, inr, true, false, List, [], ◌∷◌, length, get_or, sym, refl, ap, subst, arith, add-one, Option, Some, IfSome}
 use Rattle.std.proofs.lemmas.Bool.{false≢true}
 use Rattle.std.proofs.lemmas.List.Elements.{All-contains, All-contains_itself, All-head, All-tail, All-weaker}
 use Rattle.std.specs.List.{list_all}
 use Rattle.std.specs.Prelude.{All, Contains, ◌&&◌, nat_lt}
 use Rattle.std.specs.Str.{IsUtf8}
 use Rattle.sql_token.specs.Token.{Text}
-use Rattle.sql_tree.specs.Statement.{Tree, IsTree}
-use Rattle.sql_read.specs.Cause.{IsTreeOf}
+use Rattle.sql_tree.specs.Statement.{Tree}
 use Rattle.lint_base.specs.declared.edit.Edit.{Edit}
-use Rattle.lint_base.specs.declared.settings.LinterSettings.{LinterSettings}
 use Rattle.lint_base.specs.declared.violation.Violation.{Violation}
 use Rattle.lint_base.specs.Fixes.{FixValue}
-use Rattle.lint_base.specs.RuleSets.{Rules}
 use Rattle.lint_ignore.specs.Places.{IsPlace}
 use Rattle.lint_pass.specs.Laws.{AreEdits, IsRead}
 use Rattle.law_fixes.specs.Edited.{edited, place_moved}
 use Rattle.law_fix_steps.specs.Leaves.{is_followed}
 use Rattle.law_fix_steps.specs.Listed.{is_listed}
-use Rattle.law_fix_steps.specs.Step.{has_ignore_comment, load}
 use Rattle.law_answer_steps.specs.Leaves.{AnswerLeaves, AnswersAscend, AnswersLeave, Ascend, Comes, ComesFrom, FixLeavesAnswer, IsLeft}
 use Rattle.law_answer_steps.proofs.Leaving.{has_none, none_has}
 use Rattle.law_listed_edits.specs.OneEdit.{HasOneEdit, MendedByOne}
@@ -28,7 +24,6 @@ use Rattle.squawk_linter.specs.Answers.{reports}
 use Rattle.squawk_linter.specs.Headline.{HasNoIgnoreComment}
 use Rattle.squawk_linter.specs.Mending.{AnswersAreInTheirTables}
 use Rattle.squawk_linter.specs.Placed.{AnsweredFixesAreGood, AnswersPlaced, IsPlaced}
-use Rattle.squawk_linter.specs.Reports.{cleared}
 use Rattle.squawk_fix.specs.Fixing.{IsStep, Reached}
 use Rattle.squawk_fix.specs.Round.{Answered, IsNextFix, IsNextText, Ran}
 use Rattle.squawk_fix.proofs.Choosing.{both_true, each_one, is_short, joined}

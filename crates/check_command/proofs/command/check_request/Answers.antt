@@ -1,5 +1,5 @@
 use Rattle.check_words.specs.declared.help.TheConstants.{HELP, VERSION}
-use Rattle.check_command.proofs.Doing.{ended_err, ended_ok, has_checked, has_refused, has_stopped, has_unchosen}
+use Rattle.check_command.proofs.Doing.{ended_err, ended_ok, has_checked, has_stopped}
 use Rattle.check_command.proofs.command.check_request.Goals as goal
 
 pub returns-clause-done : goal.returns-clause-done

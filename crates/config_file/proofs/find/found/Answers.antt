@@ -1,5 +1,4 @@
-use Rattle.std.proofs.Common.{◌≡◌, ◌∙◌, ◌+◌, ◌-◌, ◌++◌, arith, subst, sym, string_bytes, ℕ, List, suc, Some, None}
-use Rattle.std.specs.Prelude.{codes}
+use Rattle.std.proofs.Common.{◌≡◌, ◌+◌, ◌-◌, arith, subst, sym, string_bytes, ℕ, List, suc, Some, None}
 use Rattle.config_file.specs.Found.{IsFound, most_folders}
 use Rattle.config_file.proofs.Upwards.{found_above, found_here, none_above, nothing_left}
 use Rattle.config_file.proofs.find.found.Goals as goal
