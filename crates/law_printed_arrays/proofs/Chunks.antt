@@ -1,7 +1,6 @@
 -- What is printed of files, finding by finding.
 use Rattle.std.proofs.Common.{◌≡◌, ◌∙◌, ◌||◌, ◌==◌, ℕ, Bool, true, false, not, List, [], ◌∷◌, ◌++◌, ap, append_assoc, append-nil, arith, length, map, refl, sym}
 use Rattle.std.proofs.lemmas.List.{map-append}
-use Rattle.check_print.specs.declared.style.Style.{Style}
 use Rattle.check_print.specs.Findings.{array_separator, printed_refusal, printed_report}
 use Rattle.check_print.specs.Printed.{printed_answer, printed_file, printed_files, printed_reports, source_of}
 use Rattle.checked_file.specs.declared.answer.Answer.{Answer}

@@ -1,11 +1,11 @@
 -- The same as tokens with line feeds between them.
-use Rattle.std.proofs.Common.{◌≡◌, ◌∙◌, ◌⊎◌, ◌&&◌, ℕ, Bool, true, false, cond, List, [], ◌∷◌, ◌++◌, ap, append_assoc, fold, inr, map, refl, subst, sym}
+use Rattle.std.proofs.Common.{◌≡◌, ◌∙◌, ℕ, Bool, true, false, List, [], ◌∷◌, ◌++◌, ap, append_assoc, fold, inr, map, refl, subst, sym}
 use Rattle.std.proofs.lemmas.List.{map-append}
 use Rattle.std.proofs.lemmas.List.Sums.{fold-append}
 use Rattle.json.specs.Json as json
 use Rattle.json.specs.Lex.{tokens}
 use Rattle.json.specs.Print.{ArePrintable, ends, print_from, separator, token_text}
-use Rattle.json.specs.Spaced.{AreGaps, IsGap, print_spaced}
+use Rattle.json.specs.Spaced.{AreGaps, print_spaced}
 use Rattle.json.specs.Token.{Token}
 use Rattle.json.specs.Tree.{HasNumbers, items_tokens, json_tokens, members_tokens}
 use Rattle.json.proofs.Printed.Tokens.{tokens-print_spaced}
@@ -13,8 +13,7 @@ use Rattle.json.proofs.Printed.Trees.{ArePrintable-json_tokens}
 use Rattle.serde_json.proofs.Texts.{print-outline}
 use Rattle.serde_json.specs.Data.{Data, Members, array, object}
 use Rattle.serde_json.specs.View.{items_of}
-use Rattle.serde_json.specs.Written.{compact_text, items_outline, members_outline, members_text, outline}
-use Rattle.check_print.specs.Findings.{array_separator}
+use Rattle.serde_json.specs.Written.{items_outline, members_outline, members_text, outline}
 use Rattle.law_printed_arrays.proofs.Chunks.{after, after_true, chunks}
 
 -- a token right after the one before it

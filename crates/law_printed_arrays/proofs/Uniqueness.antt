@@ -1,12 +1,12 @@
 -- The printed array leads back to the findings.
-use Rattle.std.proofs.Common.{◌≡◌, ◌∙◌, ◌++◌, ◌∷◌, [], Bool, false, List, ap, append_assoc, map, sym}
+use Rattle.std.proofs.Common.{◌≡◌, ◌∙◌, ◌++◌, ◌∷◌, [], Bool, false, List, ap, append_assoc, sym}
 use Rattle.std.proofs.lemmas.List.{append_cancel_right}
 use Rattle.json.specs.Lex.{tokens}
 use Rattle.json.specs.Spaced.{print_spaced}
 use Rattle.check_print.specs.Printed.{printed}
 use Rattle.checked_file.specs.declared.checked.Checked.{Checked}
-use Rattle.law_printed_arrays.specs.Found.{all_found, told}
-use Rattle.law_printed_arrays.specs.Unique.{AreShort, UniqueArrays, json_style}
+use Rattle.law_printed_arrays.specs.Found.{all_found}
+use Rattle.law_printed_arrays.specs.Unique.{UniqueArrays, json_style}
 use Rattle.law_printed_arrays.proofs.Chunks.{chunks, files_chunks}
 use Rattle.law_printed_arrays.proofs.Shapes.{has_numbers, objects, same_findings, same_value}
 use Rattle.law_printed_arrays.proofs.Spaced.{array_tokens, whole, whole_print}

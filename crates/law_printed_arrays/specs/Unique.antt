@@ -1,5 +1,5 @@
 -- The JSON of a run leads back to its findings.
-use Rattle.std.specs.Prelude.{◌≡◌, ℕ, ◌<◌, ◌^◌, All, Bool, List, map, ⊤}
+use Rattle.std.specs.Prelude.{◌≡◌, ◌<◌, ◌^◌, All, Bool, List, map, ⊤}
 use Rattle.check_words.specs.declared.request.Format.TheVariants as format
 use Rattle.checked_file.specs.declared.checked.Checked.{Checked}
 use Rattle.check_print.specs.declared.style.Style.{Style}
