@@ -1,5 +1,5 @@
 -- Names with commas between them, one by one.
-use Rattle.std.proofs.Common.{◌≡◌, ◌∙◌, ◌+◌, ◌≤◌, ap, append_assoc, append-nil, refl, sym, ℕ, List, [], ◌∷◌, ◌++◌, Some, drop, length}
+use Rattle.std.proofs.Common.{◌≡◌, ◌∙◌, ◌+◌, ◌≤◌, ap, append_assoc, append-nil, sym, ℕ, List, [], ◌∷◌, ◌++◌, Some, drop, length}
 use Rattle.std.proofs.lemmas.List.{drop_all}
 use Rattle.std.specs.List.{join_with_byte}
 use Rattle.std.specs.Prelude.{flat_map, slice_get}

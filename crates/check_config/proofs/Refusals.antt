@@ -1,12 +1,12 @@
 -- A fault goes through to the end.
-use Rattle.std.proofs.Common.{◌≡◌, ◌∙◌, ◌≤◌, ap, arith, refl, subst, sym, List, Option, Some, None, Result, Ok, Err, length}
+use Rattle.std.proofs.Common.{◌≡◌, ◌∙◌, ◌≤◌, ap, arith, subst, sym, List, Option, Some, None, Result, Ok, Err, length}
 use Rattle.std.specs.Prelude.{find}
 use Rattle.squawk_words.specs.Words.{Text}
 use Rattle.toml.specs.Data.{Members}
 use Rattle.toml.specs.Errors.{IsMemory, IsWithin}
 use Rattle.toml.specs.Parse.{parse_document}
 use Rattle.toml.specs.declared.de.error.Error.{Error}
-use Rattle.check_config.specs.Config.{IsUnknownKey, IsUnknownRule, bad_value, config_by, config_in, is_unknown_rule, known_by, known_rules, ok_or_bad, read_then, unknown_key, values_in}
+use Rattle.check_config.specs.Config.{IsUnknownKey, IsUnknownRule, config_by, config_in, is_unknown_rule, known_by, known_rules, read_then, unknown_key}
 use Rattle.check_config.specs.Readings.{IsReading, IsReadingBy, IsRefused, IsRefusedReading, IsTomlError}
 use Rattle.check_config.specs.declared.config.Config.{Config}
 use Rattle.check_config.specs.declared.fault.ConfigError.{ConfigError}

@@ -1,5 +1,5 @@
 -- Parts of a version, as they are read.
-use Rattle.std.proofs.Common.{◌≡◌, ◌≤◌, ◌&&◌, refl, ℕ, Bool, true, List, length, map, Bor, le-leb}
+use Rattle.std.proofs.Common.{◌≡◌, ◌≤◌, refl, List, length, map, Bor, le-leb}
 use Rattle.std.proofs.lemmas.List.{length-map}
 use Rattle.std.proofs.lemmas.List.Folds.{list_all-map}
 use Rattle.std.specs.List.{list_all}

@@ -1,6 +1,6 @@
 -- The test by which a path is matched says what the definition says.
-use Rattle.std.proofs.Common.{◌≡◌, ◌⊎◌, inl, inr, ◌∙◌, ap, arith, refl, subst, sym, ℕ, zero, suc, Bool, true, false, ◌&&◌, ◌||◌, cond, List, [], ◌∷◌, ◌++◌, length}
-use Rattle.std.proofs.lemmas.Bool.{and_from, and_parts, cases_Bool, false≢true, or_cases, or_left, or_right}
+use Rattle.std.proofs.Common.{◌≡◌, inl, inr, ◌∙◌, ap, arith, refl, subst, sym, ℕ, Bool, true, false, ◌&&◌, cond, List, [], ◌∷◌, ◌++◌, length}
+use Rattle.std.proofs.lemmas.Bool.{and_from, and_parts, false≢true, or_cases, or_left, or_right}
 use Rattle.std.specs.List.{list_all}
 use Rattle.path_pattern.specs.declared.part.Part.{Part}
 use Rattle.path_pattern.specs.Patterns.{Fits, Matches, takes, takes_many}

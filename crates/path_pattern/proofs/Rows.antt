@@ -1,5 +1,5 @@
 -- A row, place by place.
-use Rattle.std.proofs.Common.{◌≡◌, ◌⊎◌, inl, inr, ◌∙◌, ◌+◌, ◌<◌, ◌≤◌, ap, arith, refl, subst, sym, ℕ, zero, suc, Bool, true, false, ◌&&◌, ◌||◌, cond, List, [], ◌∷◌, length, drop, get_or, set, replicate}
+use Rattle.std.proofs.Common.{◌≡◌, inl, inr, ◌∙◌, ◌+◌, ◌<◌, ◌≤◌, arith, refl, subst, sym, ℕ, Bool, true, false, ◌&&◌, ◌||◌, cond, List, [], ◌∷◌, length, drop, get_or, set, replicate}
 use Rattle.std.proofs.lemmas.Bool.{cases_eq}
 use Rattle.std.proofs.lemmas.List.{drop_all, drop_more, get_or_default, get_or-replicate, get_or-set_other, get_or-set_same, length-replicate}
 use Rattle.path_pattern.specs.declared.part.Part.{Part}

@@ -1,4 +1,4 @@
-use Rattle.std.proofs.Common.{◌≡◌, ◌∙◌, ◌≤◌, ◌++◌, append-nil, ap, arith, length, sym, Option}
+use Rattle.std.proofs.Common.{◌∙◌, ◌≤◌, ◌++◌, append-nil, ap, arith, length, sym, Option}
 use Rattle.std.proofs.lemmas.Option.{slice_get_past}
 use Rattle.squawk_words.specs.Words.{Text}
 use Rattle.check_config.specs.Defaults.{part_words}

@@ -1,4 +1,4 @@
-use Rattle.std.proofs.Common.{◌≡◌, ◌∙◌, ◌<◌, ◌≤◌, arith, length, sym}
+use Rattle.std.proofs.Common.{◌∙◌, ◌<◌, ◌≤◌, arith, length, sym}
 use Rattle.check_config.proofs.Places.{place_here, place_last, place_next, whole_rest}
 use Rattle.check_config.proofs.place.first_place.Goals as goal
 

@@ -1,7 +1,6 @@
-use Rattle.std.proofs.Common.{◌≡◌, ◌∙◌, ◌+◌, ap, cond, subst, sym, ℕ, Bool, true, false, not, ◌||◌, List, [], ◌∷◌, ◌++◌, take, rules, arith}
+use Rattle.std.proofs.Common.{◌≡◌, ◌∙◌, ◌+◌, ap, cond, sym, Bool, true, false, not, ◌||◌, List, [], ◌∷◌, ◌++◌, take, rules, arith}
 use Rattle.std.proofs.lemmas.Grind.{common_steps}
 use Rattle.std.proofs.lemmas.Bool.{not-false, not-true}
-use Rattle.std.specs.BTreeSet.{contains_text}
 use Rattle.std.specs.Str.{bytes_eq}
 use Rattle.squawk_words.specs.Words.{Text}
 use Rattle.file_choice.specs.Choice.{bare, chosen_of, is_among, is_excluded}

@@ -1,4 +1,4 @@
-use Rattle.std.proofs.Common.{◌≡◌, ◌∙◌, ◌+◌, ◌-◌, ap, arith, get_or, set, subst, sym, ℕ, Bool, false, List}
+use Rattle.std.proofs.Common.{◌≡◌, ◌∙◌, ◌+◌, ◌-◌, ap, arith, get_or, set, subst, sym, ℕ, Bool, false}
 use Rattle.std.proofs.lemmas.List.{length-set}
 use Rattle.path_pattern.specs.Patterns.{takes}
 use Rattle.path_pattern.specs.Rows.{value_at}
