@@ -1,5 +1,5 @@
 -- The first place of a name, byte by byte.
-use Rattle.std.proofs.Common.{◌≡◌, ◌==◌, ◌+◌, ◌-◌, ◌<◌, ◌≤◌, ◌&&◌, ◌||◌, arith, refl, ℕ, Bool, true, false, [], ◌∷◌, Some, None, drop, get_or, length, take}
+use Rattle.std.proofs.Common.{◌≡◌, ◌==◌, ◌+◌, ◌-◌, ◌<◌, ◌≤◌, ◌&&◌, ◌||◌, arith, refl, ℕ, Bool, true, false, ◌∷◌, Some, None, drop, get_or, length, take}
 use Rattle.std.proofs.lemmas.List.{drop_all, drop_more, length-drop, take_all}
 use Rattle.squawk_words.specs.Words.{Text}
 use Rattle.check_config.specs.Faults.{begins_with_name, place_from}

@@ -1,5 +1,5 @@
 //! Keys as default words.
-ghost use Rattle.std.specs.Prelude.{◌≡◌, ◌<◌, ◌++◌, IfOk, OnOk, length, slice_get, string_bytes};
+ghost use Rattle.std.specs.Prelude.{◌≡◌, ◌<◌, ◌++◌, IfOk, OnOk, slice_get, string_bytes};
 ghost use Rattle.std.specs.List.{join_with_byte};
 ghost use Rattle.check_config.specs.Defaults as spec;
 

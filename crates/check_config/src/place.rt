@@ -1,5 +1,5 @@
 //! Where the fault of a configuration is.
-ghost use Rattle.std.specs.Prelude.{◌≡◌, ◌&&◌, ◌||◌, Bool, true};
+ghost use Rattle.std.specs.Prelude.{◌≡◌, ◌&&◌, ◌||◌, true};
 ghost use Rattle.check_config.specs.Faults as spec;
 
 use crate::fault::ConfigFault;

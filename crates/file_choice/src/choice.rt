@@ -1,5 +1,5 @@
 //! Which of the files that are named are checked.
-ghost use Rattle.std.specs.Prelude.{◌≡◌, ◌||◌, ℕ, Bool, true, not, if◌then◌else◌, IfOk, List, OnOk, option_map};
+ghost use Rattle.std.specs.Prelude.{◌≡◌, ◌||◌, ℕ, true, not, if◌then◌else◌, IfOk, List, OnOk, option_map};
 ghost use Rattle.std.specs.BTreeSet.{contains_text};
 ghost use Rattle.std.specs.Str.{bytes_eq};
 ghost use Rattle.file_choice.specs.Choice as spec;

@@ -1,6 +1,6 @@
 //! Whether a path matches a pattern.
-ghost use Rattle.std.specs.Prelude.{◌≡◌, ◌+◌, ◌<◌, ◌↔◌, ℕ, Bool, IfOk, IsTrue, List, drop, length, slice_index, slice_index_or};
-ghost use Rattle.path_pattern.specs.Patterns.{Matches, parts_of, begins_with_star};
+ghost use Rattle.std.specs.Prelude.{◌≡◌, ◌+◌, ◌<◌, ◌↔◌, ℕ, Bool, IfOk, IsTrue, List, length};
+ghost use Rattle.path_pattern.specs.Patterns.{Matches, parts_of};
 ghost use Rattle.path_pattern.specs.Rows.{IsRow, ends_here, matched_by, part_test, value_at};
 
 use crate::part::{Part, part_of, takes, takes_many};
