@@ -32,9 +32,9 @@ fn fingerprinted(alloc: Global, file: &str, name: &str, part: &[u8]) -> Result<V
     Ok(all)
 }
 
-// The fingerprint of a finding, by the text that is reported.
+/// The fingerprint of a finding, by the file's name, the rule's and the text that is reported. The error comes when memory runs out.
 #[tactic(auto, unfolding(crate::specs::Issues::fingerprint))]
-fn fingerprint(alloc: Global, file: &str, name: &str, part: &[u8]) -> Result<String, AllocError>
+pub fn fingerprint(alloc: Global, file: &str, name: &str, part: &[u8]) -> Result<String, AllocError>
     ensures { IfOk result (λ text. string_bytes text ≡ fingerprint file.now name.now part.now) }
 {
     let all = fingerprinted(alloc, file, name, part)?;

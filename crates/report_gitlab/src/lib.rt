@@ -6,4 +6,5 @@
 mod issues;
 mod text;
 
+pub use issues::fingerprint;
 pub use text::{push_refusal, push_report};

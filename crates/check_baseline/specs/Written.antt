@@ -1,0 +1,31 @@
+-- The baseline that knows all reports of some files.
+use Rattle.std.specs.Prelude.{ℕ, List, [], ◌++◌, codes}
+use Rattle.std.specs.List.{flat_map}
+use Rattle.checked_file.specs.declared.answer.Answer.{Answer}
+use Rattle.checked_file.specs.declared.answer.Answer.TheVariants.{Reports, Refused}
+use Rattle.checked_file.specs.declared.checked.Checked.{Checked}
+use Rattle.checked_file.specs.Files.{readable_of}
+use Rattle.lint_base.specs.declared.violation.Violation.{Violation}
+use Rattle.lint_base.specs.Rules.{name_of}
+use Rattle.source_file.specs.Shown.{shown}
+use Rattle.check_baseline.specs.Known.{Text, fingerprint_of}
+
+-- what comes before the first line
+abbrev pub heading : Text
+heading = codes "# Reports that lavkheto lets pass: fingerprint, rule, file. Written by --write-baseline.\n"
+
+-- the line of a report: its fingerprint, and for people the rule and the file, as it is shown on a terminal
+unfoldable pub report_line : Text → Text → Violation → Text
+report_line name text v = fingerprint_of name text v ++ codes " " ++ name_of v.code ++ codes " " ++ shown name ++ codes "\n"
+
+-- the lines of an answer; a refusal has none
+abbrev pub answer_lines : Text → Text → Answer → Text
+answer_lines name text (Reports reports) = flat_map (report_line name text) reports.items
+answer_lines name text (Refused r) = []
+
+unfoldable pub file_lines : Checked → Text
+file_lines file = answer_lines file.name (readable_of file.bytes.items) file.answer
+
+-- the whole text
+abbrev pub written : List Checked → Text
+written files = heading ++ flat_map file_lines files

@@ -1,0 +1,123 @@
+//! Files without the reports that a baseline knows.
+ghost use Rattle.std.specs.Prelude.{◌≡◌, All, IfOk, string_bytes};
+ghost use Rattle.std.specs.List.{AllZip};
+ghost use Rattle.checked_file.specs.Sound.{IsIn, IsSound};
+ghost use Rattle.source_file.specs.File.{IsRangeIn};
+ghost use Rattle.check_baseline.specs.Known.{IsLeft, IsLeftOf, fingerprint_of, is_known, unknown_reports};
+
+use crate::baseline::Baseline;
+use checked_file::{Answer, Checked, readable};
+use lint_base::Violation;
+use report_gitlab::fingerprint;
+use std::alloc::Global;
+use text_pos::NoMemory;
+
+/// The fingerprint of a report of a file. The error comes when memory runs out.
+pub(crate) fn print_of(
+    alloc: Global,
+    name: &str,
+    text: &str,
+    report: &Violation,
+) -> Result<String, NoMemory>
+    requires { IsRangeIn text.now report.now.text_range }
+    ensures { IfOk result (λ print. string_bytes print ≡ fingerprint_of name.now text.now report.now) }
+{
+    let range = report.text_range;
+    let part = &text.as_bytes()[range.start().raw() as usize..range.end().raw() as usize];
+    let print = fingerprint(alloc, name, report.code.name(), part)?;
+    Ok(print)
+}
+
+// Whether a baseline knows a report.
+fn is_known(
+    alloc: Global,
+    baseline: &Baseline,
+    name: &str,
+    text: &str,
+    report: &Violation,
+) -> Result<bool, NoMemory>
+    requires { IsRangeIn text.now report.now.text_range }
+    ensures { IfOk result (λ known. known ≡ is_known baseline.now name.now text.now report.now) }
+{
+    let print = print_of(alloc, name, text, report)?;
+    Ok(baseline.knows(print.as_str()))
+}
+
+// The reports of a file that a baseline does not know.
+fn unknown_reports(
+    alloc: Global,
+    baseline: &Baseline,
+    name: &str,
+    text: &str,
+    reports: Vec<Violation>,
+) -> Result<Vec<Violation>, NoMemory>
+    requires { All (λ v. IsRangeIn text.now v.text_range) reports.items }
+    ensures { IfOk result (λ kept. kept.items ≡ unknown_reports baseline.now name.now text.now reports.items) }
+{
+    let mut kept = Vec::new(alloc);
+    for report in reports {
+        if !is_known(alloc, baseline, name, text, &report)? {
+            kept.push(report)?;
+        }
+    }
+    Ok(kept)
+}
+
+// What is left of an answer for a file.
+fn left_of(
+    alloc: Global,
+    baseline: &Baseline,
+    name: &str,
+    text: &str,
+    answer: Answer,
+) -> Result<Answer, NoMemory>
+    requires { IsIn text.now answer }
+    ensures left { IfOk result (IsLeftOf baseline.now name.now text.now answer) }
+    ensures placed { IfOk result (IsIn text.now) }
+{
+    match answer {
+        Answer::Reports(reports) => {
+            let kept = unknown_reports(alloc, baseline, name, text, reports)?;
+            Ok(Answer::Reports(kept))
+        }
+        Answer::Refused(refusal) => Ok(Answer::Refused(refusal)),
+    }
+}
+
+// What is left of a file.
+fn left(alloc: Global, baseline: &Baseline, file: Checked) -> Result<Checked, NoMemory>
+    requires { IsSound file }
+    ensures left { IfOk result (IsLeft baseline.now file) }
+    ensures sound { IfOk result IsSound }
+{
+    let Checked {
+        name,
+        bytes,
+        answer,
+    } = file;
+    let text = readable(bytes.as_slice());
+    let answer = left_of(alloc, baseline, name.as_str(), text, answer)?;
+    Ok(Checked {
+        name,
+        bytes,
+        answer,
+    })
+}
+
+/// Files without the reports that a baseline knows, in their order. What could not be linted stays. The error comes when memory runs out.
+pub fn without_known(
+    alloc: Global,
+    baseline: &Baseline,
+    files: Vec<Checked>,
+) -> Result<Vec<Checked>, NoMemory>
+    requires { All IsSound files.items }
+    ensures left { IfOk result (λ all. AllZip (IsLeft baseline.now) files.items all.items) }
+    ensures sound { IfOk result (λ all. All IsSound all.items) }
+{
+    let mut all = Vec::new(alloc);
+    for file in files {
+        let file = left(alloc, baseline, file)?;
+        all.push(file)?;
+    }
+    Ok(all)
+}

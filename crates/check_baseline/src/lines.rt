@@ -1,0 +1,105 @@
+//! The text of a baseline.
+ghost use Rattle.std.specs.Prelude.{◌≡◌, ◌++◌, All, IfOk, OnOk, [], string_bytes};
+ghost use Rattle.std.specs.List.{flat_map};
+ghost use Rattle.checked_file.specs.Sound.{IsIn, IsSound};
+ghost use Rattle.source_file.specs.File.{IsRangeIn};
+ghost use Rattle.check_baseline.specs.Written.{answer_lines, file_lines, heading, report_line, written};
+
+use crate::known::print_of;
+use checked_file::{Answer, Checked, readable};
+use lint_base::Violation;
+use source_file::push_shown;
+use std::alloc::Global;
+use text_pos::NoMemory;
+
+/// What comes before the first line.
+const HEADING: &str =
+    "# Reports that lavkheto lets pass: fingerprint, rule, file. Written by --write-baseline.\n";
+
+// Adds the line of a report.
+#[tactic(auto, unfolding(crate::specs::Written::report_line), using(std::proofs::lemmas::List::append_assoc))]
+fn push_line(
+    to: &mut Vec<u8>,
+    alloc: Global,
+    name: &str,
+    text: &str,
+    report: &Violation,
+) -> Result<(), NoMemory>
+    requires { IsRangeIn text.now report.now.text_range }
+    ensures { OnOk result (to.new.items ≡ to.old.items ++ report_line name.now text.now report.now) }
+{
+    let print = print_of(alloc, name, text, report)?;
+    to.extend_from_slice(print.as_bytes())?;
+    to.push(b' ')?;
+    to.extend_from_slice(report.code.name().as_bytes())?;
+    to.push(b' ')?;
+    push_shown(to, name.as_bytes())?;
+    to.push(b'\n')?;
+    Ok(())
+}
+
+// Adds the lines of reports.
+fn push_lines(
+    to: &mut Vec<u8>,
+    alloc: Global,
+    name: &str,
+    text: &str,
+    reports: &[Violation],
+) -> Result<(), NoMemory>
+    requires { All (λ v. IsRangeIn text.now v.text_range) reports.now }
+    ensures { OnOk result (to.new.items ≡ to.old.items ++ flat_map (report_line name.now text.now) reports.now) }
+{
+    for report in reports {
+        push_line(to, alloc, name, text, report)?;
+    }
+    Ok(())
+}
+
+// Adds the lines of an answer.
+fn push_answer(
+    to: &mut Vec<u8>,
+    alloc: Global,
+    name: &str,
+    text: &str,
+    answer: &Answer,
+) -> Result<(), NoMemory>
+    requires { IsIn text.now answer.now }
+    ensures { OnOk result (to.new.items ≡ to.old.items ++ answer_lines name.now text.now answer.now) }
+{
+    match answer {
+        Answer::Reports(reports) => push_lines(to, alloc, name, text, reports.as_slice()),
+        Answer::Refused(_) => Ok(()),
+    }
+}
+
+// Adds the lines of a file.
+#[tactic(auto, unfolding(crate::specs::Written::file_lines))]
+fn push_file(to: &mut Vec<u8>, alloc: Global, file: &Checked) -> Result<(), NoMemory>
+    requires { IsSound file.now }
+    ensures { OnOk result (to.new.items ≡ to.old.items ++ file_lines file.now) }
+{
+    let text = readable(file.bytes.as_slice());
+    push_answer(to, alloc, file.name.as_str(), text, &file.answer)
+}
+
+// Adds the lines of files.
+fn push_files(to: &mut Vec<u8>, alloc: Global, files: &[Checked]) -> Result<(), NoMemory>
+    requires { All IsSound files.now }
+    ensures { OnOk result (to.new.items ≡ to.old.items ++ flat_map file_lines files.now) }
+{
+    for file in files {
+        push_file(to, alloc, file)?;
+    }
+    Ok(())
+}
+
+/// The text of the baseline that knows all reports of some files: a comment, and then a line for each report. The error comes when memory
+/// runs out.
+pub fn written(alloc: Global, files: &[Checked]) -> Result<Vec<u8>, NoMemory>
+    requires { All IsSound files.now }
+    ensures { IfOk result (λ text. text.items ≡ written files.now) }
+{
+    let mut text = Vec::from_slice(alloc, HEADING.as_bytes())?;
+    push_files(&mut text, alloc, files)?;
+    Ok(text)
+}
