@@ -27,7 +27,7 @@ What the clauses of public calls name beside the tables above, with the comments
 USE = re.compile(r"ghost use Rattle\.(\w+)\.specs\.([\w.]+?)(?:\.\{([^}]*)\}| as (\w+))?;")
 WORD = re.compile(r"[A-Za-z_][\w]*(?:\.[A-Za-z_]\w*)*")
 REPORTED = re.compile(r"^ {4}ghost (?:rows|reports|table) = ")
-DEFINED = r"^(?: *(?=pub data )| +(?=[A-Z]\w* : )|unfoldable |abbrev )?(?:pub )?(?:record |data )?"
+DEFINED = r"^(?: *(?=pub data )| +(?=[A-Z]\w* : )| *unfoldable | *abbrev )?(?:pub )?(?:record |data )?"
 
 
 def crates():
