@@ -1,9 +1,9 @@
 -- From a run over files to what a run does that the words ask for.
-use Rattle.std.proofs.Common.{◌≡◌, ◌≤◌, subst, refl, ℕ, Bool, List, Option, Result, Ok, Err, IfOk, IfErr}
+use Rattle.std.proofs.Common.{◌≡◌, ◌≤◌, subst, refl, sym, ℕ, Bool, List, Option, Some, Result, Ok, Err, IfOk, IfErr}
 use Rattle.check_command.specs.declared.failure.Failure.{Failure}
 use Rattle.check_command.specs.declared.failure.Failure.TheVariants as failure
 use Rattle.check_command.specs.Choosing.{IsChosenBy, IsUnchosen}
-use Rattle.check_command.specs.Command.{HasChecked, StoppedFor, answers_by, ended_by, judge_by, status_by, style_of}
+use Rattle.check_command.specs.Command.{DoneFor, HasChecked, HasRefused, StoppedFor, answers_by, ended_by, judge_by, status_by, style_of}
 use Rattle.check_command.specs.Failures.{failure_of}
 use Rattle.check_config.specs.declared.config.Config.{Config}
 use Rattle.check_print.specs.declared.style.Style.{Style}
@@ -11,6 +11,7 @@ use Rattle.check_print.specs.Printed.{printed}
 use Rattle.check_run.specs.Checks.{Answers}
 use Rattle.check_run.specs.Runs.{AreAnswers, Devices, HasRun, HasStopped, HasWrittenPart}
 use Rattle.check_run.proofs.Moved.{answers_moved}
+use Rattle.check_words.specs.declared.asked.Asked.{Asked}
 use Rattle.check_words.specs.declared.asked.Asked.TheVariants.{Check}
 use Rattle.check_words.specs.declared.request.FailOn.{FailOn}
 use Rattle.check_words.specs.declared.request.Request.{Request}
@@ -127,3 +128,14 @@ pub has_refused : (request : Request) (help version : List ℕ) (painted : Bool)
     → IsRefusedLoad d.content d.files_before d.files_now request.config error → Keeps old new → StoppedFor (Check request) help version painted d old new before now (failure_of error)
 has_refused request help version painted d old new before now (load.Refused line) h kept = (h, kept)
 has_refused request help version painted d old new before now load.NoMemory h kept = kept
+
+-- ---- the words that ask for a request
+
+-- what was done for a request was done for the words that ask for it
+pub done_for : (asked : Asked) (request : Request) (help version : List ℕ) (painted : Bool) (d : Devices) (old new : Option (List ℕ)) (result : Status)
+    → asked ≡ Check request → HasChecked request painted d old new result → DoneFor asked help version painted d old new result
+done_for asked request help version painted d old new result is h = subst (λ (a : Asked). DoneFor a help version painted d old new result) (sym is) h
+
+pub stopped_for : (asked : Asked) (request : Request) (help version : List ℕ) (painted : Bool) (d : Devices) (old new : Option (List ℕ)) (before now : ℕ) (stop : Failure)
+    → asked ≡ Check request → StoppedFor (Check request) help version painted d old new before now stop → StoppedFor asked help version painted d old new before now stop
+stopped_for asked request help version painted d old new before now stop is h = subst (λ (a : Asked). StoppedFor a help version painted d old new before now stop) (sym is) h

@@ -1,5 +1,5 @@
 use Rattle.check_words.specs.declared.help.TheConstants.{HELP, VERSION}
-use Rattle.check_command.proofs.Doing.{ended_err, ended_ok, has_checked, has_stopped}
+use Rattle.check_command.proofs.Doing.{ended_err, ended_ok, has_checked, has_refused, has_stopped, has_unchosen}
 use Rattle.check_command.proofs.command.check_request.Goals as goal
 
 pub returns-clause-done : goal.returns-clause-done
@@ -7,20 +7,20 @@ returns-clause-done g c =
     let content = g.F.FileStore.content in
     let faults = g.F.FileStore.faults in
     let load = c.load_config.ensures in
-    ended_ok c.args.request.now.fail_on c.check.result _ _ _ c.ended_by.ensures
-    (λ s h. has_checked c.args.request.now c.args.is_painted (content c.args.files.now) (content c.load_config.new.files) (faults c.args.files.now) (faults c.load_config.new.files) (faults c.check.new.files)
-    (g.S.Source.left c.args.src.now) (g.S.Source.faults c.args.src.now) (g.S.Source.faults c.check.new.src) (g.K.Sink.held c.args.out.now) (g.K.Sink.held c.check.new.out) s
+    ended_ok c.args.request.now.fail_on c.check-done.result _ _ _ c.ended_by.ensures
+    (λ s h. has_checked c.args.request.now c.args.is_painted (content c.args.files.now) (content c.load_config.new.files) (faults c.args.files.now) (faults c.load_config.new.files) (faults c.check-done.new.files)
+    (g.S.Source.left c.args.src.now) (g.S.Source.faults c.args.src.now) (g.S.Source.faults c.check-done.new.src) (g.K.Sink.held c.args.out.now) (g.K.Sink.held c.check-done.new.out) s
     c.in-Ok.config c.in-Ok-chosen.choices c.judge_by-judge.result c.style_of.result c.in-Ok.ensures.loaded load.kept load.later c.in-Ok-chosen.ensures.chosen c.judge_by-judge.ensures c.style_of.ensures h)
-    c.check.ensures.done
+    c.check-done.ensures.done
 
 pub returns-clause-stopped : goal.returns-clause-stopped
 returns-clause-stopped g c =
     let content = g.F.FileStore.content in
     let faults = g.F.FileStore.faults in
     let load = c.load_config.ensures in
-    ended_err c.args.request.now.fail_on c.check.result _ _ _ c.ended_by.ensures
+    ended_err c.args.request.now.fail_on c.check-done.result _ _ _ c.ended_by.ensures
     (λ s h. has_stopped c.args.request.now HELP.now VERSION.now c.args.is_painted (content c.args.files.now) (content c.load_config.new.files) (faults c.args.files.now) (faults c.load_config.new.files)
-    (faults c.check.new.files) (g.S.Source.left c.args.src.now) (g.S.Source.faults c.args.src.now) (g.S.Source.faults c.check.new.src) (g.K.Sink.held c.args.out.now) (g.K.Sink.held c.check.new.out)
-    (g.K.Sink.faults c.args.out.now) (g.K.Sink.faults c.check.new.out) s
+    (faults c.check-done.new.files) (g.S.Source.left c.args.src.now) (g.S.Source.faults c.args.src.now) (g.S.Source.faults c.check-done.new.src) (g.K.Sink.held c.args.out.now) (g.K.Sink.held c.check-done.new.out)
+    (g.K.Sink.faults c.args.out.now) (g.K.Sink.faults c.check-done.new.out) s
     c.in-Ok.config c.in-Ok-chosen.choices c.judge_by-judge.result c.style_of.result c.in-Ok.ensures.loaded load.kept load.later c.in-Ok-chosen.ensures.chosen c.judge_by-judge.ensures c.style_of.ensures h)
-    c.check.ensures.stopped
+    c.check-done.ensures.stopped
