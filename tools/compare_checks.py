@@ -31,7 +31,7 @@ CASES = "cases/check.txt"
 FORMATS = ("text", "concise", "gcc", "github", "json", "sarif", "gitlab")
 OWN = ("--format", "--color", "--stdin-filename", "--fail-on")
 FLAGS = ("--quiet", "--statistics", "--assume-in-transaction")
-CODES = {"bold": "1", "warning": "1;33", "error": "1;31", "frame": "1;34", "removed": "31", "added": "32"}
+CODES = {"bold": "1", "warning": "1;35", "error": "1;31", "frame": "1;34", "removed": "31", "added": "32"}
 
 Finding = collections.namedtuple("Finding", "level rule message start end note help title edits has_place")
 Checked = collections.namedtuple("Checked", "name text findings status")
