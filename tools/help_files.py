@@ -10,7 +10,7 @@ command that it names. The rules' names are those of docs/RULES.md. What the man
 What a help text must look like: usage lines `lavkheto COMMAND [OPTIONS] [FILES]..`, the first one after `Usage: `; or, under a line
 `Commands:`, a line for each command. Each option has a line `  --option VALUE   what it means`, indented by two blanks, and more lines
 indented by more. An option whose text has `(default)` takes one of the values that its text names; RULES are names of rules, a FILE is a
-file. A paragraph that begins with `Status: ` says the statuses, the lines under `Examples:` are commands.
+file. A paragraph that begins with `Status: ` says the statuses, the lines under `Examples:` are commands; all others are prose.
 """
 import pathlib
 import re
@@ -42,6 +42,7 @@ class Option:
 class Help:
     """A help text: its parts, each as it is read. The title is its first sentence."""
     title: str = ''
+    prose: list = field(default_factory=list)
     usage: list = field(default_factory=list)
     commands: dict = field(default_factory=dict)
     options: list = field(default_factory=list)
@@ -79,12 +80,14 @@ def read_paragraph(lines, parts):
         parts.usage = [line.removeprefix('Usage:').strip() for line in lines]
     elif lines[0].startswith('Status: '):
         parts.status = ' '.join(line.strip() for line in lines).removeprefix('Status: ')
-    elif lines[0].startswith('Examples:'):
+    elif re.match(r'Examples?:', lines[0]):
         parts.examples = [line.strip() for line in lines[1:]]
     elif lines[0].startswith('Commands:'):
         parts.commands.update((head.split()[0], text) for head, text in entries(lines[1:]))
+    elif lines[0].startswith('  --'):
+        parts.options += [option(head, text) for head, text in entries(lines)]
     else:
-        parts.options += [option(head, text) for head, text in entries(lines) if head.startswith('--')]
+        parts.prose.append(' '.join(lines))
 
 
 def parsed(text):
@@ -238,9 +241,9 @@ def fish(whole, own):
 
 
 def roff(text):
-    """A text as a line of a manual page: hyphens of words of the command line stay such, and no line is a request."""
-    text = text.replace('\\', '\\e').replace('--', '\\-\\-')
-    return '\\&' + text if text[:1] in ('.', "'") else text
+    """A text as lines of a manual page, a sentence each: hyphens of words of the command line stay such, and no line is a request."""
+    lines = re.sub(r'(?<=[\w)])\. (?=[A-Z])', '.\n', text.replace('\\', '\\e').replace('--', '\\-\\-')).split('\n')
+    return '\n'.join('\\&' * (line[:1] in ('.', "'")) + line for line in lines)
 
 
 def man_usage(line):
@@ -254,13 +257,13 @@ def man_usage(line):
     return lines
 
 
-def man_options(options):
-    """The list of a command's options."""
-    lines = ['.Bl -tag -width Ds']
-    for one in options:
-        names = ' , '.join(f'Fl {name[1:]}' for name in one.names)
-        lines += [f'.It {names}' + f' Ar {one.value}' * bool(one.value), roff(one.text)]
-    return lines + ['.El']
+def man_command(one):
+    """What a command does, and the list of its options."""
+    lines = [line for text in one.prose for line in ['.Pp', roff(text)]][1:] + ['.Bl -tag -width Ds']
+    for it in one.options:
+        names = ' , '.join(f'Fl {name[1:]}' for name in it.names)
+        lines += [f'.It {names}' + f' Ar {it.value}' * bool(it.value), roff(it.text)]
+    return lines + ['.El'] if one.options else lines[:-1]
 
 
 def man_status(text):
@@ -270,25 +273,22 @@ def man_status(text):
     for row in rows.split('; '):
         number, _, what = row.partition(' ')
         lines += [f'.It {number}', roff(what)]
-    return lines + ['.El'] + [roff(rest)] * bool(rest)
+    return lines + ['.El'] + [roff(it) for it in [rest] if it]
 
 
 def man(whole, own):
     """The manual page."""
-    options = []
-    for command, one in own.items():
-        if one.options:
-            options += [f'.Ss {NAME} {command}', *man_options(one.options)]
+    told = {command: one for command, one in own.items() if one.usage}
     parts = {
         '@WRITTEN@': WRITTEN,
-        '@SYNOPSIS@': '\n'.join(line for command, one in own.items() for it in usages(command, whole, one) for line in man_usage(it)),
-        '@OPTIONS@': '\n'.join(options),
-        '@STATUS@': '\n'.join(man_status(whole.status)),
-        '@EXAMPLES@': '\n'.join(['.Bd -literal', *(roff(it) for it in whole.examples), '.Ed']),
+        '@SYNOPSIS@': [line for command, one in own.items() for it in usages(command, whole, one) for line in man_usage(it)],
+        '@COMMANDS@': [line for command, one in told.items() for line in [f'.Ss {NAME} {command}', *man_command(one)]],
+        '@STATUS@': [line for command, one in told.items() for line in [f'.Ss {NAME} {command}', *man_status(one.status)]],
+        '@EXAMPLES@': ['.Bd -literal', *dict.fromkeys(roff(it) for one in [whole, *told.values()] for it in one.examples), '.Ed'],
     }
     page = (TOP / 'man/lavkheto.1.in').read_text(encoding='utf-8')
-    for name, text in parts.items():
-        page = page.replace(name, text)
+    for name, lines in parts.items():
+        page = page.replace(name, lines if isinstance(lines, str) else '\n'.join(lines))
     return page
 
 
