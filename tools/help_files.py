@@ -77,9 +77,9 @@ def entries(lines):
 def read_paragraph(lines, parts):
     """Adds what a paragraph says to the parts of a help text."""
     if lines[0].startswith('Usage:'):
-        parts.usage = [line.removeprefix('Usage:').strip() for line in lines]
+        parts.usage = [line.replace('Usage:', '', 1).strip() for line in lines]
     elif lines[0].startswith('Status: '):
-        parts.status = ' '.join(line.strip() for line in lines).removeprefix('Status: ')
+        parts.status = ' '.join(line.strip() for line in lines).replace('Status: ', '', 1)
     elif re.match(r'Examples?:', lines[0]):
         parts.examples = [line.strip() for line in lines[1:]]
     elif lines[0].startswith('Commands:'):
@@ -143,11 +143,11 @@ def rules():
     return [name for name in names if name != 'unused-ignore']
 
 
-def kind(option):
+def kind(one):
     """What stands for the value of an option in a completion."""
-    if option.choices():
+    if one.choices():
         return 'choices'
-    return {'RULES': 'rules', 'RULE': 'rules', 'FILE': 'file'}.get(option.value, 'other' if option.value else '')
+    return {'RULES': 'rules', 'RULE': 'rules', 'FILE': 'file'}.get(one.value, 'other' if one.value else '')
 
 
 def bash_values(command, options):
