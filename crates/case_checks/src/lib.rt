@@ -1,4 +1,4 @@
-//! Runs of `lavkheto check` over the files that a text holds. Used by tests only.
+//! Runs of `lavkheto check` over the files that a text holds, and of `lavkheto explain`. Used by tests only.
 //!
 //! What comes before the first file is standard input. These lines begin a file:
 //!
@@ -49,6 +49,18 @@ pub fn checked(alloc: Global, words: &[String], text: &[u8]) -> Result<Answer, F
     ) {
         Ok(status) => status.code(),
         Err(stop) => stop.code(),
+    };
+    answer_of(alloc, code, out.bytes(), err.bytes())
+}
+
+/// A run with these words, the first of which is `explain`.
+pub fn explained(alloc: Global, words: &[String]) -> Result<Answer, Fault> {
+    let words = words_of(alloc, words)?;
+    let mut out = MemSink::new(alloc, ROOM, &[])?;
+    let mut err = MemSink::new(alloc, ROOM, &[])?;
+    let code = match explain_command::run(alloc, &words, &mut out, &mut err) {
+        Ok(()) => 0,
+        Err(failure) => failure.code(),
     };
     answer_of(alloc, code, out.bytes(), err.bytes())
 }

@@ -1,13 +1,13 @@
 //! The linter's programs over memory, as what cases are about. The first word of a case chooses: `tree` is the printed tree,
 //! `words` is the configuration that a row of words names, `works` and `plain` are what `--locks` adds to a run with the other
 //! words, `gate` is a run of the gate and `diag` one of the diagnostics, `check` is a run of `lavkheto` over the files that the text
-//! holds, and anything else is a run of the command with those words.
+//! holds, `explain` is a run of `lavkheto` that explains a rule, and anything else is a run of the command with those words.
 #![tactic(auto)]
 
 mod config;
 mod runs;
 
-use case_checks::checked;
+use case_checks::{checked, explained};
 use case_format::{Answer, Fault, Subject};
 use case_trees::Trees;
 use config::configured;
@@ -101,6 +101,7 @@ impl Subject for Programs {
             ("gate", rest) => gate_ran(alloc, rest, text),
             ("diag", rest) => diag_ran(alloc, rest, text),
             ("check", _) => checked(alloc, words, text),
+            ("explain", _) => explained(alloc, words),
             _ => ran(alloc, &words_of(alloc, words)?, text),
         }
     }

@@ -7,6 +7,7 @@ pub const VERSION: &str = "lavkheto 0.1.0\n";
 pub const HELP: &str = "Lints migrations of PostgreSQL. Its answers are theorems.
 
 Usage: lavkheto check [OPTIONS] [FILES]..
+       lavkheto explain [RULE]           what a rule reports, why, its lock, and what to write instead
 
 FILES are files, and folders for all *.sql files in them. Without FILES, or with - alone, standard input is checked.
 

@@ -1,0 +1,4 @@
+pub mod Failures
+pub mod Unknown
+pub mod Words
+pub mod Command

@@ -1,0 +1,42 @@
+//! A name that no rule has.
+ghost use Rattle.std.specs.Prelude.{◌≡◌, IfOk};
+ghost use Rattle.explain_command.specs.Unknown.{IsUnknown, IsUnknownLine, unknown_line};
+
+use crate::failure::Failure;
+use lint_base::Rule;
+use nearest_rule::nearest_rule;
+use source_file::push_shown;
+use squawk_run::Stop;
+use std::alloc::Global;
+use text_pos::NoMemory;
+
+// The line about a name, with the name that is nearest.
+fn line_with(alloc: Global, name: &str, nearest: Rule) -> Result<Vec<u8>, NoMemory>
+    ensures { IfOk result (λ line. line.items ≡ unknown_line name.now nearest) }
+{
+    let mut line = Vec::new(alloc);
+    line.extend_from_slice(b"error: explain: unknown rule: ")?;
+    push_shown(&mut line, name.as_bytes())?;
+    line.extend_from_slice(b"; the nearest name is ")?;
+    line.extend_from_slice(nearest.name().as_bytes())?;
+    line.push(b'\n')?;
+    Ok(line)
+}
+
+// The line about a name.
+fn line_about(alloc: Global, name: &str) -> Result<Vec<u8>, NoMemory>
+    ensures { IfOk result (λ line. IsUnknownLine name.now line.items) }
+{
+    let nearest = nearest_rule(alloc, name)?;
+    line_with(alloc, name, nearest)
+}
+
+/// Why a name has no page, if there was memory to say so.
+pub(crate) fn unknown(alloc: Global, name: &str) -> Failure
+    ensures { IsUnknown name.now result }
+{
+    match line_about(alloc, name) {
+        Ok(line) => Failure::Unknown(line),
+        Err(NoMemory) => Failure::Stop(Stop::NoMemory),
+    }
+}

@@ -1,0 +1,728 @@
+//! The rules of the group "Columns and types". Written by tools/rule_pages.py.
+
+/// `changing-column-type`.
+pub(crate) const CHANGING_COLUMN_TYPE: &str = "changing-column-type
+
+  default: on
+  fix:     none
+  lock:    ACCESS EXCLUSIVE, mostly until the table and its indexes are written
+           anew
+  manual:  ALTER TABLE,
+           https://www.postgresql.org/docs/current/sql-altertable.html#SQL-ALTERTABLE-NOTES
+
+Reads and writes wait until the last row is copied. Clients that read the old
+type may fail on the new one.
+
+Instead of
+
+    ALTER TABLE t ALTER COLUMN a TYPE bigint;
+
+Write a new column beside the old one, which a trigger keeps equal. First:
+
+    BEGIN;
+    SET LOCAL lock_timeout = '1s';
+    SET LOCAL statement_timeout = '5s';
+    ALTER TABLE t ADD COLUMN a_new bigint;
+    CREATE FUNCTION t_a_new() RETURNS trigger LANGUAGE plpgsql AS $$
+    BEGIN
+      NEW.a_new := NEW.a;
+      RETURN NEW;
+    END $$;
+    CREATE TRIGGER t_a_new BEFORE INSERT OR UPDATE ON t FOR EACH ROW EXECUTE FUNCTION t_a_new();
+    COMMIT;
+
+    -- the old rows, some thousands at a time, each time in a transaction of its own
+    UPDATE t SET a_new = a WHERE id BETWEEN 1 AND 10000 AND a_new IS DISTINCT FROM a;
+
+Then what else the old column has, each in its safe way: indexes, `NOT NULL`,
+keys, defaults. At last, in one short transaction:
+
+    BEGIN;
+    SET LOCAL lock_timeout = '1s';
+    SET LOCAL statement_timeout = '5s';
+    DROP TRIGGER t_a_new ON t;
+    -- squawk-ignore ban-drop-function
+    DROP FUNCTION t_a_new();
+    -- squawk-ignore ban-drop-column
+    ALTER TABLE t DROP COLUMN a;
+    -- squawk-ignore renaming-column
+    ALTER TABLE t RENAME COLUMN a_new TO a;
+    COMMIT;
+
+Prepared statements of open sessions that return the column fail until they are
+prepared anew, since its type is another one.
+
+Ignore the report only where you know that the change is quick:
+
+- a longer `varchar`, a greater precision of `numeric` with the same scale,
+  `varchar` to `text`: writes and reads nothing, if no index with an expression
+  or a `WHERE` and no `CHECK` uses the column
+- the same, where one does: rebuilds these indexes, and reads the whole table
+  for the `CHECK`
+- another collation: rebuilds every index of the column
+- `timestamp` to `timestamptz`: writes nothing where the session's TimeZone is
+  UTC; else writes the table anew
+- `int` to `bigint`, a shorter `varchar`, another scale of `numeric`, `char` to
+  `text`, `json` to `jsonb`: writes the table and all its indexes anew
+
+It does not see which of these a change is: no types are compared.
+
+Details
+
+- Reported: each `ALTER COLUMN ... TYPE` and `SET DATA TYPE` of `ALTER TABLE`
+  and `ALTER FOREIGN TABLE`, and each `ALTER ATTRIBUTE` of `ALTER TYPE`. The
+  types are not compared: a change that rewrites nothing, such as from
+  `varchar(50)` to `text`, is reported as well.
+- In PostgreSQL: as in the table above (ALTER TABLE, \"SET DATA TYPE\" and
+  Notes). `ALTER ATTRIBUTE` is refused while a table has a column of the type.
+  A typed table (`CREATE TABLE .. OF`) is written anew by it, with `CASCADE`
+  (ALTER TYPE, \"ALTER ATTRIBUTE\").
+
+    $ echo 'ALTER TABLE t ALTER COLUMN a TYPE bigint;' | ./squawk --only changing-column-type
+    29..40: warning[changing-column-type]: changing a column type rewrites the table under an `access exclusive` lock
+      note: the lock blocks reads and writes while the table is rewritten, and the new type may break other clients reading from the table
+    violations: 1
+";
+
+/// `adding-field-with-default`.
+pub(crate) const ADDING_FIELD_WITH_DEFAULT: &str = "adding-field-with-default
+
+  default: on
+  fix:     none
+  lock:    ACCESS EXCLUSIVE, until the table and its indexes are written anew
+  manual:  ALTER TABLE,
+           https://www.postgresql.org/docs/current/sql-altertable.html#SQL-ALTERTABLE-NOTES
+
+Each row gets a value of its own, so the whole table is written anew. Reads and
+writes wait for that long.
+
+Instead of
+
+    ALTER TABLE t ADD COLUMN token uuid DEFAULT gen_random_uuid();
+
+Write
+
+    BEGIN;
+    SET LOCAL lock_timeout = '1s';
+    SET LOCAL statement_timeout = '5s';
+    ALTER TABLE t ADD COLUMN token uuid;
+    -- for new rows alone
+    ALTER TABLE t ALTER COLUMN token SET DEFAULT gen_random_uuid();
+    COMMIT;
+
+    -- the old rows, some thousands at a time, each time in a transaction of its own
+    UPDATE t SET token = gen_random_uuid() WHERE id BETWEEN 1 AND 10000 AND token IS NULL;
+
+For a stored generated column add a plain one, let a trigger fill it, and fill
+the old rows, as at `changing-column-type`. For an identity column add a plain
+`bigint` and fill it, make it `NOT NULL`, and then add the identity, which
+begins above the greatest value.
+
+A value in a form that the rule doesn't know is reported though nothing is
+rewritten: `-1`, `(now())`, `interval '1 day'`, `CURRENT_DATE`, `CURRENT_USER`,
+`LOCALTIME`, `CURRENT_TIMESTAMP(3)`, `lower('A')`, `jsonb_build_object()`.
+Write `'-1'`, `now()`, `'1 day'::interval`; name a function of your own with
+`--non-volatile`; ignore the report of the others.
+
+It does not see `bigserial` and the other serial types, and a domain with a
+constraint as the column's type, with or without a default: both rewrite the
+table. An array that holds a volatile call, `ARRAY[random()]`, does so too.
+
+Details
+
+- Reported: of the columns that an `ALTER TABLE` adds, each `DEFAULT`, at its
+  value, and each `GENERATED`, of an expression or of an identity. From version
+  11 on (`--pg-major`; 15 where none is given) a `DEFAULT` is reported only
+  where its value may be volatile; a `GENERATED` always, also a `VIRTUAL` one
+  (PostgreSQL 18), which rewrites nothing.
+- Not reported: a value that is a number, a string, `TRUE`, `FALSE`, `NULL`, an
+  array (whatever it holds), `CURRENT_TIMESTAMP`, a call without arguments of
+  `now`, `transaction_timestamp`, `statement_timestamp`, `current_database`,
+  `current_schema`, `version`, `pi` or a function given by `--non-volatile`; or
+  made of such by operators, casts and `COLLATE`. Everything else counts as
+  volatile: a value in brackets, a sign before a number (`-1`), a type before a
+  string (`interval '1 day'`), a function with its schema. `SET DEFAULT` writes
+  no rows and is left alone. So is a serial type, although it is a volatile
+  default. A new table excuses nothing.
+- In PostgreSQL: with a volatile default, a stored generated column, an
+  identity column or a domain with a constraint, ACCESS EXCLUSIVE while the
+  table and its indexes are rewritten. A default that isn't volatile is
+  computed once and kept for the whole table, from version 11 on (ALTER TABLE,
+  Notes; \"Function Volatility Categories\").
+
+    $ echo 'ALTER TABLE t ADD COLUMN token uuid DEFAULT gen_random_uuid();' | ./squawk --only adding-field-with-default
+    44..61: warning[adding-field-with-default]: adding a column with a volatile default rewrites the table under an `access exclusive` lock
+      note: in Postgres 11+, non-volatile defaults can be added without a rewrite
+      help: add the column as nullable, backfill existing rows, and add a trigger to update the column on write instead
+    violations: 1
+";
+
+/// `adding-required-field`.
+pub(crate) const ADDING_REQUIRED_FIELD: &str = "adding-required-field
+
+  default: on
+  fix:     none
+  lock:    ACCESS EXCLUSIVE, for a moment; on a table with rows it fails
+  manual:  ALTER TABLE,
+           https://www.postgresql.org/docs/current/sql-altertable.html
+
+On a table with rows the statement fails, since they have no value. On an empty
+one every client that doesn't know the column yet can't insert any more.
+
+Instead of
+
+    ALTER TABLE t ADD COLUMN c int NOT NULL;
+
+Write
+
+    BEGIN;
+    SET LOCAL lock_timeout = '1s';
+    SET LOCAL statement_timeout = '5s';
+    -- one value for all old rows: no row is written
+    ALTER TABLE t ADD COLUMN c bigint NOT NULL DEFAULT 0;
+    COMMIT;
+
+Where each row needs a value of its own, add the column without `NOT NULL`, let
+all clients write it, fill the old rows in batches, then set `NOT NULL`.
+
+It does not see serial types: they have a value for each row, and are reported
+all the same, though what hurts is the rewrite.
+
+Details
+
+- Reported: each `ADD COLUMN` of an `ALTER TABLE` whose column is `NOT NULL`
+  and has neither a `DEFAULT` nor a `GENERATED`.
+- Not reported: a column that is a `PRIMARY KEY` without the words `NOT NULL`;
+  `SET NOT NULL` and `ADD NOT NULL` of a column that is there. A new table
+  excuses nothing, and a serial type counts as no default.
+- In PostgreSQL: ALTER TABLE, \"ADD COLUMN\"; section 5.5.2, \"Not-Null
+  Constraints\".
+
+    $ echo 'ALTER TABLE t ADD COLUMN c int NOT NULL;' | ./squawk --only adding-required-field
+    14..39: warning[adding-required-field]: adding a new column that is `not null` and has no default value to an existing table effectively makes it required
+      help: make the field nullable or add a non-volatile default
+    violations: 1
+";
+
+/// `ban-add-column`.
+pub(crate) const BAN_ADD_COLUMN: &str = "ban-add-column
+
+  default: off
+  fix:     none
+  lock:    ACCESS EXCLUSIVE, for a moment
+  manual:  ALTER TABLE,
+           https://www.postgresql.org/docs/current/sql-altertable.html
+
+A client that selects `*` and reads values by their places gets one more.
+`INSERT INTO u SELECT * FROM t` has one more value than `u` has columns, and
+fails.
+
+Instead of
+
+    ALTER TABLE t ADD COLUMN c int;
+
+Write
+
+    BEGIN;
+    SET LOCAL lock_timeout = '1s';
+    SET LOCAL statement_timeout = '5s';
+    -- each client names the columns that it reads and writes
+    -- squawk-ignore ban-add-column
+    ALTER TABLE t ADD COLUMN c bigint;
+    COMMIT;
+
+It does not see what makes the addition slow: see `adding-field-with-default`
+and what a clean answer does not see.
+
+Details
+
+- Reported: each `ADD COLUMN` of an `ALTER TABLE` or `ALTER FOREIGN TABLE`,
+  with and without the word `COLUMN`.
+- Not reported: a column of a table that an earlier statement creates; an
+  attribute of a composite type, which has a rule of its own.
+- In PostgreSQL: a new column is the last one of the table (ALTER TABLE, \"ADD
+  COLUMN\"); without a list of columns an `INSERT` gives its values to the
+  columns in their declared order (INSERT, \"Description\").
+
+    $ echo 'ALTER TABLE t ADD COLUMN c int;' | ./squawk --only ban-add-column
+    14..30: warning[ban-add-column]: adding a column changes the shape of rows existing clients receive and can break positional inserts
+    violations: 1
+";
+
+/// `ban-drop-column`.
+pub(crate) const BAN_DROP_COLUMN: &str = "ban-drop-column
+
+  default: on
+  fix:     none
+  lock:    ACCESS EXCLUSIVE, for a moment
+  manual:  ALTER TABLE,
+           https://www.postgresql.org/docs/current/sql-altertable.html
+
+Each client that still names the column fails, and so does the old version of
+the application while the new one is rolled out. Many ORMs name every column in
+every query.
+
+Instead of
+
+    ALTER TABLE users ADD COLUMN mail text, DROP COLUMN email;
+
+Write the drop in a later migration, when released code names the column
+nowhere. From when an `INSERT` leaves it out, the column must be nullable or
+have a default:
+
+    BEGIN;
+    SET LOCAL lock_timeout = '1s';
+    SET LOCAL statement_timeout = '5s';
+    -- release 41 and all later ones name it nowhere
+    -- squawk-ignore ban-drop-column
+    ALTER TABLE users DROP COLUMN email;
+    COMMIT;
+
+It does not see which views, functions and indexes use the column. Its indexes
+go with it, those over several columns too.
+
+Details
+
+- Reported: each `DROP COLUMN` of `ALTER TABLE` and `ALTER FOREIGN TABLE`, the
+  word `COLUMN` left out or not, and each `DROP ATTRIBUTE` of `ALTER TYPE`.
+- In PostgreSQL: ACCESS EXCLUSIVE, for a moment: the column is only hidden, and
+  its space is reclaimed as rows are updated. Indexes and constraints over it
+  go too (ALTER TABLE, \"DROP COLUMN\" and Notes; ALTER TYPE, \"DROP ATTRIBUTE\").
+
+    $ echo 'ALTER TABLE users ADD COLUMN mail text, DROP COLUMN email;' | ./squawk --only ban-drop-column
+    40..57: warning[ban-drop-column]: dropping a column may break existing clients
+    violations: 1
+";
+
+/// `ban-drop-default`.
+pub(crate) const BAN_DROP_DEFAULT: &str = "ban-drop-default
+
+  default: on
+  fix:     none
+  lock:    ACCESS EXCLUSIVE, for a moment; of a domain none
+  manual:  ALTER TABLE,
+           https://www.postgresql.org/docs/current/sql-altertable.html
+
+An `INSERT` that leaves the column out writes a null from then on, or fails
+where the column allows none.
+
+Instead of
+
+    ALTER TABLE t ALTER COLUMN a DROP DEFAULT;
+
+Write
+
+    BEGIN;
+    SET LOCAL lock_timeout = '1s';
+    SET LOCAL statement_timeout = '5s';
+    -- release 41 always gives the value
+    -- squawk-ignore ban-drop-default
+    ALTER TABLE t ALTER COLUMN a DROP DEFAULT;
+    COMMIT;
+
+It does not see a default that goes with its sequence or function (`DROP ..
+CASCADE`).
+
+Details
+
+- Reported: each `DROP DEFAULT` of a column of `ALTER TABLE`, `ALTER FOREIGN
+  TABLE` or `ALTER VIEW`, and of `ALTER DOMAIN`.
+- In PostgreSQL: ACCESS EXCLUSIVE, for a moment; `ALTER DOMAIN` locks no table;
+  rows that exist keep their values (ALTER TABLE, \"SET/DROP DEFAULT\"; ALTER
+  VIEW; ALTER DOMAIN).
+
+    $ echo 'ALTER TABLE t ALTER COLUMN a DROP DEFAULT;' | ./squawk --only ban-drop-default
+    29..41: warning[ban-drop-default]: dropping a column default may break existing clients
+    violations: 1
+
+    $ echo 'ALTER DOMAIN d DROP DEFAULT;' | ./squawk --only ban-drop-default
+    15..27: warning[ban-drop-default]: dropping a column default may break existing clients
+    violations: 1
+";
+
+/// `ban-set-default`.
+pub(crate) const BAN_SET_DEFAULT: &str = "ban-set-default
+
+  default: off
+  fix:     none
+  lock:    ACCESS EXCLUSIVE, for a moment; of a domain none
+  manual:  ALTER TABLE,
+           https://www.postgresql.org/docs/current/sql-altertable.html
+
+An `INSERT` that leaves the column out writes another value from then on, and
+no error shows it.
+
+Instead of
+
+    ALTER TABLE t ALTER COLUMN a SET DEFAULT 1;
+
+Write
+
+    BEGIN;
+    SET LOCAL lock_timeout = '1s';
+    SET LOCAL statement_timeout = '5s';
+    -- release 41 always gives the value itself
+    -- squawk-ignore ban-set-default
+    ALTER TABLE t ALTER COLUMN a SET DEFAULT 1;
+    COMMIT;
+
+It does not see a function that the default calls and that gives other values
+from now on.
+
+Details
+
+- Reported: each `SET DEFAULT` of a column of `ALTER TABLE`, `ALTER FOREIGN
+  TABLE` or `ALTER VIEW`, and of `ALTER DOMAIN`.
+- Not reported: the default of a new column or a new table.
+- In PostgreSQL: ACCESS EXCLUSIVE, for a moment; `ALTER DOMAIN` locks no table;
+  rows that exist keep their values (same pages).
+
+    $ echo 'ALTER TABLE t ALTER COLUMN a SET DEFAULT 1;' | ./squawk --only ban-set-default
+    29..42: warning[ban-set-default]: setting a column default may silently change values written by existing clients
+    violations: 1
+
+    $ echo 'ALTER DOMAIN d SET DEFAULT 1;' | ./squawk --only ban-set-default
+    15..28: warning[ban-set-default]: setting a column default may silently change values written by existing clients
+    violations: 1
+";
+
+/// `ban-alter-identity`.
+pub(crate) const BAN_ALTER_IDENTITY: &str = "ban-alter-identity
+
+  default: on
+  fix:     none
+  lock:    ACCESS EXCLUSIVE, for a moment
+  manual:  ALTER TABLE,
+           https://www.postgresql.org/docs/current/sql-altertable.html
+
+With `GENERATED ALWAYS` an `INSERT` that gives a value fails. Without the
+identity one that gives none fails, since the column allows no nulls.
+
+Instead of
+
+    ALTER TABLE t ALTER COLUMN a ADD GENERATED BY DEFAULT AS IDENTITY;
+
+Write a number above all values that are in use. The sequence begins at 1
+otherwise, and the next `INSERT` fails with a duplicate key, or two rows share
+a number:
+
+    BEGIN;
+    SET LOCAL lock_timeout = '1s';
+    SET LOCAL statement_timeout = '5s';
+    -- the column is NOT NULL, and its greatest value is below a million
+    -- squawk-ignore ban-alter-identity
+    ALTER TABLE t ALTER COLUMN a ADD GENERATED BY DEFAULT AS IDENTITY (START WITH 1000001);
+    COMMIT;
+
+The column must be `NOT NULL` and have no default. Before a column becomes
+`GENERATED ALWAYS`, release code that leaves it out. Before `DROP IDENTITY`,
+make it `GENERATED BY DEFAULT`, and release code that always gives the value.
+
+It does not see where the sequence begins, and which values the column has.
+
+Details
+
+- Reported: `ADD GENERATED`, `DROP IDENTITY` and `SET GENERATED ALWAYS` of a
+  column, in `ALTER TABLE`.
+- Not reported: `SET GENERATED BY DEFAULT`, after which every `INSERT` still
+  works; an identity column that is added.
+- In PostgreSQL: the column must be `NOT NULL` before, and the sequence of the
+  identity begins at 1 if no `START WITH` is given (ALTER TABLE, \"ADD
+  GENERATED\", \"SET GENERATED\" and \"DROP IDENTITY\"; section 5.3).
+
+    $ echo 'ALTER TABLE t ALTER COLUMN a ADD GENERATED BY DEFAULT AS IDENTITY;' | ./squawk --only ban-alter-identity
+    29..65: warning[ban-alter-identity]: changing column identity may break inserts from existing clients
+    violations: 1
+";
+
+/// `ban-drop-generated-expression`.
+pub(crate) const BAN_DROP_GENERATED_EXPRESSION: &str = "ban-drop-generated-expression
+
+  default: on
+  fix:     none
+  lock:    ACCESS EXCLUSIVE, for a moment
+  manual:  ALTER TABLE,
+           https://www.postgresql.org/docs/current/sql-altertable.html
+
+The column becomes a plain one. Its values stay as they are, and no longer
+follow the columns they came from.
+
+Instead of
+
+    ALTER TABLE t ALTER COLUMN a DROP EXPRESSION;
+
+Write a trigger that goes on with the work, in the same transaction. The
+application can't do it: before the change PostgreSQL refuses its value.
+
+    BEGIN;
+    SET LOCAL lock_timeout = '1s';
+    SET LOCAL statement_timeout = '5s';
+    CREATE FUNCTION t_a() RETURNS trigger LANGUAGE plpgsql AS $$
+    BEGIN
+      NEW.a := NEW.b * 2;
+      RETURN NEW;
+    END $$;
+    -- squawk-ignore ban-drop-generated-expression
+    ALTER TABLE t ALTER COLUMN a DROP EXPRESSION;
+    CREATE TRIGGER t_a BEFORE INSERT OR UPDATE ON t FOR EACH ROW EXECUTE FUNCTION t_a();
+    COMMIT;
+
+It does not see whether a trigger goes on with the work.
+
+Details
+
+- Reported: each `DROP EXPRESSION` of a column, in `ALTER TABLE`.
+- In PostgreSQL: ACCESS EXCLUSIVE, for a moment; for stored generated columns
+  only (ALTER TABLE, \"DROP EXPRESSION\").
+
+    $ echo 'ALTER TABLE t ALTER COLUMN a DROP EXPRESSION;' | ./squawk --only ban-drop-generated-expression
+    29..44: warning[ban-drop-generated-expression]: dropping a generated expression may break existing clients
+    violations: 1
+";
+
+/// `ban-alter-generated-expression`.
+pub(crate) const BAN_ALTER_GENERATED_EXPRESSION: &str = "ban-alter-generated-expression
+
+  default: off
+  fix:     none
+  lock:    ACCESS EXCLUSIVE, until the table and its indexes are written anew
+  manual:  ALTER TABLE,
+           https://www.postgresql.org/docs/current/sql-altertable.html
+
+A new expression changes what clients read. A generated column takes no value,
+so a client that writes every column it finds fails.
+
+Instead of
+
+    ALTER TABLE t ALTER COLUMN a SET EXPRESSION AS (b + 1);
+
+Write a new column that a trigger fills:
+
+    BEGIN;
+    SET LOCAL lock_timeout = '1s';
+    SET LOCAL statement_timeout = '5s';
+    ALTER TABLE t ADD COLUMN a_new bigint;
+    CREATE FUNCTION t_a_new() RETURNS trigger LANGUAGE plpgsql AS $$
+    BEGIN
+      NEW.a_new := NEW.b + 1;
+      RETURN NEW;
+    END $$;
+    CREATE TRIGGER t_a_new BEFORE INSERT OR UPDATE ON t FOR EACH ROW EXECUTE FUNCTION t_a_new();
+    COMMIT;
+
+    -- the old rows, some thousands at a time, each time in a transaction of its own
+    UPDATE t SET a_new = b + 1 WHERE id BETWEEN 1 AND 10000 AND a_new IS NULL;
+
+It does not see a function in the expression that gives other values from now
+on.
+
+Details
+
+- Reported: each `SET EXPRESSION` of a column, and each `GENERATED` of a column
+  that `ALTER TABLE` adds. An identity column (`GENERATED ... AS IDENTITY`)
+  counts too.
+- Not reported: generated columns of a new table.
+- In PostgreSQL: `SET EXPRESSION` rewrites a stored column, and adding a stored
+  one or an identity column rewrites the table, under ACCESS EXCLUSIVE (ALTER
+  TABLE, \"SET EXPRESSION\", \"ADD COLUMN\" and Notes; section 5.4).
+
+    $ echo 'ALTER TABLE t ALTER COLUMN a SET EXPRESSION AS (b + 1);' | ./squawk --only ban-alter-generated-expression
+    29..54: warning[ban-alter-generated-expression]: changing a generated column expression may change values read by existing clients
+    violations: 1
+
+The six rules that follow look at the columns of `CREATE TABLE`, of `ADD
+COLUMN` and of `ALTER COLUMN ... TYPE` in `ALTER TABLE`, and not at foreign
+tables, composite types, domains, parameters and casts.
+";
+
+/// `prefer-bigint-over-int`.
+pub(crate) const PREFER_BIGINT_OVER_INT: &str = "prefer-bigint-over-int
+
+  default: on
+  fix:     look first (safe in a new table, while in `ALTER COLUMN .. TYPE` it
+           asks for another type)
+  lock:    none now; a wider type rewrites the table one day
+  manual:  Numeric Types,
+           https://www.postgresql.org/docs/current/datatype-numeric.html
+
+A key that counts up reaches 2147483647 one day, and then every `INSERT` fails.
+That is the worst moment to find out that a wider column rewrites the table.
+
+Instead of
+
+    CREATE TABLE t (id serial, a int[]);
+
+Write
+
+    CREATE TABLE IF NOT EXISTS t (id bigint GENERATED BY DEFAULT AS IDENTITY, a bigint[]);
+
+`bigint` for keys, counters and what refers to them. Where the numbers are
+small for certain, ignore the report.
+
+It does not see columns of domains and composite types, and sequences with a
+small `MAXVALUE`.
+
+Details
+
+- Reported: each column of the type `int`, `integer`, `int4`, `serial` or
+  `serial4`, arrays too. The fix puts `bigint`, `int8`, `bigserial` or
+  `serial8` in place of the name.
+- Not reported: 16-bit types, which have a rule of their own; a quoted name in
+  another case (`\"INT\"`).
+- In PostgreSQL: `integer` has 4 bytes, `bigint` 8 (sections 8.1.1 and 8.1.4).
+  A change from one to the other rewrites the table and its indexes under
+  ACCESS EXCLUSIVE (ALTER TABLE, Notes).
+
+    $ echo 'CREATE TABLE t (id serial, a int[]);' | ./squawk --only prefer-bigint-over-int
+    19..25: warning[prefer-bigint-over-int]: using 32-bit integer fields can result in hitting the max `int` limit
+      help: use 64-bit integer values instead to prevent hitting this limit
+      fix: Replace with a 64-bit integer type: `bigserial`
+        replace 19..25 \"bigserial\"
+    29..34: warning[prefer-bigint-over-int]: using 32-bit integer fields can result in hitting the max `int` limit
+      help: use 64-bit integer values instead to prevent hitting this limit
+      fix: Replace with a 64-bit integer type: `bigint`
+        replace 29..32 \"bigint\"
+    violations: 2
+";
+
+/// `prefer-bigint-over-smallint`.
+pub(crate) const PREFER_BIGINT_OVER_SMALLINT: &str = "prefer-bigint-over-smallint
+
+  default: on
+  fix:     look first (safe in a new table, while in `ALTER COLUMN .. TYPE` it
+           asks for another type)
+  lock:    none now; a wider type rewrites the table one day
+  manual:  Numeric Types,
+           https://www.postgresql.org/docs/current/datatype-numeric.html
+
+As for `prefer-bigint-over-int`, but at 32767.
+
+Instead of
+
+    CREATE TABLE t (id smallserial PRIMARY KEY, a pg_catalog.int2[], b SMALLINT NOT NULL);
+
+Write
+
+    CREATE TABLE IF NOT EXISTS t (id bigint GENERATED BY DEFAULT AS IDENTITY PRIMARY KEY, a bigint[], b bigint NOT NULL);
+
+For a code take `text` with a `CHECK` constraint. Ignore the report where the
+range is certain.
+
+It does not see columns of domains and composite types.
+
+Details
+
+- Reported: each column of the type `smallint`, `int2`, `smallserial` or
+  `serial2`, arrays too. The fix puts `bigint`, `int8`, `bigserial` or
+  `serial8` in place of the name.
+- In PostgreSQL: sections 8.1.1 and 8.1.4; ALTER TABLE, Notes.
+
+    $ echo 'CREATE TABLE t (id smallserial PRIMARY KEY, a pg_catalog.int2[], b SMALLINT NOT NULL);' | ./squawk --only prefer-bigint-over-smallint
+    19..30: warning[prefer-bigint-over-smallint]: using 16-bit integer fields can result in hitting the max `smallint` limit
+      help: use 64-bit integer values instead to prevent hitting this limit
+      fix: Replace with a 64-bit integer type: `bigserial`
+        replace 19..30 \"bigserial\"
+    46..63: warning[prefer-bigint-over-smallint]: using 16-bit integer fields can result in hitting the max `smallint` limit
+      help: use 64-bit integer values instead to prevent hitting this limit
+      fix: Replace with a 64-bit integer type: `int8`
+        replace 57..61 \"int8\"
+    67..75: warning[prefer-bigint-over-smallint]: using 16-bit integer fields can result in hitting the max `smallint` limit
+      help: use 64-bit integer values instead to prevent hitting this limit
+      fix: Replace with a 64-bit integer type: `bigint`
+        replace 67..75 \"bigint\"
+    violations: 3
+";
+
+/// `prefer-identity`.
+pub(crate) const PREFER_IDENTITY: &str = "prefer-identity
+
+  default: on
+  fix:     look first (safe in a new table, while in `ALTER COLUMN .. TYPE`
+           PostgreSQL refuses it)
+  lock:    none in a new table; in `ADD COLUMN` ACCESS EXCLUSIVE, until the
+           table is written anew
+  manual:  Identity Columns,
+           https://www.postgresql.org/docs/current/ddl-identity-columns.html
+
+A serial column is an integer, a default and a sequence of its own. Whoever
+inserts needs the right to use the sequence too, the default can be changed by
+accident, and a copy of the table draws from the same sequence.
+
+Instead of
+
+    CREATE TABLE t (id bigserial PRIMARY KEY);
+
+Write
+
+    CREATE TABLE IF NOT EXISTS t (id bigint GENERATED BY DEFAULT AS IDENTITY PRIMARY KEY);
+
+Or `GENERATED ALWAYS`, where clients never give the value. In `ALTER COLUMN ..
+TYPE` PostgreSQL takes no serial type: write `ADD GENERATED`.
+
+It does not see that `ADD COLUMN .. bigserial` rewrites the table; so does an
+identity column in its place (`adding-field-with-default`).
+
+Details
+
+- Reported: each column of the type `serial`, `smallserial`, `bigserial`,
+  `serial2`, `serial4` or `serial8`. The fix puts an identity column of the
+  integer type in place of the name.
+- Not reported: an identity column; an integer with `DEFAULT nextval('s')`.
+- In PostgreSQL: section 8.1.4 says what `serial` stands for, section 5.3 what
+  an identity column is.
+
+    $ echo 'CREATE TABLE t (id bigserial PRIMARY KEY);' | ./squawk --only prefer-identity
+    19..28: warning[prefer-identity]: serial types make schema, dependency, and permission management difficult
+      help: use an `identity` column instead
+      fix: Replace with `identity` column
+        replace 19..28 \"bigint generated by default as identity\"
+    violations: 1
+";
+
+/// `prefer-text-field`.
+pub(crate) const PREFER_TEXT_FIELD: &str = "prefer-text-field
+
+  default: on
+  fix:     look first (it drops the limit)
+  lock:    none now; a longer limit takes ACCESS EXCLUSIVE for a moment, a
+           shorter one until the table is written anew
+  manual:  Character Types,
+           https://www.postgresql.org/docs/current/datatype-character.html
+
+A length is a guess that is outgrown. A longer one is quick, yet needs a moment
+with nobody on the table; a shorter one writes the table anew.
+
+Instead of
+
+    CREATE TABLE t (a varchar(50)[]);
+
+Write
+
+    CREATE TABLE IF NOT EXISTS t (a text[]);
+
+With a limit where one is needed: `a text CHECK (length(a) <= 50)`. A check can
+be changed by a new one that is added as not valid and validated later. The fix
+drops the limit and adds no check.
+
+It does not see a limit on a column of a domain.
+
+Details
+
+- Reported: each column of the type `varchar`, `character varying` or `char
+  varying` with a length, arrays too, and of a path to `varchar` with arguments
+  (`pg_catalog.varchar(50)`). The fix puts `text` in place of the type; the
+  brackets of an array stay.
+- Not reported: `varchar` without a length; `nchar varying(5)` and `national
+  character varying(5)`; `char(3)`, which `ban-char-field` reports.
+- In PostgreSQL: a longer length writes and reads nothing (9.2 and later),
+  under ACCESS EXCLUSIVE; a smaller one rewrites the table (ALTER TABLE,
+  Notes). `text` is stored in the same way, and no slower (section 8.3, the tip
+  there).
+
+    $ echo 'CREATE TABLE t (a varchar(50)[]);' | ./squawk --only prefer-text-field
+    18..31: warning[prefer-text-field]: changing the size of a `varchar` field requires an `access exclusive` lock, that will prevent all reads and writes to the table
+      help: use a `text` field with a `check` constraint
+      fix: Replace with `text`
+        replace 18..29 \"text\"
+    violations: 1
+";

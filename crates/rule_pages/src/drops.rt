@@ -1,0 +1,562 @@
+//! The rules of the group "Drops". Written by tools/rule_pages.py.
+
+/// `ban-drop-database`.
+pub(crate) const BAN_DROP_DATABASE: &str = "ban-drop-database
+
+  default: on
+  fix:     none
+  lock:    none on tables; it needs a database without sessions
+  manual:  DROP DATABASE,
+           https://www.postgresql.org/docs/current/sql-dropdatabase.html
+
+All data in it is lost, at once and for good. No transaction can undo it.
+
+Instead of
+
+    DROP DATABASE d;
+
+Write nothing of it in a migration. Take a backup, and drop the database by
+hand.
+
+It does not see what a backup holds.
+
+Details
+
+- Reported: each `DROP DATABASE`.
+- In PostgreSQL: it runs in no transaction block and cannot be undone. `WITH
+  (FORCE)` ends the sessions that still use it (DROP DATABASE).
+
+    $ echo 'DROP DATABASE d;' | ./squawk --only ban-drop-database
+    0..16: warning[ban-drop-database]: dropping a database may break existing clients
+    violations: 1
+";
+
+/// `ban-drop-table`.
+pub(crate) const BAN_DROP_TABLE: &str = "ban-drop-table
+
+  default: on
+  fix:     none
+  lock:    ACCESS EXCLUSIVE on it and on each table that its foreign keys refer
+           to, for a moment
+  manual:  DROP TABLE,
+           https://www.postgresql.org/docs/current/sql-droptable.html
+
+These report a whole statement, once, however many objects it names, with and
+without `IF EXISTS` and `CASCADE`. The safe way is the same for all: release a
+version that does without the object, see that nothing uses it any more, and
+drop it in a later migration. Without `CASCADE`, PostgreSQL refuses to drop
+what other objects depend on (section 5.15); with it they go too.
+
+The table goes with its rows, indexes and triggers. Every client that still
+uses it fails.
+
+Instead of
+
+    DROP TABLE IF EXISTS a, b CASCADE;
+
+Write the drop in a later migration, as above. A renamed table that nobody
+misses for a week is easier to bring back than a dropped one.
+
+    SET lock_timeout = '1s';
+    SET statement_timeout = '5s';
+    -- nothing has used it since release 41
+    -- squawk-ignore ban-drop-table
+    DROP TABLE IF EXISTS a;
+
+It does not see tables that go with their schema, owner, type or extension
+(`CASCADE`, `DROP OWNED`).
+
+Details
+
+- Reported: each `DROP TABLE` and `DROP FOREIGN TABLE`.
+- In PostgreSQL: ACCESS EXCLUSIVE on the table and on those that its foreign
+  keys refer to, which may be busy ones (section 13.3.1; DROP TABLE and DROP
+  FOREIGN TABLE).
+
+    $ echo 'DROP TABLE IF EXISTS a, b CASCADE;' | ./squawk --only ban-drop-table
+    0..34: warning[ban-drop-table]: dropping a table may break existing clients
+    violations: 1
+";
+
+/// `ban-drop-view`.
+pub(crate) const BAN_DROP_VIEW: &str = "ban-drop-view
+
+  default: on
+  fix:     none
+  lock:    ACCESS EXCLUSIVE on the view, for a moment
+  manual:  DROP VIEW, https://www.postgresql.org/docs/current/sql-dropview.html
+
+These report a whole statement, once, however many objects it names, with and
+without `IF EXISTS` and `CASCADE`. The safe way is the same for all: release a
+version that does without the object, see that nothing uses it any more, and
+drop it in a later migration. Without `CASCADE`, PostgreSQL refuses to drop
+what other objects depend on (section 5.15); with it they go too.
+
+Clients that read the view fail. The rows of a materialized view are lost.
+
+Instead of
+
+    DROP VIEW v;
+
+Write the drop in a later migration, as above. To change a view, `CREATE OR
+REPLACE VIEW` keeps it in place, as long as its columns stay and new ones come
+last.
+
+    SET lock_timeout = '1s';
+    SET statement_timeout = '5s';
+    -- nothing has used it since release 41
+    -- squawk-ignore ban-drop-view
+    DROP VIEW IF EXISTS v;
+
+It does not see views that go with their table (`DROP TABLE .. CASCADE`).
+
+Details
+
+- Reported: each `DROP VIEW` and `DROP MATERIALIZED VIEW`.
+- In PostgreSQL: ACCESS EXCLUSIVE on the view (DROP VIEW and DROP MATERIALIZED
+  VIEW).
+
+    $ echo 'DROP VIEW v;' | ./squawk --only ban-drop-view
+    0..12: warning[ban-drop-view]: dropping a view may break existing clients
+    violations: 1
+";
+
+/// `ban-drop-function`.
+pub(crate) const BAN_DROP_FUNCTION: &str = "ban-drop-function
+
+  default: on
+  fix:     none
+  lock:    none on tables
+  manual:  DROP FUNCTION,
+           https://www.postgresql.org/docs/current/sql-dropfunction.html
+
+These report a whole statement, once, however many objects it names, with and
+without `IF EXISTS` and `CASCADE`. The safe way is the same for all: release a
+version that does without the object, see that nothing uses it any more, and
+drop it in a later migration. Without `CASCADE`, PostgreSQL refuses to drop
+what other objects depend on (section 5.15); with it they go too.
+
+Clients that call it fail, and so do statements that they have prepared.
+
+Instead of
+
+    DROP AGGREGATE a(int);
+
+Write the drop in a later migration, as above. Give a new version of a function
+another name or other parameters, and keep both for a while.
+
+    SET lock_timeout = '1s';
+    SET statement_timeout = '5s';
+    -- nothing has called it since release 41
+    -- squawk-ignore ban-drop-function
+    DROP FUNCTION IF EXISTS f(int);
+
+It does not see calls in the bodies of other functions: PostgreSQL doesn't know
+these either, and drops the function.
+
+Details
+
+- Reported: each `DROP FUNCTION`, `DROP PROCEDURE`, `DROP ROUTINE` and `DROP
+  AGGREGATE`.
+- In PostgreSQL: the pages of these statements.
+
+    $ echo 'DROP AGGREGATE a(int);' | ./squawk --only ban-drop-function
+    0..22: warning[ban-drop-function]: dropping an aggregate may break existing clients
+    violations: 1
+";
+
+/// `ban-drop-type`.
+pub(crate) const BAN_DROP_TYPE: &str = "ban-drop-type
+
+  default: on
+  fix:     none
+  lock:    none on tables; with `CASCADE` ACCESS EXCLUSIVE on each table that
+           loses a column or an index
+  manual:  DROP TYPE, https://www.postgresql.org/docs/current/sql-droptype.html
+
+These report a whole statement, once, however many objects it names, with and
+without `IF EXISTS` and `CASCADE`. The safe way is the same for all: release a
+version that does without the object, see that nothing uses it any more, and
+drop it in a later migration. Without `CASCADE`, PostgreSQL refuses to drop
+what other objects depend on (section 5.15); with it they go too.
+
+Queries that use the type, the cast or the operator fail. With `CASCADE` the
+columns of the type go too, and the indexes of the operator class.
+
+Instead of
+
+    DROP OPERATOR + (pair, pair);
+
+Write the drop in a later migration, as above.
+
+    SET lock_timeout = '1s';
+    SET statement_timeout = '5s';
+    -- no column and no client has used it since release 41
+    -- squawk-ignore ban-drop-type
+    DROP TYPE IF EXISTS mood;
+
+It does not see types that go with their schema or extension.
+
+Details
+
+- Reported: each `DROP TYPE`, `DROP CAST`, `DROP OPERATOR`, `DROP OPERATOR
+  CLASS` and `DROP OPERATOR FAMILY`.
+- Not reported: `DROP DOMAIN`, which has a rule of its own.
+- In PostgreSQL: the pages of these statements.
+
+    $ echo 'DROP OPERATOR + (pair, pair);' | ./squawk --only ban-drop-type
+    0..29: warning[ban-drop-type]: dropping an operator may break existing clients
+    violations: 1
+";
+
+/// `ban-drop-trigger`.
+pub(crate) const BAN_DROP_TRIGGER: &str = "ban-drop-trigger
+
+  default: off
+  fix:     none
+  lock:    ACCESS EXCLUSIVE on the table, for a moment
+  manual:  DROP TRIGGER,
+           https://www.postgresql.org/docs/current/sql-droptrigger.html
+
+These report a whole statement, once, however many objects it names, with and
+without `IF EXISTS` and `CASCADE`. The safe way is the same for all: release a
+version that does without the object, see that nothing uses it any more, and
+drop it in a later migration. Without `CASCADE`, PostgreSQL refuses to drop
+what other objects depend on (section 5.15); with it they go too.
+
+What the trigger did is no longer done: checks, audit rows, copies of values.
+No client gets an error.
+
+Instead of
+
+    DROP TRIGGER audit ON t;
+
+Write the drop in a later migration, as above; move the trigger's work into the
+application first.
+
+    SET lock_timeout = '1s';
+    SET statement_timeout = '5s';
+    -- release 41 writes the audit rows itself
+    -- squawk-ignore ban-drop-trigger
+    DROP TRIGGER IF EXISTS audit ON t;
+
+It does not see triggers that go with their function (`DROP FUNCTION ..
+CASCADE`).
+
+Details
+
+- Reported: each `DROP TRIGGER`.
+- Not reported: `DROP EVENT TRIGGER`.
+- In PostgreSQL: ACCESS EXCLUSIVE on the table, for a moment (DROP TRIGGER).
+
+    $ echo 'DROP TRIGGER audit ON t;' | ./squawk --only ban-drop-trigger
+    0..24: warning[ban-drop-trigger]: dropping a trigger may silently change behavior for existing clients
+    violations: 1
+";
+
+/// `ban-drop-schema`.
+pub(crate) const BAN_DROP_SCHEMA: &str = "ban-drop-schema
+
+  default: on
+  fix:     none
+  lock:    none on an empty schema; with `CASCADE` ACCESS EXCLUSIVE on all
+           tables in it
+  manual:  DROP SCHEMA,
+           https://www.postgresql.org/docs/current/sql-dropschema.html
+
+These report a whole statement, once, however many objects it names, with and
+without `IF EXISTS` and `CASCADE`. The safe way is the same for all: release a
+version that does without the object, see that nothing uses it any more, and
+drop it in a later migration. Without `CASCADE`, PostgreSQL refuses to drop
+what other objects depend on (section 5.15); with it they go too.
+
+Clients that name an object in it fail. Those that have the schema in their
+search path fail, or find another object of the same name.
+
+Instead of
+
+    DROP SCHEMA o;
+
+Write the drop in a later migration, as above. Drop or move the objects one by
+one, and the empty schema last:
+
+    SET lock_timeout = '1s';
+    SET statement_timeout = '5s';
+    -- it is empty, and in nobody's search path
+    -- squawk-ignore ban-drop-schema
+    DROP SCHEMA IF EXISTS o;
+
+It does not see whether the schema is empty.
+
+Details
+
+- Reported: each `DROP SCHEMA`.
+- In PostgreSQL: without `CASCADE` only an empty schema is dropped (DROP
+  SCHEMA; section 5.10.3).
+
+    $ echo 'DROP SCHEMA o;' | ./squawk --only ban-drop-schema
+    0..14: warning[ban-drop-schema]: dropping a schema may break existing clients
+    violations: 1
+";
+
+/// `ban-drop-sequence`.
+pub(crate) const BAN_DROP_SEQUENCE: &str = "ban-drop-sequence
+
+  default: on
+  fix:     none
+  lock:    ACCESS EXCLUSIVE on the sequence, for a moment
+  manual:  DROP SEQUENCE,
+           https://www.postgresql.org/docs/current/sql-dropsequence.html
+
+These report a whole statement, once, however many objects it names, with and
+without `IF EXISTS` and `CASCADE`. The safe way is the same for all: release a
+version that does without the object, see that nothing uses it any more, and
+drop it in a later migration. Without `CASCADE`, PostgreSQL refuses to drop
+what other objects depend on (section 5.15); with it they go too.
+
+Clients that call `nextval` on it fail. With `CASCADE` the defaults that use it
+go, and an `INSERT` that relied on one fails.
+
+Instead of
+
+    DROP SEQUENCE o;
+
+Write the drop in a later migration, as above.
+
+    SET lock_timeout = '1s';
+    SET statement_timeout = '5s';
+    -- no default and no client has used it since release 41
+    -- squawk-ignore ban-drop-sequence
+    DROP SEQUENCE IF EXISTS o;
+
+It does not see sequences that go with the column that owns them.
+
+Details
+
+- Reported: each `DROP SEQUENCE`.
+- In PostgreSQL: DROP SEQUENCE.
+
+    $ echo 'DROP SEQUENCE o;' | ./squawk --only ban-drop-sequence
+    0..16: warning[ban-drop-sequence]: dropping a sequence may break existing clients
+    violations: 1
+";
+
+/// `ban-drop-domain`.
+pub(crate) const BAN_DROP_DOMAIN: &str = "ban-drop-domain
+
+  default: on
+  fix:     none
+  lock:    none on tables; with `CASCADE` ACCESS EXCLUSIVE on each table that
+           loses a column
+  manual:  DROP DOMAIN,
+           https://www.postgresql.org/docs/current/sql-dropdomain.html
+
+These report a whole statement, once, however many objects it names, with and
+without `IF EXISTS` and `CASCADE`. The safe way is the same for all: release a
+version that does without the object, see that nothing uses it any more, and
+drop it in a later migration. Without `CASCADE`, PostgreSQL refuses to drop
+what other objects depend on (section 5.15); with it they go too.
+
+Queries and functions that name the domain fail. With `CASCADE` the columns of
+the domain go too.
+
+Instead of
+
+    DROP DOMAIN o;
+
+Write the drop in a later migration, as above. Give the columns the plain type
+first; that writes nothing (`changing-column-type`).
+
+    SET lock_timeout = '1s';
+    SET statement_timeout = '5s';
+    -- no column and no function has used it since release 41
+    -- squawk-ignore ban-drop-domain
+    DROP DOMAIN IF EXISTS o;
+
+It does not see domains that go with their schema or extension.
+
+Details
+
+- Reported: each `DROP DOMAIN`.
+- In PostgreSQL: DROP DOMAIN.
+
+    $ echo 'DROP DOMAIN o;' | ./squawk --only ban-drop-domain
+    0..14: warning[ban-drop-domain]: dropping a domain may break existing clients
+    violations: 1
+";
+
+/// `ban-drop-extension`.
+pub(crate) const BAN_DROP_EXTENSION: &str = "ban-drop-extension
+
+  default: on
+  fix:     none
+  lock:    none on tables; with `CASCADE` ACCESS EXCLUSIVE on each table that
+           loses a column or an index
+  manual:  DROP EXTENSION,
+           https://www.postgresql.org/docs/current/sql-dropextension.html
+
+These report a whole statement, once, however many objects it names, with and
+without `IF EXISTS` and `CASCADE`. The safe way is the same for all: release a
+version that does without the object, see that nothing uses it any more, and
+drop it in a later migration. Without `CASCADE`, PostgreSQL refuses to drop
+what other objects depend on (section 5.15); with it they go too.
+
+Its functions, types and operators go with it, and clients that use one of them
+fail.
+
+Instead of
+
+    DROP EXTENSION pg_trgm;
+
+Write the drop in a later migration, as above.
+
+    SET lock_timeout = '1s';
+    SET statement_timeout = '5s';
+    -- no index and no query has used it since release 41
+    -- squawk-ignore ban-drop-extension
+    DROP EXTENSION IF EXISTS pg_trgm;
+
+It does not see which objects belong to the extension.
+
+Details
+
+- Reported: each `DROP EXTENSION`.
+- In PostgreSQL: DROP EXTENSION; \"Packaging Related Objects into an Extension\".
+
+    $ echo 'DROP EXTENSION pg_trgm;' | ./squawk --only ban-drop-extension
+    0..23: warning[ban-drop-extension]: dropping an extension also removes its functions, types, and other objects, which may break existing clients
+    violations: 1
+";
+
+/// `ban-truncate-cascade`.
+pub(crate) const BAN_TRUNCATE_CASCADE: &str = "ban-truncate-cascade
+
+  default: on
+  fix:     none
+  lock:    ACCESS EXCLUSIVE on each of the tables, until the transaction ends
+  manual:  TRUNCATE, https://www.postgresql.org/docs/current/sql-truncate.html
+
+Tables that nobody named lose all rows, at once. Which ones depends on the
+foreign keys that are there.
+
+Instead of
+
+    TRUNCATE t CASCADE;
+
+Write the name of every table that is to be emptied:
+
+    SET lock_timeout = '1s';
+    SET statement_timeout = '5s';
+    TRUNCATE t, orders;
+
+It does not see `TRUNCATE` of a table in use, and `DELETE` of all its rows.
+
+Details
+
+- Reported: the word `CASCADE` of a `TRUNCATE`.
+- Not reported: `TRUNCATE` without it, which PostgreSQL refuses where another
+  table refers to the named ones.
+- In PostgreSQL: ACCESS EXCLUSIVE on each of them (TRUNCATE, \"CASCADE\" and
+  Notes).
+
+    $ echo 'TRUNCATE t CASCADE;' | ./squawk --only ban-truncate-cascade
+    11..18: warning[ban-truncate-cascade]: `cascade` recursively truncates every table with a foreign key to the truncated tables
+      note: with foreign keys set up as `a <- b <- c`, truncating `a` also truncates `b` and `c`
+      help: remove the `cascade` and list exactly which tables to truncate
+    violations: 1
+";
+
+/// `require-concurrent-partition-detach`.
+pub(crate) const REQUIRE_CONCURRENT_PARTITION_DETACH: &str = "require-concurrent-partition-detach
+
+  default: on
+  fix:     look first (adds `CONCURRENTLY`, which fails in a transaction and
+           where there is a default partition)
+  lock:    ACCESS EXCLUSIVE on the partitioned table, the partition and a
+           default partition, for a moment
+  manual:  ALTER TABLE,
+           https://www.postgresql.org/docs/current/sql-altertable.html#SQL-ALTERTABLE-DETACH-PARTITION
+
+All reads and writes of the partitioned table wait, first for the lock and then
+for the detachment.
+
+Instead of
+
+    ALTER TABLE t DETACH PARTITION p;
+
+Write in a migration that runs without a transaction:
+
+    SET lock_timeout = 0;
+    SET statement_timeout = 0;
+    -- squawk-ignore prefer-robust-stmts
+    ALTER TABLE t DETACH PARTITION p CONCURRENTLY;
+
+It waits for all who use the partitioned table, without holding anybody up;
+then it takes ACCESS EXCLUSIVE on the partition alone, and who reads the
+partition by its own name waits. If it is interrupted, `ALTER TABLE t DETACH
+PARTITION p FINALIZE` ends it.
+
+It does not see `DETACH PARTITION .. CONCURRENTLY` in a transaction, where
+PostgreSQL refuses it.
+
+Details
+
+- Reported: each `DETACH PARTITION` of an `ALTER TABLE` with neither
+  `CONCURRENTLY` nor `FINALIZE`. The fix puts the first word in.
+- In PostgreSQL: ACCESS EXCLUSIVE on the partitioned table, on the partition,
+  and on a default partition if there is one. With `CONCURRENTLY` SHARE UPDATE
+  EXCLUSIVE on the partitioned table and, in a second transaction, ACCESS
+  EXCLUSIVE on the partition, from PostgreSQL 14 on. It is refused where the
+  table has a default partition. `FINALIZE` ends one that was interrupted
+  (ALTER TABLE, \"DETACH PARTITION\").
+
+    $ echo 'ALTER TABLE t DETACH PARTITION p;' | ./squawk --only require-concurrent-partition-detach
+    14..32: warning[require-concurrent-partition-detach]: detaching a partition requires an `access exclusive` lock, which prevents reads and writes to the table
+      help: detach the partition `concurrently`
+      fix: Add `concurrently`
+        insert 32 \" concurrently\"
+    violations: 1
+";
+
+/// `ban-detach-inheritance`.
+pub(crate) const BAN_DETACH_INHERITANCE: &str = "ban-detach-inheritance
+
+  default: off
+  fix:     none
+  lock:    see `require-concurrent-partition-detach`; `NO INHERIT`: ACCESS
+           EXCLUSIVE, for a moment
+  manual:  ALTER TABLE,
+           https://www.postgresql.org/docs/current/sql-altertable.html#SQL-ALTERTABLE-DETACH-PARTITION
+
+Queries of the parent table no longer find the rows; no error shows it. An
+`INSERT` into the parent whose partition is gone fails, or its row goes to the
+default partition.
+
+Instead of
+
+    ALTER TABLE logs DETACH PARTITION logs_2024 CONCURRENTLY;
+
+Write
+
+    SET lock_timeout = 0;
+    SET statement_timeout = 0;
+    -- release 41 reads old rows from logs_2024 itself
+    -- squawk-ignore ban-detach-inheritance, prefer-robust-stmts
+    ALTER TABLE logs DETACH PARTITION logs_2024 CONCURRENTLY;
+
+It does not see a partition that is dropped.
+
+Details
+
+- Reported: each `DETACH PARTITION`, also with `CONCURRENTLY` or `FINALIZE`,
+  and each `NO INHERIT` of an `ALTER TABLE`.
+- Not reported: both of a table that an earlier statement creates. For `DETACH
+  PARTITION` that is the partitioned table, whether or not the text creates the
+  partition. `NO INHERIT` of a constraint is left alone.
+- In PostgreSQL: section 5.12.2.2, \"Partition Maintenance\"; section 5.11,
+  \"Inheritance\"; ALTER TABLE, \"DETACH PARTITION\" and \"NO INHERIT\".
+
+    $ echo 'ALTER TABLE logs DETACH PARTITION logs_2024 CONCURRENTLY;' | ./squawk --only ban-detach-inheritance
+    17..56: warning[ban-detach-inheritance]: detaching a partition changes which rows existing clients can read and write through the parent table
+    violations: 1
+";

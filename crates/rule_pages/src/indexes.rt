@@ -1,0 +1,256 @@
+//! The rules of the group "Indexes". Written by tools/rule_pages.py.
+
+/// `require-concurrent-index-creation`.
+pub(crate) const REQUIRE_CONCURRENT_INDEX_CREATION: &str = "require-concurrent-index-creation
+
+  default: on
+  fix:     look first (adds `CONCURRENTLY`, which fails in a transaction)
+  lock:    SHARE, until the index is built
+  manual:  CREATE INDEX,
+           https://www.postgresql.org/docs/current/sql-createindex.html#SQL-CREATEINDEX-CONCURRENTLY
+
+Every `INSERT`, `UPDATE` and `DELETE` waits until the whole index is built. On
+a large table that takes minutes or hours.
+
+Instead of
+
+    CREATE INDEX i ON t (a);
+
+Write in a migration that runs without a transaction:
+
+    SET lock_timeout = 0;
+    SET statement_timeout = 0;
+    -- what a failed build left
+    DROP INDEX CONCURRENTLY IF EXISTS i;
+    CREATE INDEX CONCURRENTLY IF NOT EXISTS i ON t (a);
+
+A build that fails leaves an invalid index under the name. `IF NOT EXISTS`
+alone takes it for the index, so the drop comes first. A timeout makes the
+build fail, even while it waits for a transaction that uses another table: so
+both are 0 here.
+
+A partitioned table takes no `CONCURRENTLY`. Build an index on each partition
+as above. Then create the index of the table itself, which reads no row, and
+attach those of the partitions; it is valid when all are attached. For that
+moment readers of the partition wait too:
+
+    BEGIN;
+    SET LOCAL lock_timeout = '1s';
+    SET LOCAL statement_timeout = '5s';
+    -- squawk-ignore require-concurrent-index-creation
+    CREATE INDEX logs_a ON ONLY logs (a);
+    ALTER INDEX logs_a ATTACH PARTITION logs_2024_a;
+    COMMIT;
+
+It does not see a build that failed and left its index invalid; timeouts that
+cancel a concurrent build; whether a partition has the index already.
+
+Details
+
+- Reported: each `CREATE INDEX` and `CREATE UNIQUE INDEX` without
+  `CONCURRENTLY`. The fix puts the word in.
+- Not reported: an index on a table that the same open transaction created:
+  nobody else sees that table yet. Without a transaction there is no such
+  exception, since each statement takes effect at once.
+- In PostgreSQL: a plain build takes SHARE; one with `CONCURRENTLY` takes SHARE
+  UPDATE EXCLUSIVE, is slower, and may not run in a transaction block (CREATE
+  INDEX, \"Building Indexes Concurrently\"; section 13.3.1).
+
+    $ echo 'CREATE INDEX i ON t (a);' | ./squawk --only require-concurrent-index-creation
+    0..24: warning[require-concurrent-index-creation]: during normal index creation, table updates are blocked, but reads are still allowed
+      help: use `concurrently` to avoid blocking writes
+      fix: Add `concurrently`
+        insert 12 \" concurrently\"
+    violations: 1
+
+    $ echo 'BEGIN; CREATE TABLE t (id int); COMMIT; CREATE INDEX i ON t (id);' | ./squawk --only require-concurrent-index-creation
+    40..65: warning[require-concurrent-index-creation]: during normal index creation, table updates are blocked, but reads are still allowed
+      help: use `concurrently` to avoid blocking writes
+      fix: Add `concurrently`
+        insert 52 \" concurrently\"
+    violations: 1
+";
+
+/// `require-concurrent-index-deletion`.
+pub(crate) const REQUIRE_CONCURRENT_INDEX_DELETION: &str = "require-concurrent-index-deletion
+
+  default: on
+  fix:     look first (adds `CONCURRENTLY`, which fails in a transaction, with
+           two indexes and with `CASCADE`)
+  lock:    ACCESS EXCLUSIVE on the table, for a moment
+  manual:  DROP INDEX,
+           https://www.postgresql.org/docs/current/sql-dropindex.html
+
+The drop waits for every transaction that uses the table, and all reads and
+writes that come later wait for the drop. One long query is enough to stop the
+application.
+
+Instead of
+
+    DROP INDEX i;
+
+Write in a migration that runs without a transaction:
+
+    SET lock_timeout = 0;
+    SET statement_timeout = 0;
+    DROP INDEX CONCURRENTLY IF EXISTS i;
+
+A timeout here leaves the index invalid: then drop it again. The index of a
+`UNIQUE` or `PRIMARY KEY` constraint goes with `DROP CONSTRAINT`, and that of a
+partitioned table takes no `CONCURRENTLY`: for both set a short `lock_timeout`.
+
+It does not see `DROP INDEX CONCURRENTLY` in a transaction, where PostgreSQL
+refuses it; which queries the index served (`ban-drop-index`).
+
+Details
+
+- Reported: each `DROP INDEX` without `CONCURRENTLY`. The fix puts the word in.
+- Not reported: an index that goes with its table or its constraint.
+- In PostgreSQL: ACCESS EXCLUSIVE on the table. With `CONCURRENTLY` it blocks
+  nobody, may not run in a transaction block, drops one index, and takes no
+  `CASCADE` (DROP INDEX).
+
+    $ echo 'DROP INDEX i;' | ./squawk --only require-concurrent-index-deletion
+    0..13: warning[require-concurrent-index-deletion]: a normal `drop index` acquires an `access exclusive` lock on the table, blocking other accesses until the index drop can complete
+      help: drop the index `concurrently`
+      fix: Add `concurrently`
+        insert 10 \" concurrently\"
+    violations: 1
+";
+
+/// `require-concurrent-reindex`.
+pub(crate) const REQUIRE_CONCURRENT_REINDEX: &str = "require-concurrent-reindex
+
+  default: on
+  fix:     look first (adds `CONCURRENTLY`, which fails in a transaction)
+  lock:    SHARE on the table and ACCESS EXCLUSIVE on each index, until they
+           are rebuilt
+  manual:  REINDEX,
+           https://www.postgresql.org/docs/current/sql-reindex.html#SQL-REINDEX-CONCURRENTLY
+
+Writes wait until all indexes are rebuilt. So does nearly every query, since
+planning it opens each index.
+
+Instead of
+
+    REINDEX TABLE t;
+
+Write in a migration that runs without a transaction:
+
+    SET lock_timeout = 0;
+    SET statement_timeout = 0;
+    REINDEX TABLE CONCURRENTLY t;
+
+If it fails it leaves an invalid index whose name ends with `_ccnew`: drop that
+one and begin again.
+
+It does not see `REINDEX .. CONCURRENTLY` in a transaction, where PostgreSQL
+refuses it; an index left invalid.
+
+Details
+
+- Reported: each `REINDEX` of an index, a table, a schema or a database that is
+  not concurrent. The fix puts the word in.
+- Not reported: `REINDEX SYSTEM`, which can't be done so. An option that begins
+  with `CONCURRENTLY` counts whatever its value: `REINDEX (CONCURRENTLY false)
+  TABLE t` is left alone.
+- In PostgreSQL: SHARE on the table, and ACCESS EXCLUSIVE on the index that is
+  rebuilt, which each query that might use it waits for; with `CONCURRENTLY`
+  SHARE UPDATE EXCLUSIVE, from PostgreSQL 12 on (REINDEX, Notes and \"Rebuilding
+  Indexes Concurrently\").
+
+    $ echo 'REINDEX TABLE t;' | ./squawk --only require-concurrent-reindex
+    0..16: warning[require-concurrent-reindex]: reindexing a table or index without `concurrently` blocks reads and writes
+      help: use `concurrently` to avoid blocking reads and writes
+      fix: Add `concurrently`
+        insert 13 \" concurrently\"
+    violations: 1
+";
+
+/// `ban-concurrent-index-creation-in-transaction`.
+pub(crate) const BAN_CONCURRENT_INDEX_CREATION_IN_TRANSACTION: &str =
+    "ban-concurrent-index-creation-in-transaction
+
+  default: on
+  fix:     none
+  lock:    none, it fails
+  manual:  CREATE INDEX,
+           https://www.postgresql.org/docs/current/sql-createindex.html#SQL-CREATEINDEX-CONCURRENTLY
+
+A concurrent build needs several transactions of its own. So the migration
+fails at this statement, each time it is run.
+
+Instead of
+
+    BEGIN; CREATE INDEX CONCURRENTLY i ON t (a); COMMIT;
+
+Write in a migration of its own, without a transaction:
+
+    SET lock_timeout = 0;
+    SET statement_timeout = 0;
+    DROP INDEX CONCURRENTLY IF EXISTS i;
+    CREATE INDEX CONCURRENTLY IF NOT EXISTS i ON t (a);
+
+It does not see `DROP INDEX CONCURRENTLY`, `REINDEX .. CONCURRENTLY` and
+`DETACH PARTITION .. CONCURRENTLY` in a transaction, which fail as well; a tool
+that puts the file into a transaction, unless you say
+`--assume-in-transaction`, and then not in a file of one statement.
+
+Details
+
+- Reported: the word `CONCURRENTLY` of each `CREATE INDEX CONCURRENTLY` in an
+  open transaction: after a `BEGIN` without a `COMMIT` or `ROLLBACK` since,
+  after `COMMIT AND CHAIN` or `ROLLBACK AND CHAIN`, or where
+  `--assume-in-transaction` is given and no end came.
+- Not reported: a text of one statement, since a tool can run such a migration
+  without a transaction; an index without `CONCURRENTLY`; `DROP INDEX
+  CONCURRENTLY` and `REINDEX CONCURRENTLY`, which PostgreSQL refuses in a
+  transaction as well.
+- In PostgreSQL: a concurrent build can't run inside a transaction block, since
+  it needs several transactions of its own (CREATE INDEX, \"Building Indexes
+  Concurrently\").
+
+    $ echo 'BEGIN; CREATE INDEX CONCURRENTLY i ON t (a); COMMIT;' | ./squawk --only ban-concurrent-index-creation-in-transaction
+    20..32: warning[ban-concurrent-index-creation-in-transaction]: while regular index creation can happen inside a transaction, this is not allowed when the `concurrently` option is used
+      help: build the index outside any transactions
+    violations: 1
+";
+
+/// `ban-drop-index`.
+pub(crate) const BAN_DROP_INDEX: &str = "ban-drop-index
+
+  default: off
+  fix:     none
+  lock:    ACCESS EXCLUSIVE on the table, for a moment; none that hurts with
+           `CONCURRENTLY`
+  manual:  DROP INDEX,
+           https://www.postgresql.org/docs/current/sql-dropindex.html
+
+Queries that the index served become slow, all at once. Without a unique index,
+duplicates get in.
+
+Instead of
+
+    DROP INDEX i;
+
+Write
+
+    SET lock_timeout = 0;
+    SET statement_timeout = 0;
+    -- pg_stat_user_indexes shows no scan since May, on the replicas too
+    -- squawk-ignore ban-drop-index
+    DROP INDEX CONCURRENTLY IF EXISTS i;
+
+It does not see indexes that go with their table, column or constraint.
+
+Details
+
+- Reported: each `DROP INDEX`, with and without `CONCURRENTLY`.
+- In PostgreSQL: `DROP INDEX` takes ACCESS EXCLUSIVE on the table; with
+  `CONCURRENTLY` it blocks nobody, and may not run in a transaction block (DROP
+  INDEX).
+
+    $ echo 'DROP INDEX i;' | ./squawk --only ban-drop-index
+    0..13: warning[ban-drop-index]: dropping an index may remove a guarantee or change query plans for existing clients
+    violations: 1
+";

@@ -1,0 +1,269 @@
+#!/usr/bin/env python3
+"""Writes crates/rule_pages: what docs/RULES.md says of each rule, as plain text of 79 columns that `lavkheto explain` prints.
+
+    tools/rule_pages.py            writes the sources
+    tools/rule_pages.py --check    says whether the sources are those of the page; the exit status is 1 where they are not
+
+A rule's page is its section without Markdown's signs. What it calls "above", the first paragraph of its group, stands before it.
+SQL and other code is indented, and never wrapped; a row of a table is an item of a list. Of a link to another page of docs/ the page's name is kept.
+The list of all rules is the tables at the head of docs/RULES.md.
+"""
+import argparse
+import re
+import sys
+import textwrap
+from pathlib import Path
+
+TOP = Path(__file__).resolve().parent.parent
+PAGE = "docs/RULES.md"
+CRATE = TOP / "crates/rule_pages"
+WIDTH = 79
+MOST_LINES = 700
+WRITTEN = "Written by tools/rule_pages.py."
+ALIAS = "require-timeout-settings"
+FACTS = re.compile(r"\*\*(On|Off)\*\* · (?:no fix|fix: (.*?)) · lock: (.*?)(?: · manual: (.*))?$")
+
+
+def rules():
+    """The rules' names as variants of `Rule`, and as printed, in declaration order."""
+    text = (TOP / "crates/lint_base/src/rule.rt").read_text()
+    variants = re.findall(r"^        Rule::(\w+),$", re.search(r"pub const ALL\b.*?^    \];", text, re.M | re.S)[0], re.M)
+    names = re.findall(r'\(\s*"([^"]+)"', re.search(r"^static FACTS\b.*?^\];", text, re.M | re.S)[0])
+    assert len(variants) == len(names)
+    return list(zip(variants, names))
+
+
+def plain(text):
+    """A paragraph's words without links and bold type."""
+    text = " ".join(re.sub(r'<a id="[^"]*"></a>', "", text).split())
+    text = re.sub(r"\[([^\]]*)\]\(#[^)]*\)", r"\1", text)
+    text = re.sub(r"\[([^\]]*)\]\(([A-Z]\w*\.md)[^)]*\)", r"\1 (docs/\2)", text)
+    text = re.sub(r"\[([^\]]*)\]\((https[^)]*)\)", r"\1 (\2)", text)
+    return re.sub(r"\*\*|(?<!\w)\*(?=\w)|(?<=\w)\*(?!\w)", "", text)
+
+
+def wrapped(text, first="", rest=""):
+    return textwrap.wrap(plain(text), WIDTH, initial_indent=first, subsequent_indent=rest, break_long_words=False, break_on_hyphens=False)
+
+
+def row_item(row):
+    return "- " + ": ".join(cell.strip() for cell in row.strip("|").split("|") if cell.strip())
+
+
+def block(lines):
+    """The lines of a paragraph, a list, a table or a piece of code."""
+    if lines[0].startswith("```"):
+        return ["    " + line if line else "" for line in lines[1:-1]]
+    if lines[0].startswith("|"):
+        lines = [row_item(row) for row in lines[2:]]
+    if not lines[0].startswith("- "):
+        return wrapped(" ".join(lines))
+    items = re.split(r"\n- ", "\n" + "\n".join(lines))[1:]
+    return [line for item in items for line in wrapped(" ".join(item.split("\n")), "- ", "  ")]
+
+
+def blocks(lines):
+    """The paragraphs, lists, tables and pieces of code of a part of the page."""
+    found, held, fenced = [], [], False
+    for line in [*lines, ""]:
+        fenced ^= line.startswith("```")
+        if line or fenced:
+            held.append(line)
+        elif held:
+            found.append(held)
+            held = []
+    return found
+
+
+def parts():
+    """The groups of the page: each heading, with its lines and its rules' sections."""
+    groups = []
+    for line in (TOP / PAGE).read_text(encoding="utf-8").split("\n"):
+        if line.startswith("## "):
+            groups.append((line[3:], [], {}))
+            held = groups[-1][1]
+        elif line.startswith("### "):
+            held = groups[-1][2][line[5:-1]] = []
+        elif groups:
+            held.append(line)
+    return groups
+
+
+def facts(line):
+    """The first line of a section: whether the rule is on, its fix, its lock, and the page of the manual."""
+    default, fix, lock, manual = FACTS.fullmatch(line).groups()
+    shown = [("default", default.lower()), ("fix", fix or "none"), ("lock", lock)]
+    if manual:
+        title, address = re.fullmatch(r"\[([^\]]*)\]\((.*)\)", manual).groups()
+        shown += [("manual", f"{title}, {address}")]
+    return [line for key, text in shown for line in wrapped(text, f"  {key + ':':<9}", " " * 11)]
+
+
+def page(name, head, lines):
+    """A rule's page. The first paragraph of its group comes where the section says "as above"."""
+    first, *rest = blocks(lines)
+    told = blocks(head)[:1] if any("[as above]" in line for line in lines) else []
+    shown = [[name], facts(first[0])] + [block(lines) for lines in told + rest]
+    return "\n\n".join("\n".join(lines) for lines in shown) + "\n"
+
+
+def alias_page(lines):
+    """The page of the alias: the paragraph that tells what it is."""
+    told = next(lines for lines in blocks(lines) if lines[0].startswith(f"One rule more, `{ALIAS}`"))
+    return ALIAS + "\n\n" + "\n".join(wrapped(" ".join(told).replace(f"One rule more, `{ALIAS}`, ", "It "))) + "\n"
+
+
+def list_row(row):
+    name, default, fix, lock = (plain(cell) for cell in row.strip("|").split("|"))
+    return f"{name.strip('`'):<46}{default:<9}{fix:<16}{lock}"
+
+
+def all_rules():
+    """The list of all rules: the tables at the head of the page."""
+    shown = [f"{'Rule':<46}{'Default':<9}{'Fix':<16}Lock"]
+    for lines in blocks(parts()[0][1]):
+        if lines[0].startswith("**["):
+            shown += ["", plain(lines[0])]
+        elif lines[0].startswith("| Rule"):
+            shown += [list_row(row) for row in lines[2:]]
+    alias = "of `require-lock-timeout` and `require-statement-timeout`"
+    return "\n".join([*shown, "", f"{ALIAS:<46}{'alias':<9}{alias}"]) + "\n"
+
+
+def constant(name):
+    return name.upper().replace("-", "_")
+
+
+def literal(text):
+    return '"' + text.replace("\\", "\\\\").replace('"', '\\"') + '"'
+
+
+def modules():
+    """The modules of the crate, each with what it is about and its pages by the rules' names."""
+    groups = parts()
+    found = []
+    for title, head, sections in groups:
+        lines = MOST_LINES
+        for name, section in sections.items():
+            text = page(name, head, section)
+            if lines + text.count("\n") > MOST_LINES:
+                module = title.lower().replace(" ", "_") + ("_more" if lines != MOST_LINES else "")
+                found.append((module, f"The rules of the group \"{title}\"", {}))
+                lines = 0
+            found[-1][2][name] = text
+            lines += text.count("\n")
+    return [*found, ("aliases", "The rules that mean others", {ALIAS: alias_page(groups[0][1])})]
+
+
+def declared(head, text):
+    """A constant, as `rt fmt` lays it out."""
+    value = literal(text)
+    fits = len(f"{head} {value}".split("\n")[0]) <= 100
+    return f"{head} {value};" if fits else f"{head}\n    {value};"
+
+
+def module_source(about, pages):
+    shown = [f"//! {about}. {WRITTEN}"]
+    shown += [f"/// `{name}`.\n" + declared(f"pub(crate) const {constant(name)}: &str =", text) for name, text in pages.items()]
+    return "\n\n".join(shown) + "\n"
+
+
+def list_source():
+    told = "/// All rules by group, a line each: whether it is on by default, its fix and its lock."
+    return f"//! All rules. {WRITTEN}\n\n{told}\n" + declared("pub const RULE_LIST: &str =", all_rules()) + "\n"
+
+
+def arm(variant, place):
+    """An arm of the function, as `rt fmt` lays it out."""
+    line = f"        Rule::{variant} => {place},"
+    return line if len(line) <= 100 else f"        Rule::{variant} => {{\n            {place}\n        }}"
+
+
+def function_source(places, names):
+    modules = ", ".join(sorted({module for module, _ in places.values()})) + ","
+    uses = "\n".join(["use crate::{", *textwrap.wrap(modules, 100, initial_indent="    ", subsequent_indent="    "), "};"])
+    arms = "\n".join(arm(variant, "::".join(places[name])) for variant, name in names)
+    return f"""//! The page of a rule. {WRITTEN}
+ghost use Rattle.std.specs.Prelude.{{◌≡◌}};
+ghost use Rattle.rule_pages.specs.Pages.{{page_of}};
+
+{uses}
+use lint_base::Rule;
+
+/// What docs/RULES.md says of a rule: plain text of lines that end with a line feed, of 79 columns but for code and addresses.
+#[tactic(auto, unfolding(crate::specs::Pages::page_of))]
+pub fn rule_page(rule: Rule) -> &'static str
+    ensures {{ result.now ≡ page_of rule }}
+{{
+    match rule {{
+{arms}
+    }}
+}}
+"""
+
+
+def specs_source(places, names):
+    uses = {}
+    for _, name in names:
+        uses.setdefault(places[name][0], []).append(places[name][1])
+    lines = "\n".join(f"use Rattle.rule_pages.specs.declared.{module}.TheConstants.{{{', '.join(found)}}}" for module, found in uses.items())
+    rows = "\n".join(f"page_of rule.{variant} = {places[name][1]}.now" for variant, name in names)
+    return f"""-- The page of each rule. {WRITTEN}
+use Rattle.std.specs.Prelude.{{ℕ, List}}
+use Rattle.lint_base.specs.declared.rule.Rule.{{Rule}}
+use Rattle.lint_base.specs.declared.rule.Rule.TheVariants as rule
+{lines}
+
+-- what docs/RULES.md says of a rule
+unfoldable pub page_of : Rule → List ℕ
+{rows}
+"""
+
+
+def root_source(found):
+    mods = "\n".join(f"mod {module};" for module in sorted([*found, "list", "page"]))
+    return f"""//! What docs/RULES.md says of each rule, as plain text. {WRITTEN}
+#![tactic(auto)]
+
+{mods}
+
+pub use list::RULE_LIST;
+pub use page::rule_page;
+"""
+
+
+def sources():
+    """The files of the crate, by their paths in it."""
+    found = modules()
+    places = {name: (module, constant(name)) for module, _, pages in found for name in pages}
+    names = rules()
+    if set(places) != {name for _, name in names}:
+        sys.exit(f"not the same rules: {set(places) ^ {name for _, name in names}}")
+    files = {f"src/{module}.rt": module_source(about, pages) for module, about, pages in found}
+    files["src/list.rt"] = list_source()
+    files["src/page.rt"] = function_source(places, names)
+    files["src/lib.rt"] = root_source([module for module, _, _ in found])
+    files["specs/Pages.antt"] = specs_source(places, names)
+    files["specs/Lib.antt"] = "pub mod Pages\n"
+    return files
+
+
+def main():
+    asks = argparse.ArgumentParser(description=__doc__, formatter_class=argparse.RawDescriptionHelpFormatter)
+    asks.add_argument("--check", action="store_true")
+    asks.add_argument("--into", type=Path, default=CRATE, help="another folder for the crate")
+    given = asks.parse_args()
+    files = sources()
+    if given.check:
+        there = {str(path.relative_to(CRATE)): path.read_text(encoding="utf-8")
+                 for part in ("src", "specs") for path in (CRATE / part).rglob("*") if path.is_file()}
+        if there != files:
+            sys.exit(f"crates/rule_pages is not what tools/rule_pages.py makes of {PAGE}")
+        return
+    for name, text in files.items():
+        (given.into / name).parent.mkdir(parents=True, exist_ok=True)
+        (given.into / name).write_text(text, encoding="utf-8")
+
+
+if __name__ == "__main__":
+    main()
