@@ -1,0 +1,4 @@
+//! What hazards a text has.
+#![tactic(auto)]
+
+mod look;
