@@ -1,1 +1,2 @@
 pub mod LookLaws
+pub mod WalkLaws

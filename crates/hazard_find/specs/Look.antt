@@ -48,11 +48,11 @@ after_words tree n [] i = Some i
 after_words tree n (word ∷ words) i = option_and_then (after_words tree n words) (after_word tree n word i)
 
 -- the number after these words where they come first, and i itself where they do not
-abbrev pub after_optional : Tree → ℕ → List Keyword → ℕ → ℕ
+unfoldable pub after_optional : Tree → ℕ → List Keyword → ℕ → ℕ
 after_optional tree n words i = unwrap_or (after_words tree n words i) i
 
 -- the tokens from the first number to the last one begin with these words
-abbrev pub begins : Tree → List Keyword → ℕ → ℕ → Bool
+unfoldable pub begins : Tree → List Keyword → ℕ → ℕ → Bool
 begins tree words first last = is_some (after_words tree (last + 1) words first)
 
 -- the statement begins with these words
@@ -73,5 +73,10 @@ abbrev pub path_at : Tree → ℕ → ℕ → Span
 path_at tree n k = record { first = k; last = after_dot tree n (after_dot tree n k) }
 
 -- the path that comes first from number i to before number n
-abbrev pub path_from : Tree → ℕ → ℕ → Option Span
+unfoldable pub path_from : Tree → ℕ → ℕ → Option Span
 path_from tree n i = option_map (path_at tree n) (token_from tree n i)
+
+-- the path that follows these words, which come first in the statement, and then perhaps those
+unfoldable pub path_after : Tree → List Keyword → List Keyword → Stmt → Option Span
+path_after tree words optional s =
+    option_and_then (λ i. path_from tree (s.last + 1) (after_optional tree (s.last + 1) optional i)) (after_words tree (s.last + 1) words s.first)

@@ -33,6 +33,15 @@ pub(crate) fn number(p: &Parse<'_>, i: usize) -> u32
     i as u32
 }
 
+/// The number of the next token.
+pub(crate) fn after(p: &Parse<'_>, i: usize) -> usize
+    requires { i < length p.now.toks }
+    ensures { result ≡ i + 1 }
+{
+    let _tokens = p.tokens();
+    i + 1
+}
+
 /// The key word that a token is.
 fn keyword_at(p: &Parse<'_>, i: usize) -> Option<Keyword>
     requires { i < length p.now.toks }
@@ -60,7 +69,7 @@ fn after_word(p: &Parse<'_>, word: Keyword, next: usize, end: usize) -> Option<u
     ensures { result ≡ spec.after_word p.now end word next }
 {
     match token_from(p, next, end) {
-        Some(i) if is_word_at(p, word, i) => Some(i + 1),
+        Some(i) if is_word_at(p, word, i) => Some(after(p, i)),
         _ => None,
     }
 }
@@ -77,7 +86,7 @@ pub(crate) fn after_words(
     let mut at = next;
     for word in words {
         match after_word(p, *word, at, end) {
-            Some(after) => at = after,
+            Some(next) => at = next,
             None => return None,
         }
     }
@@ -85,6 +94,7 @@ pub(crate) fn after_words(
 }
 
 /// The number after these words, where they come first, or `next` itself.
+#[tactic(auto, unfolding(crate::specs::Look::after_optional))]
 pub(crate) fn after_optional(p: &Parse<'_>, words: &[Keyword], next: usize, end: usize) -> usize
     ensures { result ≡ spec.after_optional p.now end words.now next }
 {
@@ -95,6 +105,7 @@ pub(crate) fn after_optional(p: &Parse<'_>, words: &[Keyword], next: usize, end:
 }
 
 /// Whether the tokens from the first number to the last one begin with these words.
+#[tactic(auto, unfolding(crate::specs::Look::begins))]
 pub(crate) fn begins(p: &Parse<'_>, words: &[Keyword], first: u32, last: u32) -> bool
     ensures { result ≡ spec.begins p.now words.now first last }
 {
@@ -115,7 +126,7 @@ fn name_after_dot(p: &Parse<'_>, dot: usize, end: usize) -> Option<usize>
     ensures within { IfSome result (λ i. i < length p.now.toks) }
 {
     if p.token_text(dot) == "." {
-        token_from(p, dot + 1, end)
+        token_from(p, after(p, dot), end)
     } else {
         None
     }
@@ -127,7 +138,7 @@ fn after_dot(p: &Parse<'_>, i: usize, end: usize) -> usize
     ensures value { result ≡ spec.after_dot p.now end i }
     ensures within { result < length p.now.toks }
 {
-    match token_from(p, i + 1, end) {
+    match token_from(p, after(p, i), end) {
         Some(dot) => match name_after_dot(p, dot, end) {
             Some(name) => name,
             None => i,
@@ -149,11 +160,29 @@ fn path_at(p: &Parse<'_>, i: usize, end: usize) -> Span
 }
 
 /// The path that comes first.
+#[tactic(auto, unfolding(crate::specs::Look::path_from))]
 pub(crate) fn path_from(p: &Parse<'_>, next: usize, end: usize) -> Option<Span>
     ensures { result ≡ spec.path_from p.now end next }
 {
     match token_from(p, next, end) {
         Some(i) => Some(path_at(p, i, end)),
+        None => None,
+    }
+}
+
+/// The path that follows these words, which come first in the statement, and then perhaps those.
+#[tactic(auto, unfolding(crate::specs::Look::path_after))]
+pub(crate) fn path_after(
+    p: &Parse<'_>,
+    words: &[Keyword],
+    optional: &[Keyword],
+    s: &Stmt,
+) -> Option<Span>
+    ensures { result ≡ spec.path_after p.now words.now optional.now s.now }
+{
+    let end = s.last as usize + 1;
+    match after_words(p, words, s.first as usize, end) {
+        Some(next) => path_from(p, after_optional(p, optional, next, end), end),
         None => None,
     }
 }
