@@ -1,2 +1,3 @@
 pub mod LookLaws
+pub mod SilenceLaws
 pub mod WalkLaws

@@ -8,8 +8,11 @@ use Rattle.sql_tree.specs.Statement.{Tree}
 use Rattle.lint_transaction.specs.Earlier.{any_below, since}
 use Rattle.lint_transaction.specs.Transaction.{is_path, same_path, stmt_at}
 use Rattle.lint_transaction.proofs.EarlierLaws.{or_swap, since-suc}
-use Rattle.hazard_find.specs.Earlier.{drops, is_dropped, is_limited, is_made, is_temporary, last_cut, made_view, temporary_by}
+use Rattle.lint_transaction.specs.Created.{IsKnown}
+use Rattle.lint_transaction.specs.SpanSet.{has_span}
+use Rattle.hazard_find.specs.Earlier.{drops, is_dropped, is_limited, is_made, is_temporary, last_cut, lock_timeout, made_view, statement_timeout, temporary_by}
 use Rattle.hazard_find.specs.Timeouts.{changes, limits}
+use Rattle.hazard_find.specs.Walk.{IsKept, Kept}
 
 -- one number more
 any_next : (p : ℕ → Bool) (i : ℕ) (old new : Bool) → old ≡ any_below p i → new ≡ (p i || old) → new ≡ any_below p (i + 1)
@@ -57,3 +60,21 @@ name_more tree name paths i d was old new within o n =
     n ∙ (ap (λ b. own (get_or paths i d) || b) o
     ∙ (swap_first (list_any own (take i paths)) (own (get_or paths i d)) was
     ∙ ap (λ b. b || was) (sym (list_any_more own paths i d within))))
+
+-- what is kept after one more statement
+pub kept_next : (tree : Tree) (assumed : Bool) (i : ℕ) (s : Stmt) (old new : Kept) → s ≡ stmt_at tree i
+    → ((b : Bool) (n : ℕ) → s ≡ stmt_at tree n → IsKnown tree b n old.created → IsKnown tree b (n + 1) new.created)
+    → ((path : List (List ℕ)) → has_span tree new.temporary path ≡ (is_path tree (temporary_by s.body) path || has_span tree old.temporary path))
+    → ((name : List (List ℕ)) → has_span tree new.dropped name ≡ (drops tree name s || has_span tree old.dropped name))
+    → ((path : List (List ℕ)) → has_span tree new.made path ≡ (is_path tree (made_view tree s) path || has_span tree old.made path))
+    → new.lock_limited ≡ (limits tree lock_timeout s || (old.lock_limited && not (changes tree lock_timeout s)))
+    → new.statement_limited ≡ (limits tree statement_timeout s || (old.statement_limited && not (changes tree statement_timeout s)))
+    → IsKept tree assumed i old → IsKept tree assumed (i + 1) new
+kept_next tree assumed i s old new e created temporary dropped made lock statement k = record {
+  created = created assumed i e k.created;
+  temporary = λ path. temporary_next tree i s path (has_span tree old.temporary path) (has_span tree new.temporary path) e (k.temporary path) (temporary path);
+  dropped = λ name. dropped_next tree i s name (has_span tree old.dropped name) (has_span tree new.dropped name) e (k.dropped name) (dropped name);
+  made = λ path. made_next tree i s path (has_span tree old.made path) (has_span tree new.made path) e (k.made path) (made path);
+  lock_limited = limited_next tree i s lock_timeout old.lock_limited new.lock_limited e k.lock_limited lock;
+  statement_limited = limited_next tree i s statement_timeout old.statement_limited new.statement_limited e k.statement_limited statement;
+}

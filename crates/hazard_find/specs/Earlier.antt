@@ -61,9 +61,9 @@ drops tree name s = list_any (λ path. same_path name (last_cut tree path.last))
 abbrev pub is_dropped : Tree → List (List ℕ) → ℕ → Bool
 is_dropped tree name i = any_below (λ j. drops tree name (stmt_at tree j)) i
 
-unfoldable pub is_dropped_index : Tree → ℕ → Option ℕ → Bool
+unfoldable pub is_dropped_index : Tree → ℕ → Option Span → Bool
 is_dropped_index tree i None = false
-is_dropped_index tree i (Some number) = is_dropped tree (last_cut tree number) i
+is_dropped_index tree i (Some name) = is_dropped tree (path_cuts tree.text tree.toks name) i
 
 -- ---- materialized views
 

@@ -1,5 +1,5 @@
 -- What is known of a statement by the settings and by the statements before it.
-use Rattle.std.specs.Prelude.{ℕ, pos, Bool, not, nat_lt, length, slice_index_or, Option, None, if◌then◌else◌}
+use Rattle.std.specs.Prelude.{ℕ, pos, Bool, not, nat_lt, length, slice_index_or, Option, Some, None, if◌then◌else◌}
 use Rattle.std.specs.Int.Signed.{le_z}
 use Rattle.sql_token.specs.declared.token.Span.{Span}
 use Rattle.sql_tree.specs.declared.nodes.Body.{Body}
@@ -20,12 +20,16 @@ table_by s _ = altered_path s
 unfoldable pub table_of : Stmt → Option Span
 table_of s = table_by s s.body
 
-abbrev pub index_by : Body → Option ℕ
-index_by (body.Index word unique concurrently guarded name path) = name
+abbrev pub one_name : Option ℕ → Option Span
+one_name None = None
+one_name (Some number) = Some (record { first = number; last = number })
+
+abbrev pub index_by : Body → Option Span
+index_by (body.Index word unique concurrently guarded name path) = one_name name
 index_by _ = None
 
 -- the index that a CREATE INDEX names
-unfoldable pub index_of : Stmt → Option ℕ
+unfoldable pub index_of : Stmt → Option Span
 index_of s = index_by s.body
 
 -- PostgreSQL has REPACK from version 19 on, and then the rule prefer-repack speaks.

@@ -51,10 +51,13 @@ refused_end tree s plain =
 unfoldable pub moves : Tree → Action → Bool
 moves tree a = begins tree (keyword.SET ∷ keyword.TABLESPACE ∷ []) a.first a.last
 
+unfoldable pub any_moves : Tree → List Action → Bool
+any_moves tree actions = list_any (moves tree) actions
+
 unfoldable pub refused_alter : Tree → StmtKind → List Action → Option (List ℕ)
 refused_alter tree kind actions =
     if same_kind kind stmt.AlterSystem then Some (codes "`alter system` always fails inside a transaction")
-    else (if same_kind kind stmt.AlterDatabase && list_any (moves tree) actions then Some (codes "`alter database set tablespace` always fails inside a transaction")
+    else (if same_kind kind stmt.AlterDatabase && any_moves tree actions then Some (codes "`alter database set tablespace` always fails inside a transaction")
     else None)
 
 unfoldable pub refused_kind : StmtKind → Option (List ℕ)

@@ -56,7 +56,7 @@ other_rewrites tree a =
     else (if sets_access_method tree a then Some (codes "`set access method` rewrites the whole table while nobody can read or write it")
     else None)))
 
-abbrev pub sets_expression : List Piece → Bool
+unfoldable pub sets_expression : List Piece → Bool
 sets_expression pieces = list_any (λ p. same_piece p.kind piece.SetExpression) pieces
 
 abbrev pub column_rewrites : List Piece → Option (List ℕ)

@@ -124,6 +124,33 @@ fn insert_names(set: &mut SpanSet, p: &Parse<'_>, paths: &[Span]) -> Result<(), 
     Ok(())
 }
 
+fn insert_temporary(set: &mut SpanSet, p: &Parse<'_>, s: &Stmt) -> Result<(), NoMemory>
+    requires { set.old.key ≡ by.Path }
+    ensures key { set.new.key ≡ by.Path }
+    ensures ok { OnOk result ((names : List (List ℕ)) → has_span p.now set.new names
+        ≡ (is_path p.now (spec.temporary_by s.now.body) names || has_span p.now set.old names)) }
+{
+    insert_path(set, p, temporary_table(s))
+}
+
+fn insert_dropped(set: &mut SpanSet, p: &Parse<'_>, s: &Stmt) -> Result<(), NoMemory>
+    requires { set.old.key ≡ by.Path }
+    ensures key { set.new.key ≡ by.Path }
+    ensures ok { OnOk result ((names : List (List ℕ)) → has_span p.now set.new names
+        ≡ (drops p.now names s.now || has_span p.now set.old names)) }
+{
+    insert_names(set, p, dropped_indexes(s))
+}
+
+fn insert_made(set: &mut SpanSet, p: &Parse<'_>, s: &Stmt) -> Result<(), NoMemory>
+    requires { set.old.key ≡ by.Path }
+    ensures key { set.new.key ≡ by.Path }
+    ensures ok { OnOk result ((names : List (List ℕ)) → has_span p.now set.new names
+        ≡ (is_path p.now (spec.made_view p.now s.now) names || has_span p.now set.old names)) }
+{
+    insert_path(set, p, made_view(p, s))
+}
+
 /// What earlier statements say. It holds no text.
 #[derive(Drop)]
 pub(crate) struct Earlier {
@@ -182,11 +209,11 @@ impl Earlier {
 
     /// Whether an index of this name was dropped, if it was there.
     #[tactic(auto, unfolding(crate::specs::Earlier::is_dropped_index))]
-    pub fn is_dropped_index(&self, p: &Parse<'_>, name: Option<u32>) -> bool
+    pub fn is_dropped_index(&self, p: &Parse<'_>, name: Option<Span>) -> bool
         ensures { (assumed : Bool) (i : ℕ) → IsKept p.now assumed i self.now → result ≡ is_dropped_index p.now i name }
     {
         match name {
-            Some(number) => self.dropped.contains(p, one_name(number)),
+            Some(name) => self.dropped.contains(p, name),
             None => false,
         }
     }
@@ -216,9 +243,9 @@ impl Earlier {
             → IsKept p.now assumed i self.old → IsKept p.now assumed (i + 1) self.new) }
     {
         self.created.update(p, s)?;
-        insert_path(&mut self.temporary, p, temporary_table(s))?;
-        insert_names(&mut self.dropped, p, dropped_indexes(s))?;
-        insert_path(&mut self.made, p, made_view(p, s))?;
+        insert_temporary(&mut self.temporary, p, s)?;
+        insert_dropped(&mut self.dropped, p, s)?;
+        insert_made(&mut self.made, p, s)?;
         self.lock_limited = is_set_after(p, LOCK_TIMEOUT, s, self.lock_limited);
         self.statement_limited = is_set_after(p, STATEMENT_TIMEOUT, s, self.statement_limited);
         Ok(())

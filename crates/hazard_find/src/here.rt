@@ -53,13 +53,26 @@ fn table_of(s: &Stmt) -> Option<Span>
     }
 }
 
+/// A name, as a path of its own.
+fn one_name(number: Option<u32>) -> Option<Span>
+    ensures { result ≡ spec.one_name number }
+{
+    match number {
+        Some(number) => Some(Span {
+            first: number,
+            last: number,
+        }),
+        None => None,
+    }
+}
+
 /// The index that a CREATE INDEX names.
 #[tactic(auto, unfolding(crate::specs::Here::index_of))]
-fn index_of(s: &Stmt) -> Option<u32>
+fn index_of(s: &Stmt) -> Option<Span>
     ensures { result ≡ spec.index_of s.now }
 {
     match s.body {
-        Body::Index { name, .. } => name,
+        Body::Index { name, .. } => one_name(name),
         _ => None,
     }
 }

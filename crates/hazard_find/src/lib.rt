@@ -10,6 +10,7 @@ mod columns;
 mod earlier;
 mod finding;
 mod here;
+pub mod laws;
 mod look;
 mod refused;
 mod rewrites;

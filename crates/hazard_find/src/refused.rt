@@ -108,13 +108,20 @@ pub(crate) fn moves(p: &Parse<'_>, a: &Action) -> bool
     begins(p, &[Keyword::SET, Keyword::TABLESPACE], a.first, a.last)
 }
 
+#[tactic(auto, unfolding(crate::specs::Refused::any_moves))]
+fn any_moves(p: &Parse<'_>, actions: &[Action]) -> bool
+    ensures { result ≡ spec.any_moves p.now actions.now }
+{
+    actions.iter().any(|a| moves(p, a))
+}
+
 #[tactic(auto, unfolding(crate::specs::Refused::refused_alter))]
 fn refused_alter(p: &Parse<'_>, kind: StmtKind, actions: &[Action]) -> Option<Text>
     ensures { result ≡ spec.refused_alter p.now kind actions.now }
 {
     if same_kind(kind, StmtKind::AlterSystem) {
         Some(Text::plain(ALTER_SYSTEM))
-    } else if same_kind(kind, StmtKind::AlterDatabase) && actions.iter().any(|a| moves(p, a)) {
+    } else if same_kind(kind, StmtKind::AlterDatabase) && any_moves(p, actions) {
         Some(Text::plain(ALTER_DATABASE_SET_TABLESPACE))
     } else {
         None

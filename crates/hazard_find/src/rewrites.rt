@@ -93,13 +93,19 @@ fn other_rewrites(p: &Parse<'_>, a: &Action) -> Option<Text>
     }
 }
 
+#[tactic(auto, unfolding(crate::specs::Rewrites::sets_expression))]
+fn sets_expression(pieces: &[Piece]) -> bool
+    ensures { result ≡ spec.sets_expression pieces.now }
+{
+    pieces
+        .iter()
+        .any(|p| same_piece(p.kind, PieceKind::SetExpression))
+}
+
 fn column_rewrites(pieces: &[Piece]) -> Option<Text>
     ensures { result ≡ spec.column_rewrites pieces.now }
 {
-    if pieces
-        .iter()
-        .any(|p| same_piece(p.kind, PieceKind::SetExpression))
-    {
+    if sets_expression(pieces) {
         Some(Text::plain(SET_EXPRESSION))
     } else {
         None

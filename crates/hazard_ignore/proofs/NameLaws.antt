@@ -25,6 +25,7 @@ same_names : (a b : List ℕ) → unknown_message a ≡ unknown_message b → a 
 same_names a b e = (same_from_push a b 96 96 (ap (drop 14) e)).0
 
 told : (name : List ℕ) (h : Hazard) → is_unknown (unknown_message name) h ≡ is_named name h
+unfolding is_unknown
 told name h =
     both_ways (is_unknown (unknown_message name) h) (is_named name h)
     (λ e. (bytes_eq-Decides (name_of h) name).1 (sym (same_names name (name_of h) ((bytes_eq-Decides (unknown_message name) (unknown_message (name_of h))).0 e))))
@@ -35,5 +36,5 @@ unfolding hazard_of hazard_named same_rule
 unknown_names_are_told name range = find_same (is_unknown (unknown_message name)) (is_named name) all_hazards (told name)
 
 pub unused_names_stay : UnusedNamesStay
-unfolding hazard_of all_hazards name_of same_rule
+unfolding hazard_of all_hazards is_unknown name_of same_rule
 unused_names_stay text piece = refl

@@ -1,5 +1,5 @@
 -- Which findings the ignore comments of a text cover, and which names of hazards in them cover nothing.
-use Rattle.std.specs.Prelude.{◌≡◌, ℕ, ◌+◌, Bool, true, ◌==◌, ◌&&◌, ◌||◌, not, nat_le, List, [], ◌∷◌, filter, Option, Some, None, if◌then◌else◌}
+use Rattle.std.specs.Prelude.{◌≡◌, ℕ, ◌+◌, Bool, true, ◌==◌, ◌&&◌, ◌||◌, not, nat_le, List, [], ◌∷◌, Option, Some, None, if◌then◌else◌}
 use Rattle.std.specs.List.{flat_map, list_any}
 use Rattle.sql_token.specs.Token.{Text}
 use Rattle.sql_tree.specs.Statement.{Tree}
@@ -66,10 +66,6 @@ is_bare tree = list_any is_bare_file (found_in tree).ignores
 -- A bare file ignore covers each finding, and else a name does.
 abbrev pub is_covered : Tree → Finding → Bool
 is_covered tree f = is_bare tree || list_any (covers (line_of tree.text f.range.start) f.hazard) (named tree)
-
--- the findings that no comment covers
-abbrev pub uncovered : Tree → List Finding → List Finding
-uncovered tree found = filter (λ f. not (is_covered tree f)) found
 
 -- ---- names that cover nothing
 

@@ -8,7 +8,7 @@ use Rattle.hazard_base.specs.declared.hazard.Hazard.{Hazard}
 use Rattle.hazard_base.specs.Hazards.{all_hazards, name_of}
 
 -- the message is that this hazard's name is unknown
-abbrev pub is_unknown : List ℕ → Hazard → Bool
+unfoldable pub is_unknown : List ℕ → Hazard → Bool
 is_unknown message h = bytes_eq message (unknown_message (name_of h))
 
 -- the hazard whose name a report calls unknown

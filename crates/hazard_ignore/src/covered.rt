@@ -10,7 +10,7 @@ ghost use Rattle.lint_ignore.specs.Index.{is_bare_file};
 ghost use Rattle.lint_ignore.specs.Unused.{unused_message};
 ghost use Rattle.hazard_base.specs.Hazards.{name_of};
 ghost use Rattle.hazard_ignore.specs.Covered as spec;
-ghost use Rattle.hazard_ignore.specs.Covered.{AreIgnoresOf, covers, is_covered, uncovered, unused_names};
+ghost use Rattle.hazard_ignore.specs.Covered.{AreIgnoresOf, covers, is_covered, unused_names};
 
 use crate::hazard_names::hazard_of;
 use hazard_base::{Finding, Hazard, HazardSet};
@@ -163,19 +163,6 @@ impl HazardIgnores {
         ensures { (tree : Tree) → AreIgnoresOf self.now tree → result ≡ is_covered tree f.now }
     {
         self.is_bare || is_named(self.names.as_slice(), line(&self.lines, f), f.hazard)
-    }
-
-    /// The findings that no comment covers, in their order. The error comes when memory runs out.
-    pub fn uncovered(&self, alloc: Global, found: Vec<Finding>) -> Result<Vec<Finding>, NoMemory>
-        ensures { IfOk result (λ left. (tree : Tree) → AreIgnoresOf self.now tree → left.items ≡ uncovered tree found.items) }
-    {
-        let mut left = Vec::new(alloc);
-        for f in found {
-            if !self.covers(&f) {
-                left.push(f)?;
-            }
-        }
-        Ok(left)
     }
 
     /// The reports of the names of enabled hazards that cover none of the findings of a text, in their order, under the rule on ignore

@@ -27,12 +27,20 @@ fn unknown_message(hazard: Hazard) -> &'static str
     }
 }
 
+// Whether a message calls the name of a hazard unknown.
+#[tactic(auto, unfolding(crate::specs::HazardNames::is_unknown))]
+fn calls_unknown(message: &str, hazard: Hazard) -> bool
+    ensures { result ≡ is_unknown message.now hazard }
+{
+    message == unknown_message(hazard)
+}
+
 // The first hazard of a list whose name a message calls unknown.
 fn first_unknown(message: &str, hazards: &[Hazard]) -> Option<Hazard>
     ensures { result ≡ find (is_unknown message.now) hazards.now }
 {
     for hazard in hazards {
-        if message == unknown_message(*hazard) {
+        if calls_unknown(message, *hazard) {
             return Some(*hazard);
         }
     }
