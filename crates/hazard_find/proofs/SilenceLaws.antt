@@ -125,17 +125,17 @@ record Five {X : Type 0} (p : X → Bool) (a b c d e : List X) : Type 0 where
   fourth : list_any p d ≡ false
   fifth : list_any p e ≡ false
 
-five : {X : Type 0} (p : X → Bool) (a b c d e : List X) → list_any p (a ++ (b ++ (c ++ (d ++ e)))) ≡ false → Five p a b c d e
+five : {X : Type 0} (p : X → Bool) (a b c d e : List X) → list_any p (a ++ b ++ c ++ d ++ e) ≡ false → Five p a b c d e
 five p a b c d e h =
-    let h1 = rest p a (b ++ (c ++ (d ++ e))) h in
-    let h2 = rest p b (c ++ (d ++ e)) h1 in
-    let h3 = rest p c (d ++ e) h2 in
+    let abcd = front p (a ++ b ++ c ++ d) e h in
+    let abc = front p (a ++ b ++ c) d abcd in
+    let ab = front p (a ++ b) c abc in
     record {
-      first = front p a (b ++ (c ++ (d ++ e))) h;
-      second = front p b (c ++ (d ++ e)) h1;
-      third = front p c (d ++ e) h2;
-      fourth = front p d e h3;
-      fifth = rest p d e h3;
+      first = front p a b ab;
+      second = rest p a b ab;
+      third = rest p (a ++ b) c abc;
+      fourth = rest p (a ++ b ++ c) d abcd;
+      fifth = rest p (a ++ b ++ c ++ d) e h;
     }
 
 module _ (h : Hazard) (enabled : HazardSet) (known : Here) (tree : Tree) (s : Stmt) where
