@@ -1,0 +1,10 @@
+pub mod Columns
+pub mod Earlier
+pub mod Findings
+pub mod Here
+pub mod Laws
+pub mod Look
+pub mod Refused
+pub mod Rewrites
+pub mod Timeouts
+pub mod Walk

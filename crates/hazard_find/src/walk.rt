@@ -1,0 +1,165 @@
+//! What is found in a text.
+
+ghost use Rattle.std.specs.Prelude.{◌≡◌, ◌++◌, ◌+◌, ℕ, IfOk, OnOk};
+ghost use Rattle.std.specs.List.{flat_map};
+ghost use Rattle.lint_node.specs.Parts.{table_actions};
+ghost use Rattle.lint_transaction.specs.Transaction.{stmt_at};
+ghost use Rattle.hazard_find.specs.Earlier.{is_assumed};
+ghost use Rattle.hazard_find.specs.Findings as spec;
+ghost use Rattle.hazard_find.specs.Findings.{enabled_of, findings_of};
+ghost use Rattle.hazard_find.specs.Walk.{IsKept};
+
+use crate::earlier::Earlier;
+use crate::finding::{
+    action_rewrite_finding, check_finding, detach_finding, json_finding, kept_finding,
+    refresh_finding, refused_finding, rewrite_finding, serial_finding, timeout_finding,
+};
+use crate::here::{Here, is_assumed, known_at};
+use hazard_base::{Finding, HazardSet};
+use lint_base::LinterSettings;
+use lint_node::{new_constraints, table_actions};
+use sql_tree::{Action, Constraint, Parse, Stmt};
+use std::alloc::Global;
+use text_pos::NoMemory;
+
+/// Adds what was found, where there is anything and its hazard is enabled.
+fn push(
+    list: &mut Vec<Finding>,
+    enabled: &HazardSet,
+    found: Option<Finding>,
+) -> Result<(), NoMemory>
+    ensures { OnOk result (list.new.items ≡ list.old.items ++ enabled_of enabled.now found) }
+{
+    if let Some(finding) = found {
+        if enabled.contains(finding.hazard) {
+            list.push(finding)?;
+        }
+    }
+    Ok(())
+}
+
+/// Adds what is found of the constraints of a new column.
+#[tactic(auto, unfolding(crate::specs::Findings::check_findings))]
+fn push_checks(
+    list: &mut Vec<Finding>,
+    enabled: &HazardSet,
+    here: Here,
+    p: &Parse<'_>,
+    constraints: &[Constraint],
+) -> Result<(), NoMemory>
+    ensures { OnOk result (list.new.items ≡ list.old.items ++ spec.check_findings enabled.now here p.now constraints.now) }
+{
+    for c in constraints {
+        push(list, enabled, check_finding(here, p, c))?;
+    }
+    Ok(())
+}
+
+/// Adds what is found of an action.
+#[tactic(auto, unfolding(crate::specs::Findings::action_findings))]
+fn push_action(
+    list: &mut Vec<Finding>,
+    enabled: &HazardSet,
+    here: Here,
+    p: &Parse<'_>,
+    a: &Action,
+) -> Result<(), NoMemory>
+    ensures { OnOk result (list.new.items ≡ list.old.items ++ spec.action_findings enabled.now here p.now a.now) }
+{
+    push(list, enabled, detach_finding(here, p, a))?;
+    push(list, enabled, action_rewrite_finding(here, p, a))?;
+    push(list, enabled, serial_finding(here, p, a))?;
+    push(list, enabled, json_finding(here, p, a))?;
+    push_checks(list, enabled, here, p, new_constraints(a))
+}
+
+/// Adds what is found of the actions of an ALTER TABLE.
+fn push_actions(
+    list: &mut Vec<Finding>,
+    enabled: &HazardSet,
+    here: Here,
+    p: &Parse<'_>,
+    actions: &[Action],
+) -> Result<(), NoMemory>
+    ensures { OnOk result (list.new.items ≡ list.old.items ++ flat_map (spec.action_findings enabled.now here p.now) actions.now) }
+{
+    for a in actions {
+        push_action(list, enabled, here, p, a)?;
+    }
+    Ok(())
+}
+
+/// Adds what is found of a statement as a whole.
+#[tactic(auto, unfolding(crate::specs::Findings::statement_findings))]
+fn push_statement(
+    list: &mut Vec<Finding>,
+    enabled: &HazardSet,
+    here: Here,
+    p: &Parse<'_>,
+    s: &Stmt,
+) -> Result<(), NoMemory>
+    ensures { OnOk result (list.new.items ≡ list.old.items ++ spec.statement_findings enabled.now here p.now s.now) }
+{
+    push(list, enabled, refused_finding(here, p, s))?;
+    push(list, enabled, rewrite_finding(here, p, s))?;
+    push(list, enabled, timeout_finding(here, p, s))?;
+    push(list, enabled, kept_finding(here, p, s))?;
+    push(list, enabled, refresh_finding(here, p, s))
+}
+
+/// Adds what is found of a statement, by what is known of it.
+#[tactic(auto, unfolding(crate::specs::Findings::findings_by))]
+fn push_findings(
+    list: &mut Vec<Finding>,
+    enabled: &HazardSet,
+    here: Here,
+    p: &Parse<'_>,
+    s: &Stmt,
+) -> Result<(), NoMemory>
+    ensures { OnOk result (list.new.items ≡ list.old.items ++ spec.findings_by enabled.now p.now here s.now) }
+{
+    push_statement(list, enabled, here, p, s)?;
+    push_actions(list, enabled, here, p, table_actions(s))
+}
+
+/// Adds what is found of statement `i`, and goes past it.
+fn step(
+    list: &mut Vec<Finding>,
+    earlier: &mut Earlier,
+    enabled: &HazardSet,
+    p: &Parse<'_>,
+    set: &LinterSettings,
+    i: usize,
+    s: &Stmt,
+) -> Result<(), NoMemory>
+    requires { s.now ≡ stmt_at p.now i }
+    ensures kept { OnOk result (IsKept p.now (is_assumed set.now p.now) i earlier.old
+        → IsKept p.now (is_assumed set.now p.now) (i + 1) earlier.new) }
+    ensures found { OnOk result (IsKept p.now (is_assumed set.now p.now) i earlier.old
+        → list.new.items ≡ list.old.items ++ spec.findings_at enabled.now set.now p.now i) }
+{
+    push_findings(list, enabled, known_at(earlier, p, set, i, s), p, s)?;
+    earlier.update(p, s)
+}
+
+/// The hazards of a text that are enabled, statement by statement; of one statement first those of the whole of it, then those
+/// of its actions.
+///
+/// A transaction is open at the start where the settings assume one, unless a comment of the text says that none is to be assumed.
+/// Ignore comments cover nothing here. The error comes when memory runs out, and no other way.
+pub fn find(
+    alloc: Global,
+    file: &Parse<'_>,
+    set: &LinterSettings,
+    enabled: &HazardSet,
+) -> Result<Vec<Finding>, NoMemory>
+    ensures { IfOk result (λ list. list.items ≡ findings_of enabled.now set.now file.now) }
+{
+    let stmts = file.tree().stmts.as_slice();
+    let mut earlier = Earlier::new(alloc, is_assumed(file, set));
+    let mut list = Vec::new(alloc);
+    for i in 0..stmts.len() {
+        step(&mut list, &mut earlier, enabled, file, set, i, &stmts[i])?;
+    }
+    Ok(list)
+}

@@ -1,0 +1,8 @@
+use Rattle.std.proofs.Common.{◌≡◌, false, ℕ, List, take}
+use Rattle.text_pos.specs.Line.{line_feeds}
+use Rattle.hazard_ignore.specs.Covered.{is_used}
+use Rattle.hazard_ignore.proofs.covered.is_used.Given as goal
+
+-- none of the findings so far
+abbrev pub invariant-loop-f : goal.invariant-loop-f
+invariant-loop-f l = (text : List ℕ) → l.lines ≡ line_feeds text → is_used text (take l.f-index l.found) l.n ≡ false

@@ -1,0 +1,3 @@
+pub mod Covered
+pub mod HazardNames
+pub mod Laws

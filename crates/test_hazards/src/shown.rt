@@ -1,0 +1,58 @@
+//! What is found in a text, as one line.
+
+use hazard_base::{Finding, HazardSet};
+use hazard_find::find;
+use lint_base::{LinterSettings, Names};
+use sql_read::parse;
+use std::alloc::Global;
+use std::process::Abort;
+use std::test::Fail;
+
+/// The settings of a run that are of matter here.
+pub(crate) fn settings(alloc: Global, assume_in_transaction: bool, major: i32) -> LinterSettings {
+    LinterSettings {
+        pg_version: [major, 0, 0],
+        assume_in_transaction,
+        non_volatile: Names::new(alloc),
+    }
+}
+
+/// The range and the name of each finding.
+fn shown(alloc: Global, findings: &[Finding]) -> Result<String, Fail> {
+    let mut line = String::new(alloc);
+    for f in findings {
+        if !line.is_empty() {
+            line.push_str("; ")?;
+        }
+        let start = f.range.start().raw();
+        let end = f.range.end().raw();
+        line.push_str(format!(in alloc; "{start}..{end} {}", f.hazard)?.as_str())?;
+    }
+    Ok(line)
+}
+
+/// Whether this is found in a text.
+pub(crate) fn is_found(
+    rt: &impl Abort,
+    alloc: Global,
+    set: &LinterSettings,
+    enabled: &HazardSet,
+    text: &str,
+    want: &str,
+) -> Result<(), Fail> {
+    let file = parse(alloc, text)?;
+    let findings = find(alloc, &file, set, enabled)?;
+    let line = shown(alloc, findings.as_slice())?;
+    assert_eq!(rt; line.as_str(), want, "at {text:?}");
+    Ok(())
+}
+
+/// Whether each row is found, with all hazards, by a version below 19 and outside of a transaction.
+pub(crate) fn are_found(rt: &impl Abort, alloc: Global, rows: &[(&str, &str)]) -> Result<(), Fail> {
+    let set = settings(alloc, false, 15);
+    let all = HazardSet::all_default();
+    for (text, want) in rows {
+        is_found(rt, alloc, &set, &all, text, want)?;
+    }
+    Ok(())
+}
