@@ -1,5 +1,5 @@
 -- Comments that tell the linter to leave a report.
-use Rattle.std.specs.Prelude.{ℕ, Bool, false, ◌&&◌, ◌||◌, ◌==◌, nat_le, nat_lt, List, [], ◌∷◌, ◌++◌, Option, Some, None, codes, if◌then◌else◌}
+use Rattle.std.specs.Prelude.{ℕ, Bool, true, false, not, ◌&&◌, nat_le, nat_lt, List, [], ◌∷◌, ◌++◌, Option, Some, None, codes, if◌then◌else◌}
 use Rattle.std.specs.List.{list_any}
 use Rattle.lint_base.specs.declared.rule.Rule.{Rule}
 use Rattle.lint_base.specs.declared.rule.Rule.TheVariants.{UnusedIgnore}
@@ -26,7 +26,11 @@ remedy rule line = record {
   changes = record { start = record { line = line; col = 0 }; end = record { line = line; col = 0 }; text = Some (comment rule) } ∷ [];
 }
 
+-- a comment can name the rule
+abbrev pub is_named : Rule → Bool
+is_named UnusedIgnore = false
+is_named rule = true
+
 -- none where the line begins inside of one of these tokens, and none for the one rule that no comment names
 abbrev pub ignore_if : List Lines → Rule → ℕ → Option RemedyValue
-ignore_if tokens UnusedIgnore line = None
-ignore_if tokens rule line = if list_any (goes_over line) tokens then None else Some (remedy rule line)
+ignore_if tokens rule line = if is_named rule && not (list_any (goes_over line) tokens) then Some (remedy rule line) else None

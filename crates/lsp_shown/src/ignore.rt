@@ -32,6 +32,13 @@ fn is_inside(tokens: &[Lines], line: u32) -> bool
     tokens.iter().any(|lines| goes_over(lines, line))
 }
 
+// Whether a comment can name the rule.
+fn is_named(rule: Rule) -> bool
+    ensures { result ≡ spec.is_named rule }
+{
+    !matches!(rule, Rule::UnusedIgnore)
+}
+
 // The comment, on a line of its own.
 fn comment(alloc: Global, rule: Rule) -> Result<String, AllocError>
     ensures { IfOk result (λ s. string_bytes s ≡ spec.comment rule) }
@@ -80,8 +87,9 @@ pub(crate) fn ignore_if(
 ) -> Result<Option<Remedy>, NoMemory>
     ensures { IfOk result (λ made. made ≡ spec.ignore_if tokens.now rule line) }
 {
-    if rule == Rule::UnusedIgnore || is_inside(tokens, line) {
-        return Ok(None);
+    if is_named(rule) && !is_inside(tokens, line) {
+        Ok(Some(remedy(alloc, rule, line)?))
+    } else {
+        Ok(None)
     }
-    Ok(Some(remedy(alloc, rule, line)?))
 }
