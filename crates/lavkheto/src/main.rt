@@ -52,7 +52,8 @@ fn main(rt: HostRuntime) -> ExitCode {
     let code = match take_words(&rt, &mut words) {
         Ok(()) => run_words(&rt, &words),
         Err(stop) => {
-            say_stop(&mut StdSink::new(rt.stderr()), stop);
+            let mut err = StdSink::new(rt.stderr());
+            say_stop(&mut err, stop);
             stop.code()
         }
     };

@@ -58,11 +58,13 @@ fn serve_all<C: Checker, S: Source, K: Sink>(
         result }
 {
     'serving: for _turn in 0..u64::MAX {
-        if let Err(end) = take_turn(alloc, session, frames, source, out) {
-            return end;
+        match take_turn(alloc, session, frames, source, out) {
+            Ok(()) => {}
+            Err(end) => return end,
         }
-        if let Some(end) = exit_at(session.stage()) {
-            return end;
+        match exit_at(session.stage()) {
+            None => {}
+            Some(end) => return end,
         }
     }
     End::NoMemory

@@ -13,26 +13,28 @@ use lint_base::Violation;
 use lsp_report::Report;
 use lsp_shown::{long_tokens, refused_at, shown};
 use sql_read::{LintError, parse};
+use sql_token::Tok;
 use sql_tree::Parse;
 use squawk_linter::Linter;
 use std::alloc::Global;
 use text_pos::{NoMemory, TextSize};
 use text_utf16::{Pos, PosIndex};
 
-// Reports of a text that has a tree, at positions.
+// Reports of a text with these tokens, at positions.
 fn shown_of(
     alloc: Global,
-    file: &Parse<'_>,
+    text: &str,
+    tokens: &[Tok],
     reports: Vec<Violation>,
 ) -> Result<Vec<Report>, NoMemory>
-    requires short { length file.now.text < 2 ^ 32 }
-    requires tokens { All (TokenIn file.now.text) file.now.toks }
-    requires reports { All (ReportIn file.now.text) reports.items }
-    ensures { IfOk result (λ found. found.items ≡ shown file.now.text (long_tokens file.now.text file.now.toks) reports.items) }
+    requires short { length text.now < 2 ^ 32 }
+    requires tokens { All (TokenIn text.now) tokens.now }
+    requires reports { All (ReportIn text.now) reports.items }
+    ensures { IfOk result (λ found. found.items ≡ shown text.now (long_tokens text.now tokens.now) reports.items) }
 {
-    let index = PosIndex::new(alloc, file.text())?;
-    let tokens = long_tokens(alloc, &index, file.tokens())?;
-    shown(alloc, &index, tokens.as_slice(), reports)
+    let index = PosIndex::new(alloc, text)?;
+    let long = long_tokens(alloc, &index, tokens)?;
+    shown(alloc, &index, long.as_slice(), reports)
 }
 
 // The reports of a text that has a tree. The flag of the linter may be cleared.
@@ -41,8 +43,10 @@ fn lint_tree(alloc: Global, linter: &mut Linter, file: &Parse<'_>) -> Result<Vec
     ensures rules { linter.new.rules ≡ linter.old.rules }
     ensures settings { SameButFlag linter.old.settings linter.new.settings }
 {
+    let text = file.text();
+    let tokens = file.tokens();
     let reports = linter.lint(alloc, file)?;
-    shown_of(alloc, file, reports)
+    shown_of(alloc, text, tokens, reports)
 }
 
 // The position of a place of a text.
