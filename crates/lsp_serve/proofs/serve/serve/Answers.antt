@@ -15,4 +15,5 @@ returns-in-Ok g c =
     (subst (λ k. Served (g.C.Checker.shows k) (coming c.in-Ok.frames left) old new c.serve_all.result) c.new-session.ensures.checker c.serve_all.ensures)
 
 pub returns-in-Err : goal.returns-in-Err
-returns-in-Err g c = nothing_done (g.C.Checker.shows c.args.checker) _ _
+returns-in-Err g c = nothing_done (g.C.Checker.shows c.args.checker) (g.S.Source.left c.args.source.now)
+    (record { read_faults = g.S.Source.faults c.args.source.now; held = g.K.Sink.held c.args.out.now; write_faults = g.K.Sink.faults c.args.out.now })
