@@ -1,2 +1,3 @@
 mod Placing
 mod Settings
+mod Linted

@@ -1,5 +1,5 @@
 -- Tokens, reports and faults are at places of their text.
-use Rattle.std.proofs.Common.{ℕ, List, Option, None, Some, IfSome, All}
+use Rattle.std.proofs.Common.{◌≡◌, ℕ, List, Option, None, Some, IfSome, All, subst, sym}
 use Rattle.std.proofs.lemmas.List.Elements.{All-weaker}
 use Rattle.std.specs.Str.{IsCharBoundary, IsUtf8}
 use Rattle.diag_report.specs.Places.{EditIn, EditsIn, RangeIn, ReportIn}
@@ -22,6 +22,12 @@ use Rattle.text_pos.specs.Range.{Range}
 pub tokens_in : (t : Text) (toks : List Tok) → IsUtf8 t → Lexed t toks → All (TokenIn t) toks
 tokens_in t toks u lexed = λ i d below. let between = token_between t toks i d u lexed below in record { start = between.0; end = between.1 }
 
+-- the same of a text and of tokens that are those of a tree
+pub tokens_of : (t text : Text) (toks tokens : List Tok) → text ≡ t → tokens ≡ toks → IsUtf8 text → Lexed t toks → All (TokenIn text) tokens
+tokens_of t text toks tokens e f u lexed =
+    let all = tokens_in t toks (subst IsUtf8 e u) lexed in
+    subst (λ (x : Text). All (TokenIn x) tokens) (sym e) (subst (λ (ks : List Tok). All (TokenIn t) ks) (sym f) all)
+
 -- ---- reports
 
 range_in : (t : Text) (range : Range) → IsPlace t range → RangeIn t range
@@ -36,6 +42,9 @@ report_in t v placed = record { range = range_in t v.text_range placed.range; fi
 
 pub reports_in : (t : Text) (reports : List Violation) → All (IsPlaced t) reports → All (ReportIn t) reports
 reports_in t reports placed = All-weaker (IsPlaced t) (ReportIn t) (report_in t) reports placed
+
+pub reports_of : (t text : Text) (reports : List Violation) → text ≡ t → All (IsPlaced t) reports → All (ReportIn text) reports
+reports_of t text reports e placed = subst (λ (x : Text). All (ReportIn x) reports) (sym e) (reports_in t reports placed)
 
 -- ---- faults
 

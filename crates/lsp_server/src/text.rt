@@ -38,6 +38,7 @@ fn shown_of(
 }
 
 // The reports of a text that has a tree. The flag of the linter may be cleared.
+#[tactic(auto, using(crate::proofs::Settings::same_cleared))]
 fn lint_tree(alloc: Global, linter: &mut Linter, file: &Parse<'_>) -> Result<Vec<Report>, NoMemory>
     ensures lints { IfOk result (λ found. Lints linter.old.rules linter.old.settings file.now.text found.items) }
     ensures rules { linter.new.rules ≡ linter.old.rules }
@@ -69,6 +70,7 @@ fn alone(alloc: Global, message: &'static str, at: Pos) -> Result<Vec<Report>, N
 }
 
 // The report of a text that is refused.
+#[tactic(auto, using(crate::proofs::Placing::open_in, crate::proofs::Placing::syntax_in))]
 fn refusal_of(alloc: Global, text: &str, error: LintError) -> Result<Vec<Report>, NoMemory>
     requires { IsCause text.now error }
     ensures { IfOk result (λ found. found.items ≡ spec.refusal_of text.now error) }
@@ -92,6 +94,7 @@ fn refusal_of(alloc: Global, text: &str, error: LintError) -> Result<Vec<Report>
 }
 
 // The reports of a text. The flag of the linter may be cleared.
+#[tactic(auto, using(crate::proofs::Settings::same_kept))]
 fn reports_of(alloc: Global, linter: &mut Linter, text: &str) -> Result<Vec<Report>, NoMemory>
     ensures shows { IfOk result (λ found. Shows linter.old.rules linter.old.settings text.now found.items) }
     ensures rules { linter.new.rules ≡ linter.old.rules }
