@@ -87,13 +87,13 @@ HasRun asked texts d (Failed (failure.Stop WriteFault)) = PartFor asked texts d
 HasRun asked texts d (Failed (failure.Stop NoMemory)) = Keeps d.old.held d.new.held
 
 -- a text was written, or a front part of it before a write failed
-abbrev pub IsWritten : List ℕ → Streams → Streams → Outcome → Type 0
-IsWritten text old new Printed = Appends old.held new.held text
-IsWritten text old new (Served end) = ⊥
-IsWritten text old new (Failed (failure.Config line)) = ⊥
-IsWritten text old new (Failed (failure.Stop BadArguments)) = ⊥
-IsWritten text old new (Failed (failure.Stop NotUtf8)) = ⊥
-IsWritten text old new (Failed (failure.Stop TooLong)) = ⊥
-IsWritten text old new (Failed (failure.Stop ReadFault)) = ⊥
-IsWritten text old new (Failed (failure.Stop WriteFault)) = AppendsPart old.held new.held text × Rose old.write_faults new.write_faults
-IsWritten text old new (Failed (failure.Stop NoMemory)) = ⊥
+abbrev pub IsWritten : List ℕ → Option (List ℕ) → Option (List ℕ) → ℕ → ℕ → Outcome → Type 0
+IsWritten text old new before now Printed = Appends old new text
+IsWritten text old new before now (Served end) = ⊥
+IsWritten text old new before now (Failed (failure.Config line)) = ⊥
+IsWritten text old new before now (Failed (failure.Stop BadArguments)) = ⊥
+IsWritten text old new before now (Failed (failure.Stop NotUtf8)) = ⊥
+IsWritten text old new before now (Failed (failure.Stop TooLong)) = ⊥
+IsWritten text old new before now (Failed (failure.Stop ReadFault)) = ⊥
+IsWritten text old new before now (Failed (failure.Stop WriteFault)) = AppendsPart old new text × Rose before now
+IsWritten text old new before now (Failed (failure.Stop NoMemory)) = ⊥

@@ -23,10 +23,7 @@ use text_pos::NoMemory;
 
 // Writes a text.
 fn write_text<K: Sink>(text: &str, out: &mut K) -> Outcome
-    ensures { IsWritten text.now
-        (record { read_faults = 0; held = K.held out.old; write_faults = K.faults out.old })
-        (record { read_faults = 0; held = K.held out.new; write_faults = K.faults out.new })
-        result }
+    ensures { IsWritten text.now (K.held out.old) (K.held out.new) (K.faults out.old) (K.faults out.new) result }
 {
     match write_all(out, text.as_bytes()) {
         Ok(()) => Outcome::Printed,
