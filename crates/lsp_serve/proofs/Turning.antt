@@ -2,7 +2,7 @@
 use Rattle.std.proofs.Common.{◌≡◌, ◌∙◌, ◌≤◌, ap, arith, refl, subst, sym, append-nil, ℕ, Bool, List, [], ◌∷◌, ◌++◌, Option, Some, None, option_to_list}
 use Rattle.std.proofs.KnownBytes.{Appends-kept, Appends-nil, Appends-trans}
 use Rattle.std.proofs.lemmas.Grind.{flat_map-append}
-use Rattle.std.specs.Io.KnownBytes.{Appends, Keeps}
+use Rattle.std.specs.Io.KnownBytes.{Appends}
 use Rattle.lsp_message.specs.declared.message.Message.{Message}
 use Rattle.lsp_message.specs.declared.reply.Reply.{Reply}
 use Rattle.lsp_report.specs.declared.report.Report.{Report}
@@ -11,7 +11,7 @@ use Rattle.lsp_serve.specs.declared.end.End.TheVariants.{Exited, EndOfInput, Bad
 use Rattle.lsp_serve.specs.Ends.{exit_at}
 use Rattle.lsp_serve.specs.Said.{AreSaidTo, IsOpen, IsOpenBefore, all_bytes, reply_bytes, said_bytes}
 use Rattle.lsp_serve.specs.Served.{AreRead, BeginsWith, Served, Streams}
-use Rattle.lsp_serve.specs.Turns.{Hears, Responds, RespondsPart, SoFar, StopsTurn, TakesPart, TakesTurn}
+use Rattle.lsp_serve.specs.Turns.{Hears, SoFar, StopsTurn, TakesPart, TakesTurn}
 use Rattle.lsp_session.specs.Conversation.{document_behind, last_told, stage_behind}
 use Rattle.lsp_session.specs.Session.{TellsNow, document_after, document_of, told}
 use Rattle.lsp_session.specs.Stages.{stage_after}
@@ -38,6 +38,21 @@ unfolding IsOpenBefore stage_behind
 open_more stage [] m p q = (q, tt)
 open_more stage (x ∷ xs) m p q = (p.0, open_more (stage_after stage x) xs m p.1 q)
 
+wrote_more : (a b c : Option (List ℕ)) (replies : List Reply) (said : Option Reply) → Appends a b (all_bytes replies) → Appends b c (said_bytes said)
+    → Appends a c (all_bytes (replies ++ option_to_list said))
+wrote_more a b c replies said p q = subst (Appends a c) (sym (bytes_more replies said)) (Appends-trans a b c (all_bytes replies) (said_bytes said) p q)
+
+wrote_part : (a b c : Option (List ℕ)) (replies : List Reply) (said : Option Reply) → Appends a b (all_bytes replies) → AppendsPart b c (said_bytes said)
+    → AppendsPart a c (all_bytes (replies ++ option_to_list said))
+wrote_part a b c replies said p q = subst (AppendsPart a c) (sym (bytes_more replies said)) (part_after a b c (all_bytes replies) (said_bytes said) p q)
+
+-- the end of a session that is not open any more
+gone : (stage : Stage) (end : End) → exit_at stage ≡ Some end → (in_order : Bool) × (stage ≡ Gone in_order) × (end ≡ Exited in_order)
+gone Fresh end e = absurd cc
+gone Running end e = absurd cc
+gone Down end e = absurd cc
+gone (Gone in_order) end e = let same : Exited in_order ≡ end = cc in (in_order, refl, sym same)
+
 module _ {C : Type 0} (Shows : List ℕ → List Report → Type 0) where
   stage_more : (session new : Session C) (messages : List Message) (m : Message) (said : Option Reply) → session.stage ≡ stage_behind Fresh messages → Hears Shows session new m said
       → new.stage ≡ stage_behind Fresh (messages ++ m ∷ [])
@@ -62,14 +77,6 @@ module _ {C : Type 0} (Shows : List ℕ → List Report → Type 0) where
         told_onward Shows None old last uri replies said (replies ++ option_to_list said) refl (s.told uri) tells;
   }
 
-  wrote_more : (a b c : Option (List ℕ)) (replies : List Reply) (said : Option Reply) → Appends a b (all_bytes replies) → Appends b c (said_bytes said)
-      → Appends a c (all_bytes (replies ++ option_to_list said))
-  wrote_more a b c replies said p q = subst (Appends a c) (sym (bytes_more replies said)) (Appends-trans a b c (all_bytes replies) (said_bytes said) p q)
-
-  wrote_part : (a b c : Option (List ℕ)) (replies : List Reply) (said : Option Reply) → Appends a b (all_bytes replies) → AppendsPart b c (said_bytes said)
-      → AppendsPart a c (all_bytes (replies ++ option_to_list said))
-  wrote_part a b c replies said p q = subst (AppendsPart a c) (sym (bytes_more replies said)) (part_after a b c (all_bytes replies) (said_bytes said) p q)
-
   -- ---- between turns
 
   pub begun : (session : Session C) (input : Option (List ℕ)) (old : Streams) → session.stage ≡ Fresh → ((uri : List ℕ) → document_of uri session ≡ None)
@@ -93,7 +100,7 @@ module _ {C : Type 0} (Shows : List ℕ → List Report → Type 0) where
   one_turn session new input from to old before now s going t reads writes =
       let h = t.responds.hears in
       let said = t.responds.said in
-      let after = λ uri. document_more session new s.messages t.message said uri s.stage (s.documents uri) h in
+      let after : (uri : List ℕ) → document_of uri new ≡ document_behind Fresh (s.messages ++ t.message ∷ []) uri None = λ uri. document_more session new s.messages t.message said uri s.stage (s.documents uri) h in
       record {
         messages = s.messages ++ t.message ∷ [];
         replies = s.replies ++ option_to_list said;
@@ -114,7 +121,7 @@ module _ {C : Type 0} (Shows : List ℕ → List Report → Type 0) where
   ends_in_write session new input from to old before now s going t =
       let h = t.responds.hears in
       let said = t.responds.said in
-      let after = λ uri. document_more session new s.messages t.message said uri s.stage (s.documents uri) h in
+      let after : (uri : List ℕ) → document_of uri new ≡ document_behind Fresh (s.messages ++ t.message ∷ []) uri None = λ uri. document_more session new s.messages t.message said uri s.stage (s.documents uri) h in
       record {
         messages = s.messages ++ t.message ∷ [];
         replies = s.replies ++ option_to_list said;
@@ -180,13 +187,6 @@ module _ {C : Type 0} (Shows : List ℕ → List Report → Type 0) where
     wrote = Appends-kept _ _ _ _ s.wrote t;
     cause = tt;
   }
-
-  -- the end of a session that is not open any more
-  gone : (stage : Stage) (end : End) → exit_at stage ≡ Some end → (in_order : Bool) × (stage ≡ Gone in_order) × (end ≡ Exited in_order)
-  gone Fresh end e = absurd cc
-  gone Running end e = absurd cc
-  gone Down end e = absurd cc
-  gone (Gone in_order) end e = let same : Exited in_order ≡ end = cc in (in_order, refl, sym same)
 
   pub exits : (session : Session C) (input rest : Option (List ℕ)) (old now : Streams) (end : End) → SoFar Shows session input rest old now → exit_at session.stage ≡ Some end
       → Served Shows input old now end

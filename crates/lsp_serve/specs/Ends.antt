@@ -1,5 +1,5 @@
 -- The exit status and the line of each end of a server.
-use Rattle.std.specs.Prelude.{ℕ, List, [], codes, Option, Some, None, true, false}
+use Rattle.std.specs.Prelude.{ℕ, List, codes, Option, Some, None, true, false}
 use Rattle.lsp_frame.specs.declared.front.Fault.TheVariants.{Header, TooLong}
 use Rattle.lsp_frame.specs.declared.reader.FrameError.{FrameError}
 use Rattle.lsp_frame.specs.declared.reader.FrameError.TheVariants as frame

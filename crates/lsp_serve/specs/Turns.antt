@@ -1,5 +1,5 @@
 -- One turn of a server, and what is known between two turns.
-use Rattle.std.specs.Prelude.{◌≡◌, ◌≤◌, ℕ, List, Option, None, Err, ⊤}
+use Rattle.std.specs.Prelude.{◌≡◌, ◌≤◌, ℕ, List, Option, None}
 use Rattle.std.specs.Io.KnownBytes.{Appends, IsAtEnd, Keeps}
 use Rattle.lsp_message.specs.declared.message.Message.{Message}
 use Rattle.lsp_message.specs.declared.reply.Reply.{Reply}

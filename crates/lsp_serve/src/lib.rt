@@ -6,7 +6,7 @@
 
 mod end;
 mod respond;
-mod serve;
+mod serving;
 
 pub use end::End;
-pub use serve::serve;
+pub use serving::serve;

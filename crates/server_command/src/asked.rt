@@ -31,15 +31,18 @@ fn as_check(alloc: Global, words: &Words) -> Result<Words, NoMemory>
 fn is_plain(words: &Words, request: &Request) -> bool
     ensures { result ≡ spec.is_plain words.now request.now }
 {
-    let names = [
-        "format",
-        "color",
-        "quiet",
-        "statistics",
-        "stdin-filename",
-        "fail-on",
-    ];
-    request.files.is_empty() && !has_foreign_word(words, &names)
+    request.files.is_empty()
+        && !has_foreign_word(
+            words,
+            &[
+                "format",
+                "color",
+                "quiet",
+                "statistics",
+                "stdin-filename",
+                "fail-on",
+            ],
+        )
 }
 
 fn asked_by(words: &Words, asked: Asked) -> Asked

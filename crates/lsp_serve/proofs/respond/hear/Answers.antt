@@ -1,4 +1,4 @@
-use Rattle.std.proofs.Common.{Option, subst}
+use Rattle.std.proofs.Common.{subst}
 use Rattle.lsp_message.specs.declared.message.Message.{Message}
 use Rattle.lsp_serve.specs.Turns.{Hears}
 use Rattle.lsp_serve.proofs.respond.hear.Goals as goal

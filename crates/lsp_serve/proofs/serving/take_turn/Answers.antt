@@ -1,10 +1,11 @@
-use Rattle.std.proofs.Common.{refl}
+use Rattle.std.proofs.Common.{refl, subst, sym}
 use Rattle.std.proofs.KnownBytes.{Keeps-refl}
 use Rattle.std.proofs.lemmas.Result.{IfErr-weaker}
 use Rattle.lsp_frame.specs.Reading.{coming}
 use Rattle.lsp_serve.specs.Served.{Streams}
+use Rattle.lsp_serve.specs.Turns.{StopsTurn}
 use Rattle.lsp_serve.proofs.Stopping.{begins, ended, not_read, not_turned, on_ok, turned}
-use Rattle.lsp_serve.proofs.serve.take_turn.Goals as goal
+use Rattle.lsp_serve.proofs.serving.take_turn.Goals as goal
 
 pub returns-in-Ok-Some-clause-done : goal.returns-in-Ok-Some-clause-done
 returns-in-Ok-Some-clause-done g c =
@@ -49,4 +50,5 @@ returns-in-Err-clause-stop g c =
     let unread = c.next.new.self in
     let before : Streams = record { read_faults = g.S.Source.faults c.args.source.now; held = g.K.Sink.held c.args.out.now; write_faults = g.K.Sink.faults c.args.out.now } in
     let now : Streams = record { read_faults = g.S.Source.faults c.next.new.source; held = g.K.Sink.held c.args.out.now; write_faults = g.K.Sink.faults c.args.out.now } in
-    not_read shows c.args.session.now c.args.session.now from unread left before now c.in-Err.error refl c.in-Err.ensures.stopped
+    subst (λ end. StopsTurn end shows c.args.session.now c.args.session.now from (coming unread left) before now) (sym c.end_of.ensures)
+    (not_read shows c.args.session.now c.args.session.now from unread left before now c.in-Err.error refl c.in-Err.ensures.stopped)

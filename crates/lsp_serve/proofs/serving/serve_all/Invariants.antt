@@ -2,7 +2,7 @@ use Rattle.std.proofs.Common.{◌≡◌}
 use Rattle.lsp_frame.specs.Reading.{coming}
 use Rattle.lsp_serve.specs.Said.{IsOpen}
 use Rattle.lsp_serve.specs.Turns.{SoFar}
-use Rattle.lsp_serve.proofs.serve.serve_all.Given as goal
+use Rattle.lsp_serve.proofs.serving.serve_all.Given as goal
 
 abbrev pub invariant-serving : goal.invariant-serving
 invariant-serving g l = record {

@@ -3,7 +3,7 @@ use Rattle.std.proofs.KnownBytes.{prepend_known-nil}
 use Rattle.lsp_frame.specs.Reading.{coming}
 use Rattle.lsp_serve.specs.Served.{Served, Streams}
 use Rattle.lsp_serve.proofs.Turning.{nothing_done}
-use Rattle.lsp_serve.proofs.serve.serve.Goals as goal
+use Rattle.lsp_serve.proofs.serving.serve.Goals as goal
 
 pub returns-in-Ok : goal.returns-in-Ok
 returns-in-Ok g c =
@@ -14,6 +14,6 @@ returns-in-Ok g c =
     subst (λ (i : Option (List ℕ)). Served (g.C.Checker.shows c.args.checker) i old new c.serve_all.result) fresh
     (subst (λ k. Served (g.C.Checker.shows k) (coming c.in-Ok.frames left) old new c.serve_all.result) c.new-session.ensures.checker c.serve_all.ensures)
 
-pub returns-in-Err : goal.returns-in-Err
-returns-in-Err g c = nothing_done (g.C.Checker.shows c.args.checker) (g.S.Source.left c.args.source.now)
+pub returns : goal.returns
+returns g c = nothing_done (g.C.Checker.shows c.args.checker) (g.S.Source.left c.args.source.now)
     (record { read_faults = g.S.Source.faults c.args.source.now; held = g.K.Sink.held c.args.out.now; write_faults = g.K.Sink.faults c.args.out.now })
