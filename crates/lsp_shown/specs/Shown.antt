@@ -1,5 +1,5 @@
 -- What an editor shows of reports, and of a text that is refused.
-use Rattle.std.specs.Prelude.{ℕ, Bool, true, false, List, Option, Some, None, map, option_map}
+use Rattle.std.specs.Prelude.{ℕ, Bool, true, false, List, Some, None, map, option_map}
 use Rattle.lint_base.specs.declared.edit.Edit.{Edit}
 use Rattle.lint_base.specs.declared.rule.Rule.{Rule}
 use Rattle.lint_base.specs.declared.rule.Rule.TheVariants.{IdentifierTooLong}
