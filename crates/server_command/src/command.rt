@@ -1,46 +1,51 @@
 //! The run of the program, over any files, source and sinks.
-ghost use Rattle.std.specs.Prelude.{◌≡◌};
+ghost use Rattle.std.specs.Prelude.{◌≡◌, drop};
 ghost use Rattle.std.specs.Io.KnownBytes.{Appends};
-ghost use Rattle.check_words.specs.declared.asked.Asked.TheVariants as asked;
-ghost use Rattle.server_command.specs.Asked.{asked_of};
-ghost use Rattle.server_command.specs.Command.{HasRun, IsWritten};
+ghost use Rattle.server_command.specs.Asked.{asks_for_help};
+ghost use Rattle.server_command.specs.Command.{HasHelped, HasRun, HasRunFor};
 ghost use Rattle.server_command.specs.Outcomes.{line_of};
 ghost use Rattle.squawk_stream.specs.Faults.{Rose};
 ghost use Rattle.squawk_stream.specs.Parts.{AppendsPart};
 
-use crate::asked::asked_of;
+use crate::asked::asks_for_help;
 use crate::help::HELP;
 use crate::outcome::{Failure, Outcome};
 use crate::settled::settled;
-use check_words::{Asked, Request, VERSION};
 use file_store::FileStore;
 use lsp_serve::serve;
 use squawk_run::Stop;
 use squawk_stream::{Sink, Source, write_all};
 use squawk_words::Words;
 use std::alloc::Global;
-use text_pos::NoMemory;
 
-// Writes a text.
-fn write_text<K: Sink>(text: &str, out: &mut K) -> Outcome
-    ensures { IsWritten text.now (K.held out.old) (K.held out.new) (K.faults out.old) (K.faults out.new) result }
+// Writes the help.
+fn write_help<F: FileStore, S: Source, K: Sink>(files: &F, src: &S, out: &mut K) -> Outcome
+    ensures { HasHelped HELP.now
+        (record {
+          content = F.content files.now;
+          files_before = F.faults files.now;
+          files_now = F.faults files.now;
+          input = S.left src.now;
+          old = record { read_faults = S.faults src.now; held = K.held out.old; write_faults = K.faults out.old };
+          new = record { read_faults = S.faults src.now; held = K.held out.new; write_faults = K.faults out.new };
+        })
+        result }
 {
-    match write_all(out, text.as_bytes()) {
+    match write_all(out, HELP.as_bytes()) {
         Ok(()) => Outcome::Printed,
         Err(_) => Outcome::Failed(Failure::Stop(Stop::WriteFault)),
     }
 }
 
-// Serves with the linter of a request.
-fn serve_request<F: FileStore, S: Source, K: Sink>(
+// Serves with the linter that the words choose.
+fn serve_words<F: FileStore, S: Source, K: Sink>(
     alloc: Global,
-    request: &Request,
+    words: &Words,
     files: &mut F,
     src: &mut S,
     out: &mut K,
 ) -> Outcome
-    ensures { HasRun (asked.Check request.now)
-        (record { help = HELP.now; version = VERSION.now })
+    ensures { HasRunFor (drop 1 words.now)
         (record {
           content = F.content files.old;
           files_before = F.faults files.old;
@@ -51,7 +56,7 @@ fn serve_request<F: FileStore, S: Source, K: Sink>(
         })
         result }
 {
-    match settled(alloc, request, files) {
+    match settled(alloc, words, files) {
         Ok(linting) => Outcome::Served(serve(alloc, linting, src, out)),
         Err(failure) => Outcome::Failed(failure),
     }
@@ -65,8 +70,7 @@ fn work<F: FileStore, S: Source, K: Sink>(
     src: &mut S,
     out: &mut K,
 ) -> Outcome
-    ensures { HasRun (asked_of words.now)
-        (record { help = HELP.now; version = VERSION.now })
+    ensures { HasRun (asks_for_help words.now) HELP.now (drop 1 words.now)
         (record {
           content = F.content files.old;
           files_before = F.faults files.old;
@@ -77,12 +81,9 @@ fn work<F: FileStore, S: Source, K: Sink>(
         })
         result }
 {
-    match asked_of(alloc, words) {
-        Ok(Asked::Check(request)) => serve_request(alloc, &request, files, src, out),
-        Ok(Asked::Help) => write_text(HELP, out),
-        Ok(Asked::Version) => write_text(VERSION, out),
-        Ok(Asked::Refused) => Outcome::Failed(Failure::Stop(Stop::BadArguments)),
-        Err(NoMemory) => Outcome::Failed(Failure::Stop(Stop::NoMemory)),
+    match asks_for_help(words) {
+        true => write_help(files, src, out),
+        false => serve_words(alloc, words, files, src, out),
     }
 }
 
@@ -96,8 +97,7 @@ pub fn run<F: FileStore, S: Source, K: Sink, E: Sink>(
     out: &mut K,
     err: &mut E,
 ) -> Outcome
-    ensures run { HasRun (asked_of words.now)
-        (record { help = HELP.now; version = VERSION.now })
+    ensures run { HasRun (asks_for_help words.now) HELP.now (drop 1 words.now)
         (record {
           content = F.content files.old;
           files_before = F.faults files.old;

@@ -6,9 +6,9 @@ pub const HELP: &str =
 
 Usage: lavkheto server [OPTIONS]
 
-It shows what lavkheto check finds in each open document, with what is to be known of it and how to mend it.
+It shows what lavkheto check finds in each open document, with what is to be known of it and how to mend it. A .squawk.toml in this folder
+or one above it, up to the repository's, counts as it does for lavkheto check.
 
-  --config FILE            the configuration, instead of .squawk.toml in this folder or one above it, up to the repository's
   --only RULES             exactly these rules, with commas between them
   --include RULES          these rules too
   --exclude RULES          without these rules
@@ -18,7 +18,7 @@ It shows what lavkheto check finds in each open document, with what is to be kno
   --pg-minor N             its second part (default: 0)
   --pg-patch N             its third part (default: 0)
 
-  --help, --version        this help, and the version
+  --help                   this help
 
 Status: 0 the client asked to shut down, and then to exit; 1 it ended without asking; 2 the words or the configuration are not accepted;
 3 the input has no header; 4 a message is too long or cut off; 5 a read failed; 6 a write failed; 7 out of memory.

@@ -18,7 +18,7 @@ pub enum Failure {
 /// How a run ends.
 #[derive(Debug, Drop)]
 pub enum Outcome {
-    /// The help or the version was printed.
+    /// The help was printed.
     Printed,
     /// It served, and this is how that ended.
     Served(End),

@@ -1,16 +1,16 @@
-//! The linter that a request and its configuration choose.
-ghost use Rattle.std.specs.Prelude.{◌≡◌, ◌≤◌, IfErr, IfOk};
+//! The linter that the words and the configuration choose.
+ghost use Rattle.std.specs.Prelude.{◌≡◌, ◌≤◌, IfErr, IfOk, drop};
 ghost use Rattle.server_command.specs.Settled as spec;
 ghost use Rattle.server_command.specs.Settled.{IsChosenBy, IsSettled, IsUnchosen, IsUnsettled};
 
+use crate::asked::words_after_first;
 use crate::outcome::{Failure, failure_of};
 use check_config::{Config, linter_words};
-use check_words::{Request, linter_choices};
 use config_file::load_config;
 use file_store::FileStore;
 use lsp_server::Linting;
 use squawk_linter::Linter;
-use squawk_run::Stop;
+use squawk_run::{Stop, read_text_choices};
 use squawk_words::{Choices, Words};
 use std::alloc::Global;
 use text_pos::NoMemory;
@@ -36,28 +36,39 @@ fn chosen(alloc: Global, config: &Config, line: &Words) -> Result<Choices, Stop>
         Ok(words) => words,
         Err(NoMemory) => return Err(Stop::NoMemory),
     };
-    match linter_choices(alloc, &words) {
+    match read_text_choices(alloc, &words) {
         Ok(Some(choices)) => Ok(choices),
         Ok(None) => Err(Stop::BadArguments),
         Err(NoMemory) => Err(Stop::NoMemory),
     }
 }
 
-/// What finds reports for a request: the linter that its words and its configuration choose.
-pub(crate) fn settled<F: FileStore>(
-    alloc: Global,
-    request: &Request,
-    files: &mut F,
-) -> Result<Linting, Failure>
-    ensures settled { IfOk result (IsSettled (F.content files.old) request.now) }
-    ensures unsettled { IfErr result (IsUnsettled (F.content files.old) (F.faults files.old) (F.faults files.new) request.now) }
+// What finds reports, by the words of the line that are for the linter.
+fn settled_by<F: FileStore>(alloc: Global, line: &Words, files: &mut F) -> Result<Linting, Failure>
+    ensures settled { IfOk result (IsSettled (F.content files.old) line.now) }
+    ensures unsettled { IfErr result (IsUnsettled (F.content files.old) (F.faults files.old) (F.faults files.new) line.now) }
 {
-    let config = match load_config(alloc, files, &request.config) {
+    let config = match load_config(alloc, files, &None) {
         Ok(config) => config,
         Err(error) => return Err(failure_of(error)),
     };
-    match chosen(alloc, &config, &request.linter) {
+    match chosen(alloc, &config, line) {
         Ok(choices) => Ok(linting_by(choices)),
         Err(stop) => Err(Failure::Stop(stop)),
+    }
+}
+
+/// What finds reports: the linter that the words after the first and the configuration choose.
+pub(crate) fn settled<F: FileStore>(
+    alloc: Global,
+    words: &Words,
+    files: &mut F,
+) -> Result<Linting, Failure>
+    ensures settled { IfOk result (IsSettled (F.content files.old) (drop 1 words.now)) }
+    ensures unsettled { IfErr result (IsUnsettled (F.content files.old) (F.faults files.old) (F.faults files.new) (drop 1 words.now)) }
+{
+    match words_after_first(alloc, words) {
+        Ok(line) => settled_by(alloc, &line, files),
+        Err(NoMemory) => Err(Failure::Stop(Stop::NoMemory)),
     }
 }

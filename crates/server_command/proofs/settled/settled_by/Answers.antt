@@ -1,9 +1,9 @@
 use Rattle.server_command.proofs.Doing.{not_chosen, not_loaded}
-use Rattle.server_command.proofs.settled.settled.Goals as goal
+use Rattle.server_command.proofs.settled.settled_by.Goals as goal
 
 pub returns-in-Err-clause-unsettled : goal.returns-in-Err-clause-unsettled
 returns-in-Err-clause-unsettled g c =
-    not_loaded (g.F.FileStore.content c.args.files.now) (g.F.FileStore.faults c.args.files.now) (g.F.FileStore.faults c.load_config.new.files) c.args.request.now c.in-Err.error c.in-Err.ensures.refused
+    not_loaded (g.F.FileStore.content c.args.files.now) (g.F.FileStore.faults c.args.files.now) (g.F.FileStore.faults c.load_config.new.files) c.args.line.now c.in-Err.error c.in-Err.ensures.refused
 
 pub returns-in-Ok-chosen-clause-settled : goal.returns-in-Ok-chosen-clause-settled
 returns-in-Ok-chosen-clause-settled g c = record {
@@ -16,5 +16,5 @@ returns-in-Ok-chosen-clause-settled g c = record {
 
 pub returns-in-Err-chosen-clause-unsettled : goal.returns-in-Err-chosen-clause-unsettled
 returns-in-Err-chosen-clause-unsettled g c =
-    not_chosen (g.F.FileStore.content c.args.files.now) (g.F.FileStore.faults c.args.files.now) (g.F.FileStore.faults c.load_config.new.files) c.args.request.now c.in-Ok.config c.in-Err-chosen.stop
+    not_chosen (g.F.FileStore.content c.args.files.now) (g.F.FileStore.faults c.args.files.now) (g.F.FileStore.faults c.load_config.new.files) c.args.line.now c.in-Ok.config c.in-Err-chosen.stop
     c.in-Ok.ensures.loaded c.in-Err-chosen.ensures.unchosen
