@@ -32,21 +32,17 @@ pub record HasServedBy (line : List Text) (d : Devices) (end : End) : Type 0 whe
   pub settled : IsSettled d.content line linting
   pub served : HasServed (Shows linting.linter.rules linting.linter.settings) d.input d.old d.new end
 
--- what was written of a text before a write failed
-abbrev pub WrotePart : List ℕ → Devices → Type 0
-WrotePart text d = AppendsPart d.old.held d.new.held text × Rose d.old.write_faults d.new.write_faults
-
 -- the words ask for the help, which is this text: it was written, or a front part of it before a write failed
-abbrev pub HasHelped : List ℕ → Devices → Outcome → Type 0
-HasHelped help d Printed = Appends d.old.held d.new.held help
-HasHelped help d (Served end) = ⊥
-HasHelped help d (Failed (failure.Config why)) = ⊥
-HasHelped help d (Failed (failure.Stop BadArguments)) = ⊥
-HasHelped help d (Failed (failure.Stop NotUtf8)) = ⊥
-HasHelped help d (Failed (failure.Stop TooLong)) = ⊥
-HasHelped help d (Failed (failure.Stop ReadFault)) = ⊥
-HasHelped help d (Failed (failure.Stop WriteFault)) = WrotePart help d
-HasHelped help d (Failed (failure.Stop NoMemory)) = ⊥
+abbrev pub HasHelped : List ℕ → Option (List ℕ) → Option (List ℕ) → ℕ → ℕ → Outcome → Type 0
+HasHelped help old new before now Printed = Appends old new help
+HasHelped help old new before now (Served end) = ⊥
+HasHelped help old new before now (Failed (failure.Config why)) = ⊥
+HasHelped help old new before now (Failed (failure.Stop BadArguments)) = ⊥
+HasHelped help old new before now (Failed (failure.Stop NotUtf8)) = ⊥
+HasHelped help old new before now (Failed (failure.Stop TooLong)) = ⊥
+HasHelped help old new before now (Failed (failure.Stop ReadFault)) = ⊥
+HasHelped help old new before now (Failed (failure.Stop WriteFault)) = AppendsPart old new help × Rose before now
+HasHelped help old new before now (Failed (failure.Stop NoMemory)) = ⊥
 
 -- they ask for a server: it served, or the configuration is refused, or the words are beside it, and nothing was written
 abbrev pub HasRunFor : List Text → Devices → Outcome → Type 0
@@ -62,5 +58,5 @@ HasRunFor line d (Failed (failure.Stop NoMemory)) = Keeps d.old.held d.new.held
 
 -- what a run did, by whether the words ask for the help
 abbrev pub HasRun : Bool → List ℕ → List Text → Devices → Outcome → Type 0
-HasRun true help line d outcome = HasHelped help d outcome
+HasRun true help line d outcome = HasHelped help d.old.held d.new.held d.old.write_faults d.new.write_faults outcome
 HasRun false help line d outcome = HasRunFor line d outcome

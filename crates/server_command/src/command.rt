@@ -19,17 +19,8 @@ use squawk_words::Words;
 use std::alloc::Global;
 
 // Writes the help.
-fn write_help<F: FileStore, S: Source, K: Sink>(files: &F, src: &S, out: &mut K) -> Outcome
-    ensures { HasHelped HELP.now
-        (record {
-          content = F.content files.now;
-          files_before = F.faults files.now;
-          files_now = F.faults files.now;
-          input = S.left src.now;
-          old = record { read_faults = S.faults src.now; held = K.held out.old; write_faults = K.faults out.old };
-          new = record { read_faults = S.faults src.now; held = K.held out.new; write_faults = K.faults out.new };
-        })
-        result }
+fn write_help<K: Sink>(out: &mut K) -> Outcome
+    ensures { HasHelped HELP.now (K.held out.old) (K.held out.new) (K.faults out.old) (K.faults out.new) result }
 {
     match write_all(out, HELP.as_bytes()) {
         Ok(()) => Outcome::Printed,
@@ -82,7 +73,7 @@ fn work<F: FileStore, S: Source, K: Sink>(
         result }
 {
     match asks_for_help(words) {
-        true => write_help(files, src, out),
+        true => write_help(out),
         false => serve_words(alloc, words, files, src, out),
     }
 }
