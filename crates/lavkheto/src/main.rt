@@ -1,8 +1,8 @@
 //! The program for people and CI: `lavkheto check migrations`.
 #![tactic(auto)]
 
+use check_command::run;
 use file_store::SystemFiles;
-use server_command::is_server;
 use squawk_run::{say_stop, take_words};
 use squawk_stream::{StdSink, StdSource};
 use squawk_words::Words;
@@ -14,45 +14,30 @@ fn is_painted(rt: &HostRuntime) -> bool {
     rt.stdout().is_terminal() && std::env::var(rt, "NO_COLOR").is_err()
 }
 
-// A server, where the words ask for one, or else a check. The exit status.
-fn run_words(rt: &HostRuntime, words: &Words) -> u8 {
-    let mut files = SystemFiles::new(rt);
+fn main(rt: HostRuntime) -> ExitCode {
+    let mut files = SystemFiles::new(&rt);
     let mut src = StdSource::new(rt.stdin());
     let mut out = StdSink::new(rt.stdout());
     let mut err = StdSink::new(rt.stderr());
-    if is_server(words) {
-        let outcome = server_command::run(
-            rt.alloc(),
-            words,
-            &mut files,
-            &mut src,
-            &mut out,
-            &mut err,
-        );
-        return outcome.code();
-    }
-    let painted = is_painted(rt);
-    let done = check_command::run(
-        rt.alloc(),
-        words,
-        painted,
-        &mut files,
-        &mut src,
-        &mut out,
-        &mut err,
-    );
-    match done {
-        Ok(status) => status.code(),
-        Err(failure) => failure.code(),
-    }
-}
-
-fn main(rt: HostRuntime) -> ExitCode {
     let mut words = Words::new(rt.alloc());
+    let painted = is_painted(&rt);
     let code = match take_words(&rt, &mut words) {
-        Ok(()) => run_words(&rt, &words),
+        Ok(()) => {
+            let done = run(
+                rt.alloc(),
+                &words,
+                painted,
+                &mut files,
+                &mut src,
+                &mut out,
+                &mut err,
+            );
+            match done {
+                Ok(status) => status.code(),
+                Err(failure) => failure.code(),
+            }
+        }
         Err(stop) => {
-            let mut err = StdSink::new(rt.stderr());
             say_stop(&mut err, stop);
             stop.code()
         }

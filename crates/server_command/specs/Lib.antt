@@ -1,4 +1,0 @@
-pub mod Asked
-pub mod Outcomes
-pub mod Settled
-pub mod Command
