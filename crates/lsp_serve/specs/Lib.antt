@@ -1,0 +1,4 @@
+pub mod Ends
+pub mod Said
+pub mod Served
+pub mod Turns

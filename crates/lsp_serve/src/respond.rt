@@ -1,0 +1,75 @@
+//! What is said to one message, and the writing of it.
+ghost use Rattle.std.specs.Prelude.{◌≡◌, ◌≤◌, IfErr, IfOk, OnOk};
+ghost use Rattle.std.specs.Io.KnownBytes.{Appends};
+ghost use Rattle.lsp_read.specs.Message.{message_of};
+ghost use Rattle.lsp_serve.specs.Said.{said_bytes};
+ghost use Rattle.lsp_serve.specs.Turns.{Hears, Responds, StopsResponding, StopsSaying};
+
+use crate::end::End;
+use lsp_frame::push_frame;
+use lsp_message::Reply;
+use lsp_read::read_message;
+use lsp_report::Checker;
+use lsp_session::Session;
+use lsp_write::write_reply;
+use squawk_stream::{Sink, write_all};
+use std::alloc::Global;
+use text_pos::NoMemory;
+
+// The frame of what is said, if anything is.
+fn said_bytes(alloc: Global, said: &Option<Reply>) -> Result<Vec<u8>, NoMemory>
+    ensures { IfOk result (λ bytes. bytes.items ≡ said_bytes said.now) }
+{
+    let mut bytes = Vec::new(alloc);
+    if let Some(reply) = said {
+        let content = write_reply(alloc, reply)?;
+        push_frame(alloc, &mut bytes, content.as_slice())?;
+    }
+    Ok(bytes)
+}
+
+// Writes what is said. All memory is taken before the first write.
+fn write_said<K: Sink>(alloc: Global, said: &Option<Reply>, out: &mut K) -> Result<(), End>
+    ensures whole { OnOk result (Appends (K.held out.old) (K.held out.new) (said_bytes said.now)) }
+    ensures stop { IfErr result (λ end. StopsSaying end (said_bytes said.now) (K.held out.old) (K.held out.new) (K.faults out.old) (K.faults out.new)) }
+    ensures later { K.faults out.old ≤ K.faults out.new }
+{
+    match said_bytes(alloc, said) {
+        Err(NoMemory) => Err(End::NoMemory),
+        Ok(bytes) => match write_all(out, bytes.as_slice()) {
+            Ok(()) => Ok(()),
+            Err(_) => Err(End::WriteFault),
+        },
+    }
+}
+
+// Hears the message that a content is.
+fn hear<C: Checker>(
+    alloc: Global,
+    session: &mut Session<C>,
+    content: &[u8],
+) -> Result<Option<Reply>, NoMemory>
+    ensures { IfOk result (Hears (C.shows session.old.checker) session.old session.new (message_of content.now)) }
+{
+    let message = read_message(alloc, content)?;
+    let said = session.step(message)?;
+    Ok(said)
+}
+
+/// Hears the message that a content is, and writes what is said to it. The error is `WriteFault` or `NoMemory`.
+pub(crate) fn respond<C: Checker, K: Sink>(
+    alloc: Global,
+    session: &mut Session<C>,
+    content: &[u8],
+    out: &mut K,
+) -> Result<(), End>
+    ensures done { OnOk result (Responds (C.shows session.old.checker) session.old session.new (message_of content.now) (K.held out.old) (K.held out.new)) }
+    ensures stop { IfErr result (λ end. StopsResponding end (C.shows session.old.checker) session.old session.new (message_of content.now)
+        (K.held out.old) (K.held out.new) (K.faults out.old) (K.faults out.new)) }
+    ensures later { K.faults out.old ≤ K.faults out.new }
+{
+    match hear(alloc, session, content) {
+        Err(NoMemory) => Err(End::NoMemory),
+        Ok(said) => write_said(alloc, &said, out),
+    }
+}

@@ -1,0 +1,3 @@
+pub mod Ignore
+pub mod Shown
+pub mod Tokens

@@ -1,0 +1,95 @@
+//! Comments that tell the linter to leave a report.
+ghost use Rattle.std.specs.Prelude.{◌≡◌, IfOk, string_bytes};
+ghost use Rattle.std.specs.List.{list_any};
+ghost use Rattle.lsp_shown.specs.Ignore as spec;
+
+use lint_base::{Rule, Text};
+use lsp_report::{Change, Remedy};
+use std::alloc::{AllocError, Global};
+use text_pos::NoMemory;
+use text_utf16::Pos;
+
+/// The first line and the last one of a token that goes over several.
+#[derive(Clone, Copy, Debug, PartialEq, Eq)]
+pub struct Lines {
+    /// The line on which it begins, counted from 0.
+    pub first: u32,
+    /// The line on which it ends.
+    pub last: u32,
+}
+
+// Whether a line begins inside of the token.
+fn goes_over(lines: &Lines, line: u32) -> bool
+    ensures { result ≡ spec.goes_over line lines.now }
+{
+    lines.first < line && line <= lines.last
+}
+
+// Whether a line begins inside of one of the tokens.
+fn is_inside(tokens: &[Lines], line: u32) -> bool
+    ensures { result ≡ list_any (spec.goes_over line) tokens.now }
+{
+    tokens.iter().any(|lines| goes_over(lines, line))
+}
+
+// Whether a comment can name the rule.
+fn is_named(rule: Rule) -> bool
+    ensures { result ≡ spec.is_named rule }
+{
+    !matches!(rule, Rule::UnusedIgnore)
+}
+
+// The comment, on a line of its own.
+fn comment(alloc: Global, rule: Rule) -> Result<String, AllocError>
+    ensures { IfOk result (λ s. string_bytes s ≡ spec.comment rule) }
+{
+    let mut text = String::from_str(alloc, "-- squawk-ignore ")?;
+    text.push_str(rule.name())?;
+    text.push_str("\n")?;
+    Ok(text)
+}
+
+// What is said of it.
+fn title(alloc: Global, rule: Rule) -> Result<String, AllocError>
+    ensures { IfOk result (λ s. string_bytes s ≡ spec.title rule) }
+{
+    let mut text = String::from_str(alloc, "Ignore `")?;
+    text.push_str(rule.name())?;
+    text.push_str("` here")?;
+    Ok(text)
+}
+
+// The comment put before a line.
+fn remedy(alloc: Global, rule: Rule, line: u32) -> Result<Remedy, NoMemory>
+    ensures { IfOk result (λ made. made ≡ spec.remedy rule line) }
+{
+    let at = Pos { line, col: 0 };
+    let mut changes = Vec::new(alloc);
+    changes.push(Change {
+        start: at,
+        end: at,
+        text: Some(Text::made(comment(alloc, rule)?)),
+    })?;
+    Ok(Remedy {
+        title: Text::made(title(alloc, rule)?),
+        is_preferred: false,
+        changes,
+    })
+}
+
+/// The comment that tells the linter to leave the reports of a rule that begin on a line, on a line of its own above it; none where that
+/// line begins inside of one of these tokens, or no comment names the rule. The error comes when memory runs out.
+pub(crate) fn ignore_if(
+    alloc: Global,
+    tokens: &[Lines],
+    rule: Rule,
+    line: u32,
+) -> Result<Option<Remedy>, NoMemory>
+    ensures { IfOk result (λ made. made ≡ spec.ignore_if tokens.now rule line) }
+{
+    if is_named(rule) && !is_inside(tokens, line) {
+        Ok(Some(remedy(alloc, rule, line)?))
+    } else {
+        Ok(None)
+    }
+}
