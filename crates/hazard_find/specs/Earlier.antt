@@ -61,6 +61,7 @@ drops tree name s = list_any (λ path. same_path name (last_cut tree path.last))
 abbrev pub is_dropped : Tree → List (List ℕ) → ℕ → Bool
 is_dropped tree name i = any_below (λ j. drops tree name (stmt_at tree j)) i
 
+-- an index of this name is dropped by an earlier statement
 unfoldable pub is_dropped_index : Tree → ℕ → Option Span → Bool
 is_dropped_index tree i None = false
 is_dropped_index tree i (Some name) = is_dropped tree (path_cuts tree.text tree.toks name) i
@@ -83,6 +84,7 @@ refreshed_view tree s =
 abbrev pub is_made : Tree → List (List ℕ) → ℕ → Bool
 is_made tree path i = any_below (λ j. is_path tree (made_view tree (stmt_at tree j)) path) i
 
+-- a materialized view of this path is made by an earlier statement
 unfoldable pub is_made_view : Tree → ℕ → Option Span → Bool
 is_made_view tree i None = false
 is_made_view tree i (Some path) = is_made tree (path_cuts tree.text tree.toks path) i

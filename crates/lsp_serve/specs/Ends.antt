@@ -8,6 +8,7 @@ use Rattle.lsp_serve.specs.declared.end.End.TheVariants.{Exited, EndOfInput, Bad
 use Rattle.lsp_session.specs.declared.stage.Stage.{Stage}
 use Rattle.lsp_session.specs.declared.stage.Stage.TheVariants.{Fresh, Running, Down, Gone}
 
+-- the exit status of an end
 abbrev pub code_of : End → ℕ
 code_of (Exited true) = 0
 code_of (Exited false) = 1
@@ -19,6 +20,7 @@ code_of ReadFault = 5
 code_of WriteFault = 6
 code_of NoMemory = 7
 
+-- the line of an end on the error sink
 abbrev pub line_of : End → List ℕ
 line_of (Exited true) = codes ""
 line_of (Exited false) = codes "error: exit without shutdown\n"

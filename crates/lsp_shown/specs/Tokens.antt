@@ -31,5 +31,6 @@ several lines = if nat_lt lines.first lines.last then lines ∷ [] else []
 abbrev pub long_if : List ℕ → Tok → List Lines
 long_if text token = if is_closed token.kind then several (lines_of text token) else []
 
+-- the lines of the tokens that go over several lines and have delimiters
 abbrev pub long_tokens : List ℕ → List Tok → List Lines
 long_tokens text tokens = flat_map (long_if text) tokens
