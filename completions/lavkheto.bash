@@ -28,7 +28,7 @@ _lavkheto() {
     fi
     COMPREPLY=()
     if ((COMP_CWORD == 1)); then
-        _lavkheto_words 'check --help --version'
+        _lavkheto_words 'check explain --help --version'
         return
     fi
     case $command:$before in
@@ -48,6 +48,8 @@ _lavkheto() {
     case $command:$cur in
     check:-*) _lavkheto_words '--format --color --quiet --statistics --stdin-filename --config --fail-on -- --only --include --exclude --non-volatile --assume-in-transaction --pg-major --pg-minor --pg-patch --help --version' ;;
     check:*) _lavkheto_files '*.sql' ;;
+    explain:-*) _lavkheto_words '--help' ;;
+    explain:*) _lavkheto_rules ;;
     esac
 }
 

@@ -6,6 +6,7 @@ function __lavkheto_list
 end
 complete -c lavkheto -f
 complete -c lavkheto -n __fish_use_subcommand -a check -d 'Lints migrations of PostgreSQL'
+complete -c lavkheto -n __fish_use_subcommand -a explain -d 'what a rule reports, why, its lock, and what to write instead'
 complete -c lavkheto -n __fish_use_subcommand -l help -d 'the help'
 complete -c lavkheto -n __fish_use_subcommand -l version -d 'the version'
 complete -c lavkheto -n '__fish_seen_subcommand_from check' -k -a '(__fish_complete_suffix .sql)'
@@ -26,3 +27,5 @@ complete -c lavkheto -n '__fish_seen_subcommand_from check' -l pg-minor -x -d 'i
 complete -c lavkheto -n '__fish_seen_subcommand_from check' -l pg-patch -x -d 'its third part (default: 0)'
 complete -c lavkheto -n '__fish_seen_subcommand_from check' -l help -d 'this help, and the version'
 complete -c lavkheto -n '__fish_seen_subcommand_from check' -l version -d 'this help, and the version'
+complete -c lavkheto -n '__fish_seen_subcommand_from explain' -k -a "$__lavkheto_rules"
+complete -c lavkheto -n '__fish_seen_subcommand_from explain' -l help -d 'this help'
