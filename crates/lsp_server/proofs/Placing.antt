@@ -1,0 +1,53 @@
+-- Tokens, reports and faults are at places of their text.
+use Rattle.std.proofs.Common.{◌≡◌, ℕ, List, Option, None, Some, IfSome, All, subst, sym}
+use Rattle.std.proofs.lemmas.List.Elements.{All-weaker}
+use Rattle.std.specs.Str.{IsCharBoundary, IsUtf8}
+use Rattle.diag_report.specs.Places.{EditIn, EditsIn, RangeIn, ReportIn}
+use Rattle.law_fault_places.proofs.Places.{open_between, syntax_between}
+use Rattle.lint_base.specs.declared.edit.Edit.{Edit}
+use Rattle.lint_base.specs.declared.violation.Violation.{Violation}
+use Rattle.lint_base.specs.Fixes.{FixValue}
+use Rattle.lint_ignore.specs.Places.{IsPlace}
+use Rattle.lint_pass.specs.Laws.{AreEdits}
+use Rattle.lsp_shown.specs.Tokens.{TokenIn}
+use Rattle.sql_token.proofs.Boundaries.{token_between}
+use Rattle.sql_token.specs.declared.token.Tok.{Tok}
+use Rattle.sql_token.specs.Token.{Lexed, OpenAt, Text}
+use Rattle.sql_tree.specs.Statement.{IsSyntaxAt}
+use Rattle.squawk_linter.specs.Placed.{IsPlaced}
+use Rattle.text_pos.specs.Range.{Range}
+
+-- ---- tokens
+
+pub tokens_in : (t : Text) (toks : List Tok) → IsUtf8 t → Lexed t toks → All (TokenIn t) toks
+tokens_in t toks u lexed = λ i d below. let between = token_between t toks i d u lexed below in record { start = between.0; end = between.1 }
+
+-- a text and its tokens, which are those of a tree
+pub lexed_of : (t text : Text) (toks tokens : List Tok) → text ≡ t → tokens ≡ toks → Lexed t toks → Lexed text tokens
+lexed_of t text toks tokens e f lexed = subst (λ (x : Text). Lexed x tokens) (sym e) (subst (λ (ks : List Tok). Lexed t ks) (sym f) lexed)
+
+-- ---- reports
+
+range_in : (t : Text) (range : Range) → IsPlace t range → RangeIn t range
+range_in t range place = record { start = place.start; end = place.end }
+
+fix_in : (t : Text) (fix : Option FixValue) → IfSome fix (λ f. AreEdits t f.edits) → IfSome fix (EditsIn t)
+fix_in t None h = tt
+fix_in t (Some f) h = All-weaker (λ (e : Edit). IsPlace t e.text_range) (EditIn t) (λ e place. range_in t e.text_range place) f.edits h.places
+
+report_in : (t : Text) (v : Violation) → IsPlaced t v → ReportIn t v
+report_in t v placed = record { range = range_in t v.text_range placed.range; fix = fix_in t v.fix placed.edits }
+
+pub reports_in : (t : Text) (reports : List Violation) → All (IsPlaced t) reports → All (ReportIn t) reports
+reports_in t reports placed = All-weaker (IsPlaced t) (ReportIn t) (report_in t) reports placed
+
+pub reports_of : (t text : Text) (reports : List Violation) → text ≡ t → All (IsPlaced t) reports → All (ReportIn text) reports
+reports_of t text reports e placed = subst (λ (x : Text). All (ReportIn x) reports) (sym e) (reports_in t reports placed)
+
+-- ---- faults
+
+pub open_in : (t : Text) (at : ℕ) → OpenAt t at → IsCharBoundary t at
+open_in t at h = open_between t at h
+
+pub syntax_in : (t : Text) (at : ℕ) → IsUtf8 t → IsSyntaxAt t at → IsCharBoundary t at
+syntax_in t at u h = syntax_between t at u h

@@ -1,0 +1,9 @@
+use Rattle.std.proofs.Common.{subst}
+use Rattle.lsp_server.proofs.Placing.{syntax_in}
+use Rattle.sql_read.specs.Cause.{IsCause}
+use Rattle.sql_read.specs.declared.error.LintError.{LintError}
+use Rattle.lsp_server.proofs.text.refusal_of.Goals as goal
+
+pub position_of-requires-in-Syntax-clause-place : goal.position_of-requires-in-Syntax-clause-place
+position_of-requires-in-Syntax-clause-place c =
+    syntax_in c.args.text.now c.in-Syntax.at c.utf8.text (subst (λ (e : LintError). IsCause c.args.text.now e) c.in-Syntax.is c.requires)

@@ -1,0 +1,47 @@
+-- Which reports a text has for an editor.
+use Rattle.std.specs.Prelude.{◌≡◌, ◌⊎◌, ℕ, List, [], ◌∷◌, codes}
+use Rattle.lint_base.specs.RuleSets.{Rules}
+use Rattle.lint_base.specs.declared.settings.LinterSettings.{LinterSettings}
+use Rattle.lsp_report.specs.declared.report.Report.{Report}
+use Rattle.lsp_shown.specs.Shown.{refused_at, shown}
+use Rattle.lsp_shown.specs.Tokens.{long_tokens}
+use Rattle.sql_read.specs.Cause.{IsCause, IsTreeOf}
+use Rattle.sql_read.specs.declared.error.LintError.{LintError}
+use Rattle.sql_read.specs.declared.error.LintError.TheVariants.{TooLong, Unterminated, Syntax, NoMemory}
+use Rattle.sql_tree.specs.Statement.{Tree}
+use Rattle.squawk_linter.specs.Answers.{reports}
+use Rattle.text_utf16.specs.Position.{position_of}
+use Rattle.text_utf16.specs.declared.position.Pos.{Pos}
+
+-- a text with a tree, and the linter's reports of it at positions
+pub record Lints (rules : Rules) (settings : LinterSettings) (t : List ℕ) (found : List Report) : Type 0 where
+  pub tree : Tree
+  pub of_text : IsTreeOf t tree
+  pub are : found ≡ shown t (long_tokens t tree.toks) (reports tree rules settings)
+
+abbrev pub start : Pos
+start = record { line = 0; col = 0 }
+
+abbrev pub alone : List ℕ → Pos → List Report
+alone message at = refused_at message at ∷ []
+
+-- the one report of a text that is refused, at the place of the fault
+abbrev pub refusal_of : List ℕ → LintError → List Report
+refusal_of t TooLong = alone (codes "the text has 2^32 bytes or more") start
+refusal_of t (Unterminated at) = alone (codes "what begins here does not end") (position_of t at)
+refusal_of t (Syntax at) = alone (codes "the statement that begins here can't be read") (position_of t at)
+refusal_of t NoMemory = []
+
+-- a text that is refused, and the report of that
+pub record Refuses (t : List ℕ) (found : List Report) : Type 0 where
+  pub error : LintError
+  pub cause : IsCause t error
+  pub are : found ≡ refusal_of t error
+
+-- the reports of a text
+abbrev pub Shows : Rules → LinterSettings → List ℕ → List Report → Type 0
+Shows rules settings t found = Lints rules settings t found ⊎ Refuses t found
+
+-- the settings are as before, but for the flag
+abbrev pub SameButFlag : LinterSettings → LinterSettings → Type 0
+SameButFlag old new = record new { assume_in_transaction = old.assume_in_transaction } ≡ old

@@ -1,0 +1,24 @@
+//! The linter as what finds the reports of a text.
+ghost use Rattle.std.specs.Prelude.{◌≡◌};
+ghost use Rattle.lsp_server.specs.Shown.{Shows};
+
+use crate::text::check_text;
+use lsp_report::{Checker, Report};
+use squawk_linter::Linter;
+use std::alloc::Global;
+use text_pos::NoMemory;
+
+/// A linter that finds the reports of a text. No text changes it.
+#[derive(Drop)]
+pub struct Linting {
+    /// The linter.
+    pub linter: Linter,
+}
+
+impl Checker for Linting {
+    ghost shows = { λ linting t found. Shows linting.linter.rules linting.linter.settings t found };
+
+    fn check(&mut self, alloc: Global, text: &str) -> Result<Vec<Report>, NoMemory> {
+        check_text(alloc, &mut self.linter, text)
+    }
+}

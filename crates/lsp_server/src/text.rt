@@ -1,0 +1,120 @@
+//! The reports of a text.
+ghost use Rattle.std.specs.Prelude.{◌≡◌, ◌<◌, ◌^◌, ◌∷◌, [], All, IfErr, IfOk, length};
+ghost use Rattle.diag_report.specs.Places.{ReportIn};
+ghost use Rattle.lsp_server.specs.Shown as spec;
+ghost use Rattle.lsp_server.specs.Shown.{Lints, SameButFlag, Shows};
+ghost use Rattle.lsp_shown.specs.Shown.{shown};
+ghost use Rattle.lsp_shown.specs.Tokens.{long_tokens};
+ghost use Rattle.sql_read.specs.Cause.{IsCause};
+ghost use Rattle.sql_token.specs.Token.{Lexed};
+ghost use Rattle.std.specs.Str.{IsCharBoundary};
+ghost use Rattle.text_utf16.specs.Position.{position_of};
+
+use lint_base::Violation;
+use lsp_report::Report;
+use lsp_shown::{long_tokens, refused_at, shown};
+use sql_read::{LintError, parse};
+use sql_token::Tok;
+use sql_tree::Parse;
+use squawk_linter::Linter;
+use std::alloc::Global;
+use text_pos::{NoMemory, TextSize};
+use text_utf16::{Pos, PosIndex};
+
+// Reports of a text with these tokens, at positions.
+fn shown_of(
+    alloc: Global,
+    text: &str,
+    tokens: &[Tok],
+    reports: Vec<Violation>,
+) -> Result<Vec<Report>, NoMemory>
+    requires short { length text.now < 2 ^ 32 }
+    requires tokens { Lexed text.now tokens.now }
+    requires reports { All (ReportIn text.now) reports.items }
+    ensures { IfOk result (λ found. found.items ≡ shown text.now (long_tokens text.now tokens.now) reports.items) }
+{
+    let index = PosIndex::new(alloc, text)?;
+    let long = long_tokens(alloc, &index, tokens)?;
+    shown(alloc, &index, long.as_slice(), reports)
+}
+
+// The reports of a text that has a tree. The flag of the linter may be cleared.
+#[tactic(auto, using(crate::proofs::Settings::same_cleared))]
+fn lint_tree(alloc: Global, linter: &mut Linter, file: &Parse<'_>) -> Result<Vec<Report>, NoMemory>
+    ensures lints { IfOk result (λ found. Lints linter.old.rules linter.old.settings file.now.text found.items) }
+    ensures rules { linter.new.rules ≡ linter.old.rules }
+    ensures settings { SameButFlag linter.old.settings linter.new.settings }
+{
+    let text = file.text();
+    let tokens = file.tokens();
+    let reports = linter.lint(alloc, file)?;
+    shown_of(alloc, text, tokens, reports)
+}
+
+// The position of a place of a text.
+fn position_of(alloc: Global, text: &str, at: u32) -> Result<Pos, NoMemory>
+    requires short { length text.now < 2 ^ 32 }
+    requires place { IsCharBoundary text.now at }
+    ensures { IfOk result (λ pos. pos ≡ position_of text.now at) }
+{
+    let index = PosIndex::new(alloc, text)?;
+    Ok(index.pos(TextSize::new(at)))
+}
+
+// One report alone.
+fn alone(alloc: Global, message: &'static str, at: Pos) -> Result<Vec<Report>, NoMemory>
+    ensures { IfOk result (λ found. found.items ≡ spec.alone message.entry.now at) }
+{
+    let mut found = Vec::new(alloc);
+    found.push(refused_at(message, at))?;
+    Ok(found)
+}
+
+// The report of a text that is refused.
+#[tactic(auto, using(crate::proofs::Placing::open_in, crate::proofs::Placing::syntax_in))]
+fn refusal_of(alloc: Global, text: &str, error: LintError) -> Result<Vec<Report>, NoMemory>
+    requires { IsCause text.now error }
+    ensures { IfOk result (λ found. found.items ≡ spec.refusal_of text.now error) }
+{
+    match error {
+        LintError::TooLong => alone(
+            alloc,
+            "the text has 2^32 bytes or more",
+            Pos { line: 0, col: 0 },
+        ),
+        LintError::Unterminated { at } => {
+            let at = position_of(alloc, text, at)?;
+            alone(alloc, "what begins here does not end", at)
+        }
+        LintError::Syntax { at } => {
+            let at = position_of(alloc, text, at)?;
+            alone(alloc, "the statement that begins here can't be read", at)
+        }
+        LintError::NoMemory => Err(NoMemory),
+    }
+}
+
+// The reports of a text. The flag of the linter may be cleared.
+#[tactic(auto, using(crate::proofs::Settings::same_kept))]
+fn reports_of(alloc: Global, linter: &mut Linter, text: &str) -> Result<Vec<Report>, NoMemory>
+    ensures shows { IfOk result (λ found. Shows linter.old.rules linter.old.settings text.now found.items) }
+    ensures rules { linter.new.rules ≡ linter.old.rules }
+    ensures settings { SameButFlag linter.old.settings linter.new.settings }
+{
+    match parse(alloc, text) {
+        Ok(file) => lint_tree(alloc, linter, &file),
+        Err(error) => refusal_of(alloc, text, error),
+    }
+}
+
+/// The reports of a text: those of the linter, which is left as it was, or one where the text is refused. The error comes when memory runs
+/// out.
+pub fn check_text(alloc: Global, linter: &mut Linter, text: &str) -> Result<Vec<Report>, NoMemory>
+    ensures shows { IfOk result (λ found. Shows linter.old.rules linter.old.settings text.now found.items) }
+    ensures same { linter.new ≡ linter.old }
+{
+    let assumed = linter.settings.assume_in_transaction;
+    let found = reports_of(alloc, linter, text);
+    linter.settings.assume_in_transaction = assumed;
+    found
+}
