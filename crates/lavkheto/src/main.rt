@@ -1,9 +1,9 @@
-//! The program for people and CI: `lavkheto check migrations`, `lavkheto explain RULE`.
+//! The program for people, editors and CI: `lavkheto check migrations`, `lavkheto explain RULE`, `lavkheto server`.
 #![tactic(auto)]
 
 use file_store::SystemFiles;
 use squawk_run::{say_stop, take_words};
-use squawk_stream::{Sink, StdSink, StdSource};
+use squawk_stream::{StdSink, StdSource};
 use squawk_words::Words;
 use std::io::IsTerminal;
 use std::process::ExitCode;
@@ -13,42 +13,68 @@ fn is_painted(rt: &HostRuntime) -> bool {
     rt.stdout().is_terminal() && std::env::var(rt, "NO_COLOR").is_err()
 }
 
-// Whether the first word is this one.
-fn is_first(words: &Words, name: &str) -> bool {
-    if words.is_empty() {
-        return false;
-    }
-    words.get(0) == name
-}
-
-// A run of `explain`.
-fn explain<K: Sink, E: Sink>(rt: &HostRuntime, words: &Words, out: &mut K, err: &mut E) -> u8 {
-    match explain_command::run(rt.alloc(), words, out, err) {
-        Ok(()) => 0,
-        Err(failure) => failure.code(),
-    }
-}
-
-// A run of `check`, and of all words that name no other command.
-fn check<K: Sink, E: Sink>(rt: &HostRuntime, words: &Words, out: &mut K, err: &mut E) -> u8 {
+// A run of `check`. The exit status.
+fn check(rt: &HostRuntime, words: &Words) -> u8 {
     let mut files = SystemFiles::new(rt);
     let mut src = StdSource::new(rt.stdin());
+    let mut out = StdSink::new(rt.stdout());
+    let mut err = StdSink::new(rt.stderr());
     let painted = is_painted(rt);
-    let done = check_command::run(rt.alloc(), words, painted, &mut files, &mut src, out, err);
+    let done = check_command::run(
+        rt.alloc(),
+        words,
+        painted,
+        &mut files,
+        &mut src,
+        &mut out,
+        &mut err,
+    );
     match done {
         Ok(status) => status.code(),
         Err(failure) => failure.code(),
     }
 }
 
-fn main(rt: HostRuntime) -> ExitCode {
+// A run of `explain`. The exit status.
+fn explain(rt: &HostRuntime, words: &Words) -> u8 {
     let mut out = StdSink::new(rt.stdout());
     let mut err = StdSink::new(rt.stderr());
+    match explain_command::run(rt.alloc(), words, &mut out, &mut err) {
+        Ok(()) => 0,
+        Err(failure) => failure.code(),
+    }
+}
+
+// A run of `server`. The exit status.
+fn serve(rt: &HostRuntime, words: &Words) -> u8 {
+    let mut files = SystemFiles::new(rt);
+    let mut src = StdSource::new(rt.stdin());
+    let mut out = StdSink::new(rt.stdout());
+    let mut err = StdSink::new(rt.stderr());
+    let outcome = server_command::run(rt.alloc(), words, &mut files, &mut src, &mut out, &mut err);
+    outcome.code()
+}
+
+// The first word, which names a command.
+fn first(words: &Words) -> &str {
+    if words.is_empty() { "" } else { words.get(0) }
+}
+
+// A run of the command that the words name; `check` says what is wrong where they name none. The exit status.
+fn run_words(rt: &HostRuntime, words: &Words) -> u8 {
+    match first(words) {
+        "explain" => explain(rt, words),
+        "server" => serve(rt, words),
+        _ => check(rt, words),
+    }
+}
+
+fn main(rt: HostRuntime) -> ExitCode {
     let mut words = Words::new(rt.alloc());
     let code = match take_words(&rt, &mut words) {
-        Ok(()) if is_first(&words, "explain") => explain(&rt, &words, &mut out, &mut err),
-        Ok(()) => check(&rt, &words, &mut out, &mut err),
+        Ok(()) => run_words(&rt, &words),
         Err(stop) => {
+            let mut err = StdSink::new(rt.stderr());
             say_stop(&mut err, stop);
             stop.code()
         }

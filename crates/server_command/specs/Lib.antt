@@ -1,0 +1,4 @@
+pub mod Asked
+pub mod Outcomes
+pub mod Settled
+pub mod Command

@@ -1,0 +1,107 @@
+//! The run of the program, over any files, source and sinks.
+ghost use Rattle.std.specs.Prelude.{◌≡◌, drop};
+ghost use Rattle.std.specs.Io.KnownBytes.{Appends};
+ghost use Rattle.server_command.specs.Asked.{asks_for_help};
+ghost use Rattle.server_command.specs.Command.{HasHelped, HasRun, HasRunFor};
+ghost use Rattle.server_command.specs.Outcomes.{line_of};
+ghost use Rattle.squawk_stream.specs.Faults.{Rose};
+ghost use Rattle.squawk_stream.specs.Parts.{AppendsPart};
+
+use crate::asked::asks_for_help;
+use crate::help::HELP;
+use crate::outcome::{Failure, Outcome};
+use crate::settled::settled;
+use file_store::FileStore;
+use lsp_serve::serve;
+use squawk_run::Stop;
+use squawk_stream::{Sink, Source, write_all};
+use squawk_words::Words;
+use std::alloc::Global;
+
+// Writes the help.
+fn write_help<K: Sink>(out: &mut K) -> Outcome
+    ensures { HasHelped HELP.now (K.held out.old) (K.held out.new) (K.faults out.old) (K.faults out.new) result }
+{
+    match write_all(out, HELP.as_bytes()) {
+        Ok(()) => Outcome::Printed,
+        Err(_) => Outcome::Failed(Failure::Stop(Stop::WriteFault)),
+    }
+}
+
+// Serves with the linter that the words choose.
+fn serve_words<F: FileStore, S: Source, K: Sink>(
+    alloc: Global,
+    words: &Words,
+    files: &mut F,
+    src: &mut S,
+    out: &mut K,
+) -> Outcome
+    ensures { HasRunFor (drop 1 words.now)
+        (record {
+          content = F.content files.old;
+          files_before = F.faults files.old;
+          files_now = F.faults files.new;
+          input = S.left src.old;
+          old = record { read_faults = S.faults src.old; held = K.held out.old; write_faults = K.faults out.old };
+          new = record { read_faults = S.faults src.new; held = K.held out.new; write_faults = K.faults out.new };
+        })
+        result }
+{
+    match settled(alloc, words, files) {
+        Ok(linting) => Outcome::Served(serve(alloc, linting, src, out)),
+        Err(failure) => Outcome::Failed(failure),
+    }
+}
+
+// All of a run but the line on the error sink.
+fn work<F: FileStore, S: Source, K: Sink>(
+    alloc: Global,
+    words: &Words,
+    files: &mut F,
+    src: &mut S,
+    out: &mut K,
+) -> Outcome
+    ensures { HasRun (asks_for_help words.now) HELP.now (drop 1 words.now)
+        (record {
+          content = F.content files.old;
+          files_before = F.faults files.old;
+          files_now = F.faults files.new;
+          input = S.left src.old;
+          old = record { read_faults = S.faults src.old; held = K.held out.old; write_faults = K.faults out.old };
+          new = record { read_faults = S.faults src.new; held = K.held out.new; write_faults = K.faults out.new };
+        })
+        result }
+{
+    match asks_for_help(words) {
+        true => write_help(out),
+        false => serve_words(alloc, words, files, src, out),
+    }
+}
+
+/// Does what the words after the program's name ask for, where the first one is `server`: serves from `src` to `out`, or prints to `out`.
+/// Why it ended goes to `err` where it did not end in good order, and a failure there changes nothing else.
+pub fn run<F: FileStore, S: Source, K: Sink, E: Sink>(
+    alloc: Global,
+    words: &Words,
+    files: &mut F,
+    src: &mut S,
+    out: &mut K,
+    err: &mut E,
+) -> Outcome
+    ensures run { HasRun (asks_for_help words.now) HELP.now (drop 1 words.now)
+        (record {
+          content = F.content files.old;
+          files_before = F.faults files.old;
+          files_now = F.faults files.new;
+          input = S.left src.old;
+          old = record { read_faults = S.faults src.old; held = K.held out.old; write_faults = K.faults out.old };
+          new = record { read_faults = S.faults src.new; held = K.held out.new; write_faults = K.faults out.new };
+        })
+        result }
+    ensures line { AppendsPart (E.held err.old) (E.held err.new) (line_of result) }
+    ensures whole_line { ¬ (Rose (E.faults err.old) (E.faults err.new)) → Appends (E.held err.old) (E.held err.new) (line_of result) }
+{
+    let outcome = work(alloc, words, files, src, out);
+    let _ = write_all(err, outcome.line());
+    outcome
+}
