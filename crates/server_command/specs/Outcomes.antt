@@ -18,11 +18,13 @@ abbrev pub failure_line : Failure → List ℕ
 failure_line (Stop why) = stops.line_of why
 failure_line (Config line) = line.items
 
+-- the exit status of an outcome
 abbrev pub code_of : Outcome → ℕ
 code_of Printed = 0
 code_of (Served end) = ends.code_of end
 code_of (Failed failure) = failure_code failure
 
+-- the line of an outcome on the error sink
 abbrev pub line_of : Outcome → List ℕ
 line_of Printed = []
 line_of (Served end) = ends.line_of end
