@@ -1,5 +1,5 @@
 -- What a run does that words ask for.
-use Rattle.std.specs.Prelude.{◌≡◌, ℕ, Bool, true, false, List, None, Option, ⊤}
+use Rattle.std.specs.Prelude.{ℕ, Bool, true, false, List, None, Option}
 use Rattle.std.specs.Io.KnownBytes.{Appends, Keeps}
 use Rattle.config_file.specs.Loaded.{IsRefusedFor}
 use Rattle.file_store.specs.Contents.{Content}
