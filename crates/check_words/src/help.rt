@@ -8,6 +8,7 @@ pub const HELP: &str = "Lints migrations of PostgreSQL. Its answers are theorems
 
 Usage: lavkheto check [OPTIONS] [FILES]..
        lavkheto explain [RULE]           what a rule reports, why, its lock, and what to write instead
+       lavkheto server [OPTIONS]         a language server over standard input and output
 
 FILES are files, and folders for all *.sql files in them. Without FILES, or with - alone, standard input is checked.
 

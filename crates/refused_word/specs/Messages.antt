@@ -7,9 +7,9 @@ use Rattle.check_words.specs.declared.names.Choice.TheVariants as choice
 use Rattle.check_words.specs.Names.{flag_name, name_of}
 use Rattle.lint_base.specs.declared.rule.Rule.{Rule}
 use Rattle.lint_base.specs.Rules as rules
+use Rattle.nearest_rule.specs.Nearest.{near_rule}
 use Rattle.source_file.specs.Shown.{shown}
 use Rattle.squawk_words.specs.Words.{Text}
-use Rattle.refused_word.specs.Nearest.{nearest}
 
 -- of a word that there isn't
 abbrev pub help_hint : Text
@@ -44,7 +44,7 @@ message_of (UnknownWord word) = unknown_word (codes "unknown word: ") word
 message_of (MissingValue c) = of_choice c (codes "its value is missing")
 message_of (TakesNoValue flag) = of_flag (flag_name flag) (codes "it takes no value")
 message_of (UnknownValue c value) = of_choice c (codes "unknown value: " ++ value ++ values_of c)
-message_of (UnknownRule c name) = of_choice c (codes "unknown rule: " ++ name ++ suggestion_by (nearest name))
+message_of (UnknownRule c name) = of_choice c (codes "unknown rule: " ++ name ++ suggestion_by (near_rule 3 name))
 message_of (EmptyName c) = of_choice c (codes "an empty name")
 message_of (NotNumber c value) = of_choice c (codes "not a number from 0 to 2147483647: " ++ value)
 message_of (Twice c) = of_choice c (codes "it is given twice")

@@ -2,9 +2,9 @@
 ghost use Rattle.std.specs.Prelude.{◌≡◌, ◌++◌, IfOk, string_bytes};
 ghost use Rattle.refused_word.specs.Messages.{message_of, of_choice, of_flag, suggestion_by, unknown_word, values_of};
 
-use crate::nearest::nearest;
 use check_words::{Choice, Flag, WordFault};
 use lint_base::Rule;
+use nearest_rule::near_rule;
 use std::alloc::{AllocError, Global};
 use text_pos::NoMemory;
 
@@ -80,7 +80,7 @@ fn suggestion_by(alloc: Global, rule: Option<Rule>) -> Result<String, AllocError
 fn unknown_rule(alloc: Global, choice: Choice, name: &str) -> Result<String, NoMemory>
     ensures { IfOk result (λ text. string_bytes text ≡ message_of (WordFault.UnknownRule choice name.now)) }
 {
-    let rule = nearest(alloc, name)?;
+    let rule = near_rule(alloc, name, 3)?;
     let rest = suggestion_by(alloc, rule)?;
     let text = of_value(alloc, choice, "unknown rule: ", name, rest.as_str())?;
     Ok(text)
