@@ -12,6 +12,7 @@ mod read;
 
 use case_format::{Answer, Fault};
 use check_command::run;
+use check_progress::Meter;
 pub use files::CaseFiles;
 pub use read::read_files;
 use squawk_stream::{MemSink, SliceSource};
@@ -44,8 +45,16 @@ pub fn checked(alloc: Global, words: &[String], text: &[u8]) -> Result<Answer, F
     let mut src = SliceSource::new(input.as_slice());
     let mut out = MemSink::new(alloc, ROOM, &[])?;
     let mut err = MemSink::new(alloc, ROOM, &[])?;
+    let mut progress = Meter::new(alloc, MemSink::new(alloc, 0, &[])?, false);
     let code = match run(
-        alloc, &words, false, &mut files, &mut src, &mut out, &mut err,
+        alloc,
+        &words,
+        false,
+        &mut files,
+        &mut src,
+        &mut out,
+        &mut err,
+        &mut progress,
     ) {
         Ok(status) => status.code(),
         Err(stop) => stop.code(),

@@ -1,7 +1,7 @@
 -- Which reports a baseline knows, and what is left of files without them.
-use Rattle.std.specs.Prelude.{◌≡◌, ℕ, ◌==◌, Bool, not, List, filter, slice_range}
+use Rattle.std.specs.Prelude.{◌≡◌, ℕ, ◌+◌, ◌==◌, ◌&&◌, ◌||◌, Bool, not, List, [], ◌∷◌, Option, Some, None, codes, filter, if◌then◌else◌, length, nat_eq, nat_le, slice_range, ⊤}
 use Rattle.std.specs.HashSet.{contains_text}
-use Rattle.std.specs.List.{before_first, list_any, slice_split}
+use Rattle.std.specs.List.{before_first, list_all, list_any, slice_split, starts_with}
 use Rattle.std.specs.Str.{bytes_eq}
 use Rattle.checked_file.specs.declared.answer.Answer.{Answer}
 use Rattle.checked_file.specs.declared.answer.Answer.TheVariants.{Reports, Refused}
@@ -11,6 +11,8 @@ use Rattle.lint_base.specs.declared.violation.Violation.{Violation}
 use Rattle.lint_base.specs.Rules.{name_of}
 use Rattle.report_gitlab.specs.Issues.{fingerprint}
 use Rattle.check_baseline.specs.declared.baseline.Baseline.{Baseline}
+use Rattle.check_baseline.specs.declared.baseline.BaselineError.{BaselineError}
+use Rattle.check_baseline.specs.declared.baseline.BaselineError.TheVariants.{Line, NoMemory}
 
 abbrev pub Text : Type 0
 Text = List ℕ
@@ -29,9 +31,40 @@ lines_of text = slice_split (λ b. b == 10) text
 abbrev pub is_first_word : Text → Text → Bool
 is_first_word text word = list_any (λ line. bytes_eq (first_word line) word) (lines_of text)
 
+-- a digit of base 16, as fingerprints have them
+abbrev pub is_digit : ℕ → Bool
+is_digit byte = (nat_le 48 byte && nat_le byte 57) || (nat_le 97 byte && nat_le byte 102)
+
+-- a SHA-256 in base 16
+abbrev pub is_fingerprint : Text → Bool
+is_fingerprint word = length word == 64 && list_all is_digit word
+
+-- an empty line, a comment, or a line that begins with a fingerprint
+abbrev pub is_line : Text → Bool
+is_line line = length line == 0 || starts_with nat_eq line (codes "#") || is_fingerprint (first_word line)
+
+-- the number of the first line that is none of these, where the first of the lines has this number
+unfoldable pub bad_line_from : ℕ → List Text → Option ℕ
+bad_line_from n [] = None
+bad_line_from n (line ∷ lines) = if not (is_line line) then Some n else bad_line_from (n + 1) lines
+
+-- the number of the first line of a text that is none of a baseline, counted from 1
+abbrev pub bad_line : Text → Option ℕ
+bad_line text = bad_line_from 1 (lines_of text)
+
 -- a fingerprint is among those of a baseline
 abbrev pub knows : Baseline → Text → Bool
 knows baseline print = contains_text baseline.fingerprints print
+
+-- All lines of a text are those of a baseline, and it knows the fingerprints that lines begin with.
+pub record IsBaselineOf (text : Text) (baseline : Baseline) : Type 0 where
+  pub well_formed : bad_line text ≡ None
+  pub known : (print : Text) → knows baseline print ≡ is_first_word text print
+
+-- why a text is no baseline: the number of its first line that is none of one
+abbrev pub IsNoBaseline : Text → BaselineError → Type 0
+IsNoBaseline text (Line number) = bad_line text ≡ Some number
+IsNoBaseline text NoMemory = ⊤
 
 -- ---- reports
 

@@ -1,5 +1,5 @@
 -- The baseline that knows all reports of some files.
-use Rattle.std.specs.Prelude.{ℕ, List, [], ◌++◌, codes}
+use Rattle.std.specs.Prelude.{ℕ, List, ◌++◌, codes}
 use Rattle.std.specs.List.{flat_map}
 use Rattle.checked_file.specs.declared.answer.Answer.{Answer}
 use Rattle.checked_file.specs.declared.answer.Answer.TheVariants.{Reports, Refused}
@@ -7,6 +7,8 @@ use Rattle.checked_file.specs.declared.checked.Checked.{Checked}
 use Rattle.checked_file.specs.Files.{readable_of}
 use Rattle.lint_base.specs.declared.violation.Violation.{Violation}
 use Rattle.lint_base.specs.Rules.{name_of}
+use Rattle.source_file.specs.declared.refusal.Refusal.{Refusal}
+use Rattle.source_file.specs.Refusals.{message_of}
 use Rattle.source_file.specs.Shown.{shown}
 use Rattle.check_baseline.specs.Known.{Text, fingerprint_of}
 
@@ -18,10 +20,17 @@ heading = codes "# Reports that lavkheto lets pass: fingerprint, rule, file. Wri
 unfoldable pub report_line : Text → Text → Violation → Text
 report_line name text v = fingerprint_of name text v ++ codes " " ++ name_of v.code ++ codes " " ++ shown name ++ codes "\n"
 
--- the lines of an answer; a refusal has none
+unfoldable pub refusal_mark : Text
+refusal_mark = codes "# not linted: "
+
+-- the comment on a file that could not be linted, for people
+unfoldable pub refusal_line : Text → Refusal → Text
+refusal_line name r = refusal_mark ++ shown name ++ codes ": " ++ message_of r ++ codes "\n"
+
+-- the lines of an answer
 abbrev pub answer_lines : Text → Text → Answer → Text
 answer_lines name text (Reports reports) = flat_map (report_line name text) reports.items
-answer_lines name text (Refused r) = []
+answer_lines name text (Refused r) = refusal_line name r
 
 unfoldable pub file_lines : Checked → Text
 file_lines file = answer_lines file.name (readable_of file.bytes.items) file.answer

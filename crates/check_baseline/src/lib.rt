@@ -9,6 +9,6 @@ mod baseline;
 mod known;
 mod lines;
 
-pub use baseline::Baseline;
+pub use baseline::{Baseline, BaselineError};
 pub use known::without_known;
 pub use lines::written;

@@ -3,12 +3,12 @@ ghost use Rattle.std.specs.Prelude.{◌≡◌, ◌++◌, All, IfOk, OnOk, [], st
 ghost use Rattle.std.specs.List.{flat_map};
 ghost use Rattle.checked_file.specs.Sound.{IsIn, IsSound};
 ghost use Rattle.source_file.specs.File.{IsRangeIn};
-ghost use Rattle.check_baseline.specs.Written.{answer_lines, file_lines, heading, report_line, written};
+ghost use Rattle.check_baseline.specs.Written.{answer_lines, file_lines, heading, refusal_line, refusal_mark, report_line, written};
 
 use crate::known::print_of;
 use checked_file::{Answer, Checked, readable};
 use lint_base::Violation;
-use source_file::push_shown;
+use source_file::{Refusal, push_shown};
 use std::alloc::Global;
 use text_pos::NoMemory;
 
@@ -55,6 +55,28 @@ fn push_lines(
     Ok(())
 }
 
+// Adds what comes before the name of a file that could not be linted.
+#[tactic(auto, unfolding(crate::specs::Written::refusal_mark))]
+fn push_refusal_mark(to: &mut Vec<u8>) -> Result<(), NoMemory>
+    ensures { OnOk result (to.new.items ≡ to.old.items ++ refusal_mark) }
+{
+    to.extend_from_slice(b"# not linted: ")?;
+    Ok(())
+}
+
+// Adds the comment on a file that could not be linted.
+#[tactic(auto, unfolding(crate::specs::Written::refusal_line), using(std::proofs::lemmas::List::append_assoc))]
+fn push_refusal(to: &mut Vec<u8>, name: &str, refusal: &Refusal) -> Result<(), NoMemory>
+    ensures { OnOk result (to.new.items ≡ to.old.items ++ refusal_line name.now refusal.now) }
+{
+    push_refusal_mark(to)?;
+    push_shown(to, name.as_bytes())?;
+    to.extend_from_slice(b": ")?;
+    to.extend_from_slice(refusal.message().as_bytes())?;
+    to.push(b'\n')?;
+    Ok(())
+}
+
 // Adds the lines of an answer.
 fn push_answer(
     to: &mut Vec<u8>,
@@ -68,7 +90,7 @@ fn push_answer(
 {
     match answer {
         Answer::Reports(reports) => push_lines(to, alloc, name, text, reports.as_slice()),
-        Answer::Refused(_) => Ok(()),
+        Answer::Refused(refusal) => push_refusal(to, name, refusal),
     }
 }
 
@@ -93,8 +115,8 @@ fn push_files(to: &mut Vec<u8>, alloc: Global, files: &[Checked]) -> Result<(), 
     Ok(())
 }
 
-/// The text of the baseline that knows all reports of some files: a comment, and then a line for each report. The error comes when memory
-/// runs out.
+/// The text of the baseline that knows all reports of some files: a comment, and then a line for each report, or a comment on the file
+/// where it could not be linted. The error comes when memory runs out.
 pub fn written(alloc: Global, files: &[Checked]) -> Result<Vec<u8>, NoMemory>
     requires { All IsSound files.now }
     ensures { IfOk result (λ text. text.items ≡ written files.now) }

@@ -1,25 +1,26 @@
 -- From a run over files to what a run does that the words ask for.
-use Rattle.std.proofs.Common.{◌≡◌, ◌≤◌, subst, refl, sym, ℕ, Bool, List, Option, Some, Result, Ok, Err, IfOk, IfErr}
+use Rattle.std.proofs.Common.{◌≡◌, ◌≤◌, ap, refl, subst, sym, ℕ, Bool, List, Option, Some, None, Result, Ok, Err, IfOk, IfErr}
+use Rattle.baseline_file.specs.Leaving.{Leaves}
 use Rattle.check_command.specs.declared.failure.Failure.{Failure}
 use Rattle.check_command.specs.declared.failure.Failure.TheVariants as failure
 use Rattle.check_command.specs.Choosing.{IsChosenBy, IsUnchosen}
-use Rattle.check_command.specs.Command.{DoneFor, HasChecked, HasRefused, StoppedFor, answers_by, ended_by, judge_by, status_by, style_of}
-use Rattle.check_command.specs.Failures.{failure_of}
-use Rattle.check_config.specs.declared.config.Config.{Config}
+use Rattle.check_command.specs.Command.{AreLeftAnswers, DoneFor, HasChecked, StoppedFor, answers_by, ended_by, fails_on, judge_by, printed_by, printed_for, status_by, style_of}
+use Rattle.check_command.specs.Failures.{IsWordFailure, failure_of}
 use Rattle.check_print.specs.declared.style.Style.{Style}
-use Rattle.check_print.specs.Printed.{printed}
 use Rattle.check_run.specs.Checks.{Answers}
-use Rattle.check_run.specs.Runs.{AreAnswers, Devices, HasRun, HasStopped, HasWrittenPart}
+use Rattle.check_run.specs.Runs.{AreAnswers, AreLeft, Devices, HasRun, HasStopped, HasWrittenPart}
 use Rattle.check_run.proofs.Moved.{answers_moved}
+use Rattle.check_setup.specs.declared.setup.Setup.{Setup}
+use Rattle.check_setup.specs.SetUp.{IsRefusedSetup, IsSetUp}
 use Rattle.check_words.specs.declared.asked.Asked.{Asked}
-use Rattle.check_words.specs.declared.asked.Asked.TheVariants.{Check}
+use Rattle.check_words.specs.declared.asked.Asked.TheVariants.{Check, Refused}
+use Rattle.check_words.specs.declared.fault.WordFault.{WordFault}
 use Rattle.check_words.specs.declared.request.FailOn.{FailOn}
 use Rattle.check_words.specs.declared.request.Request.{Request}
 use Rattle.checked_file.specs.declared.checked.Checked.{Checked}
 use Rattle.checked_file.specs.declared.status.Status.{Status}
 use Rattle.config_file.specs.declared.error.LoadError.{LoadError}
 use Rattle.config_file.specs.declared.error.LoadError.TheVariants as load
-use Rattle.config_file.specs.Loaded.{IsLoaded, IsRefusedLoad}
 use Rattle.file_answer.specs.declared.linter.FileLinter.{FileLinter}
 use Rattle.file_answer.specs.Answers.{IsAnswerOf}
 use Rattle.file_store.specs.Contents.{Content, KeepsContents}
@@ -52,27 +53,42 @@ part_weaker : (Are Be : List Checked → Type 0) (printed : List Checked → Lis
     → HasWrittenPart Are printed old new before now → HasWrittenPart Be printed old new before now
 part_weaker Are Be printed old new before now f h = record { files = h.files; are = f h.files h.are; part = h.part; cause = h.cause }
 
--- A run over files, after the configuration was read from them.
+left_weaker : (Are Be : List Checked → Type 0) (leaves : List Checked → List Checked → Type 0) (left : List Checked) → ((files : List Checked) → Are files → Be files) → AreLeft Are leaves left
+    → AreLeft Be leaves left
+left_weaker Are Be leaves left f h = record { files = h.files; are = f h.files h.are; sifted = h.sifted }
+
+-- what is left of answers over files that hold what they held earlier
+left_moved : (choices : Choices) (setup : Setup) (content now : Text → Content) (before first last : ℕ) (left : Option (List ℕ)) (input input_now : ℕ) (request : Request) (files : List Checked)
+    → KeepsContents content now → before ≤ first → AreLeftAnswers choices setup (devices now first last left input input_now) request files
+    → AreLeftAnswers choices setup (devices content before last left input input_now) request files
+left_moved choices setup content now before first last left input input_now request files kept later h =
+    let patterns = setup.config.excluded_paths in
+    left_weaker (AreAnswers (answers_by choices) (devices now first last left input input_now) patterns request)
+    (AreAnswers (answers_by choices) (devices content before last left input input_now) patterns request) (Leaves setup.sieve.baseline) files
+    (λ fs are. answers_moved (answers_by choices) content now before first last left input input_now patterns request fs kept later are) h
+
+-- A run over files, after the configuration and the baseline were read from them.
 pub has_checked : (request : Request) (painted : Bool) (content now : Text → Content) (before first last : ℕ) (left : Option (List ℕ)) (input input_now : ℕ) (old new : Option (List ℕ)) (greatest : Status)
-    (config : Config) (choices : Choices) (judge : FileLinter) (style : Style) → IsLoaded content request.config config → KeepsContents content now → before ≤ first
-    → IsChosenBy config request.linter choices → judge ≡ judge_by choices → style ≡ style_of request painted
-    → HasRun (AreAnswers (answers_of judge) (devices now first last left input input_now) config.excluded_paths request) (printed style) old new greatest
-    → HasChecked request painted (devices content before last left input input_now) old new (status_by request.fail_on greatest)
-has_checked request painted content now before first last left input input_now old new greatest config choices judge style loaded kept later chosen by in_style ran =
+    (setup : Setup) (choices : Choices) (judge : FileLinter) (style : Style) (fails : FailOn) → IsSetUp content request setup → KeepsContents content now → before ≤ first
+    → IsChosenBy setup.config request.linter choices → judge ≡ judge_by choices → style ≡ style_of request painted → fails ≡ fails_on request
+    → HasRun (AreLeft (AreAnswers (answers_of judge) (devices now first last left input input_now) setup.config.excluded_paths request) (Leaves setup.sieve.baseline))
+    (printed_by request.write_baseline style) old new greatest
+    → HasChecked request painted (devices content before last left input input_now) old new (status_by fails greatest)
+has_checked request painted content now before first last left input input_now old new greatest setup choices judge style fails set_up kept later chosen by in_style in_fails ran =
     let d = devices now first last left input input_now in
-    let patterns = config.excluded_paths in
-    let run = subst (λ (s : Style). HasRun (AreAnswers (answers_by choices) d patterns request) (printed s) old new greatest) in_style
-    (subst (λ (j : FileLinter). HasRun (AreAnswers (answers_of j) d patterns request) (printed style) old new greatest) by ran) in
+    let patterns = setup.config.excluded_paths in
+    let leaves = Leaves setup.sieve.baseline in
+    let run = subst (λ (s : Style). HasRun (AreLeft (AreAnswers (answers_by choices) d patterns request) leaves) (printed_by request.write_baseline s) old new greatest) in_style
+    (subst (λ (j : FileLinter). HasRun (AreLeft (AreAnswers (answers_of j) d patterns request) leaves) (printed_by request.write_baseline style) old new greatest) by ran) in
     record {
-      config = config;
-      loaded = loaded;
+      setup = setup;
+      set_up = set_up;
       choices = choices;
       chosen = chosen;
       greatest = greatest;
-      run = run_weaker (AreAnswers (answers_by choices) d patterns request) (AreAnswers (answers_by choices) (devices content before last left input input_now) patterns request)
-          (printed (style_of request painted)) old new greatest
-          (λ files are. answers_moved (answers_by choices) content now before first last left input input_now patterns request files kept later are) run;
-      ended = refl;
+      run = run_weaker (AreLeftAnswers choices setup d request) (AreLeftAnswers choices setup (devices content before last left input input_now) request)
+          (printed_for request painted) old new greatest (λ files h. left_moved choices setup content now before first last left input input_now request files kept later h) run;
+      ended = ap (λ (f : FailOn). status_by f greatest) in_fails;
     }
 
 -- what an end says of the greatest status, and what it says of the status
@@ -87,47 +103,68 @@ ended_err fails (Ok s) result P Q e f h = rw e h
 ended_err fails (Err stop) result P Q e f h = rw e (f stop h)
 
 pub has_stopped : (request : Request) (help version : List ℕ) (painted : Bool) (content now : Text → Content) (before first last : ℕ) (left : Option (List ℕ)) (input input_now : ℕ) (old new : Option (List ℕ))
-    (out_before out_now : ℕ) (stop : Stop) (config : Config) (choices : Choices) (judge : FileLinter) (style : Style) → IsLoaded content request.config config → KeepsContents content now → before ≤ first
-    → IsChosenBy config request.linter choices → judge ≡ judge_by choices → style ≡ style_of request painted
-    → HasStopped (AreAnswers (answers_of judge) (devices now first last left input input_now) config.excluded_paths request) (printed style) old new out_before out_now stop
+    (out_before out_now : ℕ) (stop : Stop) (setup : Setup) (choices : Choices) (judge : FileLinter) (style : Style) → IsSetUp content request setup → KeepsContents content now → before ≤ first
+    → IsChosenBy setup.config request.linter choices → judge ≡ judge_by choices → style ≡ style_of request painted
+    → HasStopped (AreLeft (AreAnswers (answers_of judge) (devices now first last left input input_now) setup.config.excluded_paths request) (Leaves setup.sieve.baseline))
+    (printed_by request.write_baseline style) old new out_before out_now stop
     → StoppedFor (Check request) help version painted (devices content before last left input input_now) old new out_before out_now (failure.Stop stop)
-has_stopped request help version painted content now before first last left input input_now old new out_before out_now BadArguments config choices judge style loaded kept later chosen by in_style h = absurd h
-has_stopped request help version painted content now before first last left input input_now old new out_before out_now NotUtf8 config choices judge style loaded kept later chosen by in_style h = h
-has_stopped request help version painted content now before first last left input input_now old new out_before out_now TooLong config choices judge style loaded kept later chosen by in_style h = h
-has_stopped request help version painted content now before first last left input input_now old new out_before out_now ReadFault config choices judge style loaded kept later chosen by in_style h = h
-has_stopped request help version painted content now before first last left input input_now old new out_before out_now NoMemory config choices judge style loaded kept later chosen by in_style h = h
-has_stopped request help version painted content now before first last left input input_now old new out_before out_now WriteFault config choices judge style loaded kept later chosen by in_style h =
+has_stopped request help version painted content now before first last left input input_now old new out_before out_now BadArguments setup choices judge style set_up kept later chosen by in_style h = absurd h
+has_stopped request help version painted content now before first last left input input_now old new out_before out_now NotUtf8 setup choices judge style set_up kept later chosen by in_style h = h
+has_stopped request help version painted content now before first last left input input_now old new out_before out_now TooLong setup choices judge style set_up kept later chosen by in_style h = h
+has_stopped request help version painted content now before first last left input input_now old new out_before out_now ReadFault setup choices judge style set_up kept later chosen by in_style h = h
+has_stopped request help version painted content now before first last left input input_now old new out_before out_now NoMemory setup choices judge style set_up kept later chosen by in_style h = h
+has_stopped request help version painted content now before first last left input input_now old new out_before out_now WriteFault setup choices judge style set_up kept later chosen by in_style h =
     let d = devices now first last left input input_now in
-    let patterns = config.excluded_paths in
-    let part = subst (λ (s : Style). HasStopped (AreAnswers (answers_by choices) d patterns request) (printed s) old new out_before out_now WriteFault) in_style
-    (subst (λ (j : FileLinter). HasStopped (AreAnswers (answers_of j) d patterns request) (printed style) old new out_before out_now WriteFault) by h) in
+    let patterns = setup.config.excluded_paths in
+    let leaves = Leaves setup.sieve.baseline in
+    let part = subst (λ (s : Style). HasStopped (AreLeft (AreAnswers (answers_by choices) d patterns request) leaves) (printed_by request.write_baseline s) old new out_before out_now WriteFault) in_style
+    (subst (λ (j : FileLinter). HasStopped (AreLeft (AreAnswers (answers_of j) d patterns request) leaves) (printed_by request.write_baseline style) old new out_before out_now WriteFault) by h) in
     record {
-      config = config;
-      loaded = loaded;
+      setup = setup;
+      set_up = set_up;
       choices = choices;
       chosen = chosen;
-      part = part_weaker (AreAnswers (answers_by choices) d patterns request) (AreAnswers (answers_by choices) (devices content before last left input input_now) patterns request)
-          (printed (style_of request painted)) old new out_before out_now
-          (λ files are. answers_moved (answers_by choices) content now before first last left input input_now patterns request files kept later are) part;
+      part = part_weaker (AreLeftAnswers choices setup d request) (AreLeftAnswers choices setup (devices content before last left input input_now) request)
+          (printed_for request painted) old new out_before out_now (λ files p. left_moved choices setup content now before first last left input input_now request files kept later p) part;
     }
 
 -- ---- runs that end before
 
 -- words that are refused beside the configuration
-pub has_unchosen : (request : Request) (help version : List ℕ) (painted : Bool) (d : Devices) (old new : Option (List ℕ)) (before now : ℕ) (config : Config) (stop : Stop) → IsLoaded d.content request.config config
-    → IsUnchosen config request.linter stop → Keeps old new → StoppedFor (Check request) help version painted d old new before now (failure.Stop stop)
-has_unchosen request help version painted d old new before now config BadArguments loaded h kept = ((config, loaded, h), kept)
-has_unchosen request help version painted d old new before now config NotUtf8 loaded h kept = absurd h
-has_unchosen request help version painted d old new before now config TooLong loaded h kept = absurd h
-has_unchosen request help version painted d old new before now config ReadFault loaded h kept = absurd h
-has_unchosen request help version painted d old new before now config WriteFault loaded h kept = absurd h
-has_unchosen request help version painted d old new before now config NoMemory loaded h kept = kept
+pub has_unchosen : (request : Request) (help version : List ℕ) (painted : Bool) (d : Devices) (old new : Option (List ℕ)) (before now : ℕ) (setup : Setup) (stop : Stop) → IsSetUp d.content request setup
+    → IsUnchosen setup.config request.linter stop → Keeps old new → StoppedFor (Check request) help version painted d old new before now (failure.Stop stop)
+has_unchosen request help version painted d old new before now setup BadArguments set_up h kept = ((setup, set_up, h), kept)
+has_unchosen request help version painted d old new before now setup NotUtf8 set_up h kept = absurd h
+has_unchosen request help version painted d old new before now setup TooLong set_up h kept = absurd h
+has_unchosen request help version painted d old new before now setup ReadFault set_up h kept = absurd h
+has_unchosen request help version painted d old new before now setup WriteFault set_up h kept = absurd h
+has_unchosen request help version painted d old new before now setup NoMemory set_up h kept = kept
 
--- a configuration that is refused
+-- a configuration or a baseline that is refused
 pub has_refused : (request : Request) (help version : List ℕ) (painted : Bool) (d : Devices) (old new : Option (List ℕ)) (before now : ℕ) (error : LoadError)
-    → IsRefusedLoad d.content d.files_before d.files_now request.config error → Keeps old new → StoppedFor (Check request) help version painted d old new before now (failure_of error)
+    → IsRefusedSetup d.content d.files_before d.files_now request error → Keeps old new → StoppedFor (Check request) help version painted d old new before now (failure_of error)
 has_refused request help version painted d old new before now (load.Refused line) h kept = (h, kept)
 has_refused request help version painted d old new before now load.NoMemory h kept = kept
+
+pub same_kept : (o : Option (List ℕ)) → Keeps o o
+same_kept None = tt
+same_kept (Some xs) = refl
+
+-- a word that is refused
+fault_told : (fault : WordFault) (help version : List ℕ) (painted : Bool) (d : Devices) (old new : Option (List ℕ)) (before now : ℕ) (stop : Failure) → IsWordFailure fault stop → Keeps old new
+    → StoppedFor (Refused fault) help version painted d old new before now stop
+fault_told fault help version painted d old new before now (failure.Refused line) h kept = (h, kept)
+fault_told fault help version painted d old new before now (failure.Stop BadArguments) h kept = absurd h
+fault_told fault help version painted d old new before now (failure.Stop NotUtf8) h kept = h
+fault_told fault help version painted d old new before now (failure.Stop TooLong) h kept = h
+fault_told fault help version painted d old new before now (failure.Stop ReadFault) h kept = h
+fault_told fault help version painted d old new before now (failure.Stop WriteFault) h kept = h
+fault_told fault help version painted d old new before now (failure.Stop NoMemory) h kept = kept
+
+pub word_refused : (asked : Asked) (fault : WordFault) (help version : List ℕ) (painted : Bool) (d : Devices) (old new : Option (List ℕ)) (before now : ℕ) (stop : Failure)
+    → asked ≡ Refused fault → IsWordFailure fault stop → Keeps old new → StoppedFor asked help version painted d old new before now stop
+word_refused asked fault help version painted d old new before now stop is h kept =
+    subst (λ (a : Asked). StoppedFor a help version painted d old new before now stop) (sym is) (fault_told fault help version painted d old new before now stop h kept)
 
 -- ---- the words that ask for a request
 

@@ -7,17 +7,17 @@ ghost use Rattle.squawk_run.specs.declared.stop.Stop.TheVariants as stop;
 ghost use Rattle.squawk_stream.specs.Faults.{HasCause, Rose};
 ghost use Rattle.squawk_stream.specs.Parts.{AppendsPart};
 ghost use Rattle.check_command.specs.Choosing.{IsChosenBy, IsUnchosen};
-ghost use Rattle.check_command.specs.Command.{DoneFor, HasChecked, StoppedFor, ended_by, judge_by, status_by, style_of};
+ghost use Rattle.check_command.specs.Command.{DoneFor, HasChecked, StoppedFor, ended_by, fails_on, judge_by, status_by, style_of};
 ghost use Rattle.check_command.specs.Failures.{IsStop, failure_of, line_of};
 
-use crate::failure::{Failure, failure_of, say};
-use crate::printer::StylePrinter;
+use crate::failure::{Failure, failure_of, say, word_failure};
+use crate::printer::RunPrinter;
 use check_config::{Config, linter_words};
 use check_print::Style;
-use check_run::check;
+use check_run::{Progress, check};
+use check_setup::load_setup;
 use check_words::{Asked, Color, FailOn, HELP, Request, VERSION, linter_choices, read_asked};
 use checked_file::Status;
-use config_file::load_config;
 use file_answer::FileLinter;
 use file_store::FileStore;
 use squawk_linter::Linter;
@@ -54,6 +54,16 @@ fn judge_by(choices: Choices) -> FileLinter
             settings: choices.settings,
         },
     }
+}
+
+// Which reports make a run fail.
+fn fails_on(request: &Request) -> FailOn
+    ensures { result ≡ fails_on request.now }
+{
+    if request.write_baseline {
+        return FailOn::Never;
+    }
+    request.fail_on
 }
 
 // The status of a run, by the greatest of its files and by which reports make it fail.
@@ -107,13 +117,14 @@ fn write_text<K: Sink>(text: &str, out: &mut K) -> Result<Status, Failure>
 }
 
 // A run over files, or over the input.
-fn check_request<F: FileStore, S: Source, K: Sink>(
+fn check_request<F: FileStore, S: Source, K: Sink, G: Progress>(
     alloc: Global,
     request: &Request,
     is_painted: bool,
     files: &mut F,
     src: &mut S,
     out: &mut K,
+    progress: &mut G,
 ) -> Result<Status, Failure>
     ensures done { IfOk result (HasChecked request.now is_painted
         (record {
@@ -136,33 +147,36 @@ fn check_request<F: FileStore, S: Source, K: Sink>(
         })
         (K.held out.old) (K.held out.new) (K.faults out.old) (K.faults out.new)) }
 {
-    let config = match load_config(alloc, files, &request.config) {
-        Ok(config) => config,
+    let setup = match load_setup(alloc, files, request) {
+        Ok(setup) => setup,
         Err(error) => return Err(failure_of(error)),
     };
-    let choices = match chosen(alloc, &config, &request.linter) {
+    let choices = match chosen(alloc, &setup.config, &request.linter) {
         Ok(choices) => choices,
         Err(stop) => return Err(Failure::Stop(stop)),
     };
     let mut judge = judge_by(choices);
-    let printer = StylePrinter {
+    let printer = RunPrinter {
         style: style_of(request, is_painted),
+        writes_baseline: request.write_baseline,
     };
-    let patterns = &config.excluded_paths;
+    let patterns = &setup.config.excluded_paths;
+    let sieve = &setup.sieve;
     let done = check(
-        alloc, request, patterns, &mut judge, &printer, files, src, out,
+        alloc, request, patterns, &mut judge, sieve, &printer, files, src, out, progress,
     );
-    ended_by(request.fail_on, done)
+    ended_by(fails_on(request), done)
 }
 
 // All of a run but the line on the error sink.
-fn work<F: FileStore, S: Source, K: Sink>(
+fn work<F: FileStore, S: Source, K: Sink, G: Progress>(
     alloc: Global,
     words: &Words,
     is_painted: bool,
     files: &mut F,
     src: &mut S,
     out: &mut K,
+    progress: &mut G,
 ) -> Result<Status, Failure>
     ensures done { IfOk result (DoneFor (asked_of words.now) HELP.now VERSION.now is_painted
         (record {
@@ -186,18 +200,20 @@ fn work<F: FileStore, S: Source, K: Sink>(
         (K.held out.old) (K.held out.new) (K.faults out.old) (K.faults out.new)) }
 {
     match read_asked(alloc, words) {
-        Ok(Asked::Check(request)) => check_request(alloc, &request, is_painted, files, src, out),
+        Ok(Asked::Check(request)) => check_request(
+            alloc, &request, is_painted, files, src, out, progress,
+        ),
         Ok(Asked::Help) => write_text(HELP, out),
         Ok(Asked::Version) => write_text(VERSION, out),
-        Ok(Asked::Refused) => Err(Failure::Stop(Stop::BadArguments)),
+        Ok(Asked::Refused(fault)) => Err(word_failure(alloc, &fault)),
         Err(NoMemory) => Err(Failure::Stop(Stop::NoMemory)),
     }
 }
 
 /// Does what the words after the program's name ask for: reads files, or the input, and writes to `out` what comes of them. Why nothing
 /// more was written goes to `err`, and a failure there changes nothing else. `is_painted` is whether colours are expected where no word
-/// says. The failures are a configuration that is refused, and the stops `BadArguments`, `WriteFault` and `NoMemory`.
-pub fn run<F: FileStore, S: Source, K: Sink, E: Sink>(
+/// says. The failures are a word, a configuration or a baseline that is refused, and the stops `BadArguments`, `WriteFault` and `NoMemory`.
+pub fn run<F: FileStore, S: Source, K: Sink, E: Sink, G: Progress>(
     alloc: Global,
     words: &Words,
     is_painted: bool,
@@ -205,6 +221,7 @@ pub fn run<F: FileStore, S: Source, K: Sink, E: Sink>(
     src: &mut S,
     out: &mut K,
     err: &mut E,
+    progress: &mut G,
 ) -> Result<Status, Failure>
     ensures done { IfOk result (DoneFor (asked_of words.now) HELP.now VERSION.now is_painted
         (record {
@@ -230,7 +247,7 @@ pub fn run<F: FileStore, S: Source, K: Sink, E: Sink>(
     ensures whole_line { IfErr result (λ failure. ¬ (Rose (E.faults err.old) (E.faults err.new)) → Appends (E.held err.old) (E.held err.new) (line_of failure)) }
     ensures no_line { OnOk result (Keeps (E.held err.old) (E.held err.new)) }
 {
-    match work(alloc, words, is_painted, files, src, out) {
+    match work(alloc, words, is_painted, files, src, out, progress) {
         Ok(status) => Ok(status),
         Err(failure) => {
             say(err, failure.line());

@@ -5,17 +5,21 @@ ghost use Rattle.check_command.specs.Failures as spec;
 ghost use Rattle.squawk_stream.specs.Faults.{Rose};
 ghost use Rattle.squawk_stream.specs.Parts.{AppendsPart};
 
+use check_words::WordFault;
 use config_file::LoadError;
+use refused_word::fault_line;
 use squawk_run::Stop;
 use squawk_stream::{Sink, write_all};
+use std::alloc::Global;
+use text_pos::NoMemory;
 
 /// Why a run gives no answer.
 #[derive(Debug, Drop)]
 pub enum Failure {
     /// A stop that every program has.
     Stop(Stop),
-    /// The configuration is refused. This line says why, with its line feed.
-    Config(Vec<u8>),
+    /// A word is refused, the configuration, or the baseline. This line says which and why, with its line feed.
+    Refused(Vec<u8>),
 }
 
 impl Failure {
@@ -25,7 +29,7 @@ impl Failure {
     {
         match self {
             Failure::Stop(stop) => stop.code(),
-            Failure::Config(_) => 2,
+            Failure::Refused(_) => 2,
         }
     }
 
@@ -35,18 +39,28 @@ impl Failure {
     {
         match self {
             Failure::Stop(stop) => stop.line().as_bytes(),
-            Failure::Config(line) => line.as_slice(),
+            Failure::Refused(line) => line.as_slice(),
         }
     }
 }
 
-/// Why a run gives no answer that has no configuration.
+/// Why a run gives no answer that can't read what it needs before its files.
 pub(crate) fn failure_of(error: LoadError) -> Failure
     ensures { result ≡ spec.failure_of error }
 {
     match error {
-        LoadError::Refused(line) => Failure::Config(line),
+        LoadError::Refused(line) => Failure::Refused(line),
         LoadError::NoMemory => Failure::Stop(Stop::NoMemory),
+    }
+}
+
+/// Why a run gives no answer of which a word is refused.
+pub(crate) fn word_failure(alloc: Global, fault: &WordFault) -> Failure
+    ensures { spec.IsWordFailure fault.now result }
+{
+    match fault_line(alloc, fault) {
+        Ok(line) => Failure::Refused(line),
+        Err(NoMemory) => Failure::Stop(Stop::NoMemory),
     }
 }
 

@@ -9,4 +9,4 @@ mod printer;
 
 pub use command::run;
 pub use failure::Failure;
-pub use printer::StylePrinter;
+pub use printer::RunPrinter;

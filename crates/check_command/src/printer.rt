@@ -1,23 +1,29 @@
-//! A style as what writes answers.
-ghost use Rattle.check_print.specs.Printed.{printed};
+//! What writes the answers of a run.
+ghost use Rattle.check_command.specs.Command.{printed_by};
 
+use check_baseline::written;
 use check_print::{Style, printed};
 use check_run::Printer;
 use checked_file::Checked;
 use std::alloc::Global;
 use text_pos::NoMemory;
 
-/// What writes answers in a style.
+/// What writes answers in a style, or the baseline that knows them.
 #[derive(Clone, Copy, Debug)]
-pub struct StylePrinter {
+pub struct RunPrinter {
     /// The style.
     pub style: Style,
+    /// Whether the baseline is written.
+    pub writes_baseline: bool,
 }
 
-impl Printer for StylePrinter {
-    ghost printed = { λ printer files. printed printer.style files };
+impl Printer for RunPrinter {
+    ghost printed = { λ printer files. printed_by printer.writes_baseline printer.style files };
 
     fn print(&self, alloc: Global, files: &[Checked]) -> Result<Vec<u8>, NoMemory> {
+        if self.writes_baseline {
+            return written(alloc, files);
+        }
         printed(alloc, self.style, files)
     }
 }

@@ -6,6 +6,7 @@ ghost use Rattle.file_store.specs.Contents.{KeepsContents};
 ghost use Rattle.check_run.specs.Checks.{AreChecked, IsChecked, IsUnreadBy};
 
 use crate::judge::Judge;
+use crate::progress::Progress;
 use checked_file::{Answer, Checked};
 use file_store::{FileError, FileStore};
 use lint_base::Text;
@@ -94,17 +95,19 @@ fn check_file<F: FileStore, J: Judge>(
 }
 
 /// What comes of files, in their order. A fault of one costs no other its answer. The error comes when memory runs out.
-pub fn check_files<F: FileStore, J: Judge>(
+pub fn check_files<F: FileStore, J: Judge, G: Progress>(
     alloc: Global,
     judge: &mut J,
     files: &mut F,
     names: &Words,
+    progress: &mut G,
 ) -> Result<Vec<Checked>, NoMemory>
     ensures checked { IfOk result (λ all. AreChecked (J.answers judge.old) (F.content files.old) (F.faults files.old) (F.faults files.new) names.now all.items) }
     ensures sound { IfOk result (λ all. All IsSound all.items) }
 {
     let mut all = Vec::new(alloc);
     for i in 0..names.len() {
+        progress.show(i, names.len());
         let checked = check_file(alloc, judge, files, names.get(i))?;
         all.push(checked)?;
     }

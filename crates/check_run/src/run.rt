@@ -2,13 +2,15 @@
 ghost use Rattle.std.specs.Prelude.{◌≡◌, All, IfErr, IfOk, OnOk};
 ghost use Rattle.std.specs.Io.KnownBytes.{Appends};
 ghost use Rattle.checked_file.specs.Sound.{IsSound};
-ghost use Rattle.check_run.specs.Runs.{AreAnswers, AreFileAnswers, HasRun, HasStopped, IsInputAnswer, StopsWriting};
+ghost use Rattle.check_run.specs.Runs.{AreAnswers, AreFileAnswers, AreLeft, HasRun, HasStopped, IsInputAnswer, StopsWriting};
 
 use crate::expand::expanded;
 use crate::files::check_files;
 use crate::input::{check_input, reads_input};
 use crate::judge::Judge;
 use crate::printer::Printer;
+use crate::progress::Progress;
+use crate::sieve::Sieve;
 use check_words::Request;
 use checked_file::{Checked, Status, worst};
 use file_choice::chosen;
@@ -36,29 +38,33 @@ fn check_one<S: Source, J: Judge>(
 }
 
 // What comes of the files that words stand for and no pattern leaves out.
-fn check_named<F: FileStore, J: Judge>(
+fn check_named<F: FileStore, J: Judge, G: Progress>(
     alloc: Global,
     judge: &mut J,
     files: &mut F,
     patterns: &Words,
     words: &Words,
+    progress: &mut G,
 ) -> Result<Vec<Checked>, NoMemory>
     ensures checked { IfOk result (λ all. AreFileAnswers (J.answers judge.old) (F.content files.old) (F.faults files.old) (F.faults files.new) patterns.now words.now all.items) }
     ensures sound { IfOk result (λ all. All IsSound all.items) }
 {
     let named = expanded(alloc, files, words)?;
     let names = chosen(alloc, patterns, &named)?;
-    check_files(alloc, judge, files, &names)
+    let checked = check_files(alloc, judge, files, &names, progress);
+    progress.end();
+    checked
 }
 
 // What comes of the files or of the input.
-fn check_asked<F: FileStore, S: Source, J: Judge>(
+fn check_asked<F: FileStore, S: Source, J: Judge, G: Progress>(
     alloc: Global,
     request: &Request,
     patterns: &Words,
     judge: &mut J,
     files: &mut F,
     src: &mut S,
+    progress: &mut G,
 ) -> Result<Vec<Checked>, NoMemory>
     ensures checked { IfOk result (λ all. AreAnswers (J.answers judge.old)
         (record {
@@ -75,8 +81,36 @@ fn check_asked<F: FileStore, S: Source, J: Judge>(
     if reads_input(&request.files) {
         check_one(alloc, judge, src, request.stdin_name.as_str())
     } else {
-        check_named(alloc, judge, files, patterns, &request.files)
+        check_named(alloc, judge, files, patterns, &request.files, progress)
     }
+}
+
+// What is left of the files or of the input.
+fn check_left<F: FileStore, S: Source, J: Judge, V: Sieve, G: Progress>(
+    alloc: Global,
+    request: &Request,
+    patterns: &Words,
+    judge: &mut J,
+    sieve: &V,
+    files: &mut F,
+    src: &mut S,
+    progress: &mut G,
+) -> Result<Vec<Checked>, NoMemory>
+    ensures left { IfOk result (λ all. AreLeft (AreAnswers (J.answers judge.old)
+        (record {
+          content = F.content files.old;
+          files_before = F.faults files.old;
+          files_now = F.faults files.new;
+          left = S.left src.old;
+          input_before = S.faults src.old;
+          input_now = S.faults src.new;
+        })
+        patterns.now request.now)
+        (V.leaves sieve.now) all.items) }
+    ensures sound { IfOk result (λ all. All IsSound all.items) }
+{
+    let checked = check_asked(alloc, request, patterns, judge, files, src, progress)?;
+    sieve.sift(alloc, checked)
 }
 
 // Writes what came of files.
@@ -99,23 +133,25 @@ fn write_checked<P: Printer, K: Sink>(
     }
 }
 
-/// Checks what a request asks for: the files that its words stand for, or the input; writes to `out` what comes of them, and gives the
-/// greatest status of them. Of the files those are left out whose names match one of the patterns, and one that is named twice counts at
-/// its first place.
+/// Checks what a request asks for: the files that its words stand for, or the input; writes to `out` what the sieve leaves of what comes
+/// of them, and gives the greatest status of that. Of the files those are left out whose names match one of the patterns, and one that is
+/// named twice counts at its first place.
 ///
 /// Each file has its answer, whatever came of the others. All memory is taken before the first write, so a run that lacks it writes
 /// nothing. The error is `WriteFault` or `NoMemory`.
-pub fn check<F: FileStore, S: Source, K: Sink, J: Judge, P: Printer>(
+pub fn check<F: FileStore, S: Source, K: Sink, J: Judge, V: Sieve, P: Printer, G: Progress>(
     alloc: Global,
     request: &Request,
     patterns: &Words,
     judge: &mut J,
+    sieve: &V,
     printer: &P,
     files: &mut F,
     src: &mut S,
     out: &mut K,
+    progress: &mut G,
 ) -> Result<Status, Stop>
-    ensures done { IfOk result (HasRun (AreAnswers (J.answers judge.old)
+    ensures done { IfOk result (HasRun (AreLeft (AreAnswers (J.answers judge.old)
         (record {
           content = F.content files.old;
           files_before = F.faults files.old;
@@ -125,8 +161,9 @@ pub fn check<F: FileStore, S: Source, K: Sink, J: Judge, P: Printer>(
           input_now = S.faults src.new;
         })
         patterns.now request.now)
+        (V.leaves sieve.now))
         (P.printed printer.now) (K.held out.old) (K.held out.new)) }
-    ensures stopped { IfErr result (HasStopped (AreAnswers (J.answers judge.old)
+    ensures stopped { IfErr result (HasStopped (AreLeft (AreAnswers (J.answers judge.old)
         (record {
           content = F.content files.old;
           files_before = F.faults files.old;
@@ -136,14 +173,15 @@ pub fn check<F: FileStore, S: Source, K: Sink, J: Judge, P: Printer>(
           input_now = S.faults src.new;
         })
         patterns.now request.now)
+        (V.leaves sieve.now))
         (P.printed printer.now) (K.held out.old) (K.held out.new) (K.faults out.old) (K.faults out.new)) }
 {
-    let checked = match check_asked(alloc, request, patterns, judge, files, src) {
-        Ok(checked) => checked,
+    let left = match check_left(alloc, request, patterns, judge, sieve, files, src, progress) {
+        Ok(left) => left,
         Err(NoMemory) => return Err(Stop::NoMemory),
     };
-    let status = worst(checked.as_slice());
-    match write_checked(alloc, printer, checked.as_slice(), out) {
+    let status = worst(left.as_slice());
+    match write_checked(alloc, printer, left.as_slice(), out) {
         Ok(()) => Ok(status),
         Err(stop) => Err(stop),
     }

@@ -1,10 +1,10 @@
 -- From one word to the next.
 use Rattle.std.proofs.Common.{◌≡◌, ◌+◌, ◌<◌, ◌∙◌, ap, refl, arith, ℕ, zero, suc, List, [], ◌∷◌, drop, length, Some}
 use Rattle.std.proofs.lemmas.Option.{slice_get_within}
-use Rattle.std.specs.Prelude.{option_and_then, slice_get}
+use Rattle.std.specs.Prelude.{slice_get}
 use Rattle.squawk_words.specs.Words.{Text}
 use Rattle.check_words.specs.declared.step.Reader.{Reader}
-use Rattle.check_words.specs.Asked.{read_from}
+use Rattle.check_words.specs.Asked.{read_from, step_then}
 use Rattle.check_words.specs.Steps.{step}
 
 drop_at : (words : List Text) (k : ℕ) (word : Text) → slice_get words k ≡ Some word → drop k words ≡ word ∷ drop (suc k) words
@@ -14,11 +14,11 @@ drop_at (first ∷ words) (suc k) word e = drop_at words k word e
 
 -- what is read from here on, by the word that is here
 pub read_at : (reader : Reader) (words : List Text) (k : ℕ) (word : Text) → slice_get words k ≡ Some word
-    → read_from reader (drop k words) ≡ option_and_then (λ r. read_from r (drop (k + 1) words)) (step word reader)
+    → read_from reader (drop k words) ≡ step_then (step word reader) (λ r. read_from r (drop (k + 1) words))
 unfolding read_from
 read_at reader words k word e =
     let next : suc k ≡ k + 1 = omega arith in
-    ap (read_from reader) (drop_at words k word e) ∙ ap (λ n. option_and_then (λ r. read_from r (drop n words)) (step word reader)) next
+    ap (read_from reader) (drop_at words k word e) ∙ ap (λ n. step_then (step word reader) (λ r. read_from r (drop n words))) next
 
 -- nothing is left to read
 pub read_end : (reader : Reader) (words : List Text) (k : ℕ) → length words < k + 1 → read_from reader (drop k words) ≡ read_from reader []

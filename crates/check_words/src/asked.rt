@@ -2,8 +2,10 @@
 ghost use Rattle.std.specs.Prelude.{◌≡◌, IfOk};
 ghost use Rattle.check_words.specs.Asked.{asked_of, by_request};
 
+use crate::fault::WordFault;
 use crate::read::read_request;
 use crate::request::Request;
+use lint_base::Text;
 use squawk_run::has_foreign_word;
 use squawk_words::Words;
 use std::alloc::Global;
@@ -18,17 +20,26 @@ pub enum Asked {
     Help,
     /// The version is to be printed.
     Version,
-    /// Nothing that there is.
-    Refused,
+    /// Nothing that there is, and why.
+    Refused(WordFault),
 }
 
-fn by_request(request: Option<Request>) -> Asked
+// What is asked for, by what the words after `check` ask for.
+fn by_request(request: Result<Request, WordFault>) -> Asked
     ensures { result ≡ by_request request }
 {
     match request {
-        Some(request) => Asked::Check(request),
-        None => Asked::Refused,
+        Ok(request) => Asked::Check(request),
+        Err(fault) => Asked::Refused(fault),
     }
+}
+
+// The fault of a word that is no command.
+fn unknown_command(alloc: Global, word: &str) -> Result<Asked, NoMemory>
+    ensures { IfOk result (λ asked. asked ≡ Asked.Refused (WordFault.UnknownCommand word.now)) }
+{
+    let word = String::from_str(alloc, word)?;
+    Ok(Asked::Refused(WordFault::UnknownCommand(Text::made(word))))
 }
 
 /// What the words after the program's name ask for. The error comes when memory runs out.
@@ -42,10 +53,10 @@ pub fn read_asked(alloc: Global, words: &Words) -> Result<Asked, NoMemory>
         return Ok(Asked::Version);
     }
     if words.is_empty() {
-        return Ok(Asked::Refused);
+        return Ok(Asked::Refused(WordFault::NoCommand));
     }
     if words.get(0) != "check" {
-        return Ok(Asked::Refused);
+        return unknown_command(alloc, words.get(0));
     }
     Ok(by_request(read_request(alloc, words)?))
 }

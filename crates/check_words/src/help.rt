@@ -8,6 +8,7 @@ pub const HELP: &str = "Lints migrations of PostgreSQL. Its answers are theorems
 
 Usage: lavkheto check [OPTIONS] [FILES]..
        lavkheto explain [RULE]           what a rule reports, why, its lock, and what to write instead
+       lavkheto server [OPTIONS]         a language server over standard input and output
 
 FILES are files, and folders for all *.sql files in them. Without FILES, or with - alone, standard input is checked.
 
@@ -18,6 +19,8 @@ FILES are files, and folders for all *.sql files in them. Without FILES, or with
   --stdin-filename NAME    what standard input is called in what is written (default: stdin)
   --config FILE            the configuration, instead of .squawk.toml in this folder or one above it, up to the repository's
   --fail-on WHEN           warning (default): status 1 where something is found; never: status 0 there
+  --baseline FILE          what is found and is in this baseline counts as not found
+  --write-baseline         the baseline that has all that is found is written, in place of the findings
   --                       the words after it are files
 
   --only RULES             exactly these rules, with commas between them
@@ -31,12 +34,14 @@ FILES are files, and folders for all *.sql files in them. Without FILES, or with
 
   --help, --version        this help, and the version
 
-Status: 0 nothing is found; 1 something is found; 2 the words are not accepted; 3 a file is not UTF-8; 4 a file can't be parsed;
-5 a file can't be read; 6 a write failed; 7 out of memory. The greatest of those that apply.
+Status: 0 nothing is found; 1 something is found; 2 a word, the configuration or the baseline is refused; 3 a file is not UTF-8; 4 a file
+can't be parsed; 5 a file can't be read; 6 a write failed; 7 out of memory. The greatest of those that apply.
 
 Examples:
   lavkheto check migrations
   lavkheto check --format github --exclude prefer-text-field migrations/2.sql
   lavkheto check --format sarif --fail-on never migrations > lavkheto.sarif
+  lavkheto check --write-baseline migrations > lavkheto.baseline
+  lavkheto check --baseline lavkheto.baseline migrations
   git show HEAD:migrations/2.sql | lavkheto check --stdin-filename migrations/2.sql
 ";

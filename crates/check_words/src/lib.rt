@@ -4,14 +4,19 @@
 #![tactic(auto)]
 
 mod asked;
+mod fault;
 mod help;
 mod linter;
 mod names;
 mod read;
 mod request;
+mod rules;
+mod set;
 mod step;
 
 pub use asked::{Asked, read_asked};
+pub use fault::WordFault;
 pub use help::{HELP, VERSION};
 pub use linter::linter_choices;
+pub use names::{Choice, Flag};
 pub use request::{Color, FailOn, Format, Request};

@@ -4,21 +4,85 @@ ghost use Rattle.check_words.specs.Names as spec;
 
 use crate::request::{Color, FailOn, Format};
 
-/// An option of `check` itself that takes a value.
+/// An option that takes a value.
 #[derive(Clone, Copy, Debug, PartialEq, Eq)]
-pub(crate) enum Choice {
+pub enum Choice {
+    /// `--format`.
     Format,
+    /// `--color`.
     Color,
+    /// `--stdin-filename`.
     StdinName,
+    /// `--config`.
     Config,
+    /// `--baseline`.
+    Baseline,
+    /// `--fail-on`.
     FailOn,
+    /// `--only`.
+    Only,
+    /// `--include`.
+    Include,
+    /// `--exclude`.
+    Exclude,
+    /// `--non-volatile`.
+    NonVolatile,
+    /// `--pg-major`.
+    PgMajor,
+    /// `--pg-minor`.
+    PgMinor,
+    /// `--pg-patch`.
+    PgPatch,
 }
 
-/// An option of `check` itself that takes no value.
+/// An option that takes no value.
 #[derive(Clone, Copy, Debug, PartialEq, Eq)]
-pub(crate) enum Flag {
+pub enum Flag {
+    /// `--quiet`.
     Quiet,
+    /// `--statistics`.
     Statistics,
+    /// `--write-baseline`.
+    WriteBaseline,
+    /// `--assume-in-transaction`.
+    AssumeInTransaction,
+}
+
+impl Choice {
+    /// Its name, without the dashes.
+    pub fn name(self) -> &'static str
+        ensures { result.now ≡ spec.name_of self }
+    {
+        match self {
+            Choice::Format => "format",
+            Choice::Color => "color",
+            Choice::StdinName => "stdin-filename",
+            Choice::Config => "config",
+            Choice::Baseline => "baseline",
+            Choice::FailOn => "fail-on",
+            Choice::Only => "only",
+            Choice::Include => "include",
+            Choice::Exclude => "exclude",
+            Choice::NonVolatile => "non-volatile",
+            Choice::PgMajor => "pg-major",
+            Choice::PgMinor => "pg-minor",
+            Choice::PgPatch => "pg-patch",
+        }
+    }
+}
+
+impl Flag {
+    /// Its name, without the dashes.
+    pub fn name(self) -> &'static str
+        ensures { result.now ≡ spec.flag_name self }
+    {
+        match self {
+            Flag::Quiet => "quiet",
+            Flag::Statistics => "statistics",
+            Flag::WriteBaseline => "write-baseline",
+            Flag::AssumeInTransaction => "assume-in-transaction",
+        }
+    }
 }
 
 /// The option with a value of a name.
@@ -33,8 +97,24 @@ pub(crate) fn choice_named(name: &str) -> Option<Choice>
         Some(Choice::StdinName)
     } else if name == "config" {
         Some(Choice::Config)
+    } else if name == "baseline" {
+        Some(Choice::Baseline)
     } else if name == "fail-on" {
         Some(Choice::FailOn)
+    } else if name == "only" {
+        Some(Choice::Only)
+    } else if name == "include" {
+        Some(Choice::Include)
+    } else if name == "exclude" {
+        Some(Choice::Exclude)
+    } else if name == "non-volatile" {
+        Some(Choice::NonVolatile)
+    } else if name == "pg-major" {
+        Some(Choice::PgMajor)
+    } else if name == "pg-minor" {
+        Some(Choice::PgMinor)
+    } else if name == "pg-patch" {
+        Some(Choice::PgPatch)
     } else {
         None
     }
@@ -48,6 +128,10 @@ pub(crate) fn flag_named(name: &str) -> Option<Flag>
         Some(Flag::Quiet)
     } else if name == "statistics" {
         Some(Flag::Statistics)
+    } else if name == "write-baseline" {
+        Some(Flag::WriteBaseline)
+    } else if name == "assume-in-transaction" {
+        Some(Flag::AssumeInTransaction)
     } else {
         None
     }

@@ -1,10 +1,12 @@
 //! All words after `check`.
 ghost use Rattle.std.specs.Prelude.{◌≡◌, IfOk, drop};
-ghost use Rattle.check_words.specs.Asked.{ended, request_of, start};
+ghost use Rattle.check_words.specs.Asked.{are_apart, complete, ended, request_of, start};
 
+use crate::fault::WordFault;
 use crate::request::{Color, FailOn, Format, Request};
 use crate::step::{Next, Reader, step};
 use lint_base::Text;
+use squawk_run::has_foreign_word;
 use squawk_words::Words;
 use std::alloc::Global;
 use text_pos::NoMemory;
@@ -20,35 +22,60 @@ fn start(alloc: Global) -> Reader
             color: Color::Auto,
             stdin_name: Text::fixed("stdin"),
             config: None,
+            baseline: None,
             fail_on: FailOn::Warning,
             quiet: false,
             statistics: false,
+            write_baseline: false,
             files: Words::new(alloc),
             linter: Words::new(alloc),
         },
     }
 }
 
+// Whether `--only` is given beside the other lists of rules.
+fn are_apart(request: &Request) -> bool
+    ensures { result ≡ are_apart request.now }
+{
+    has_foreign_word(&request.linter, &["only"])
+        && has_foreign_word(&request.linter, &["include", "exclude"])
+}
+
+// A request to which all words were read.
+#[tactic(auto, unfolding(crate::specs::Asked::complete))]
+fn complete(request: Request) -> Result<Request, WordFault>
+    ensures { result ≡ complete request }
+{
+    if are_apart(&request) {
+        return Err(WordFault::OnlyBesideLists);
+    }
+    Ok(request)
+}
+
 // What the words ask for, where no value is waited for.
-fn ended(reader: Reader) -> Option<Request>
+fn ended(reader: Reader) -> Result<Request, WordFault>
     ensures { result ≡ ended reader.next reader.request }
 {
     let Reader { next, request } = reader;
     match next {
-        Next::Any | Next::File => Some(request),
-        Next::Value(_) | Next::LinterValue => None,
+        Next::Any | Next::File => complete(request),
+        Next::Value(choice) => Err(WordFault::MissingValue(choice)),
     }
 }
 
-/// What the words after the first ask for, or `None` exactly where they are refused. The error comes when memory runs out.
-pub(crate) fn read_request(alloc: Global, words: &Words) -> Result<Option<Request>, NoMemory>
+/// What the words after the first ask for, or what is wrong with the first of them that is refused. The other error comes when memory
+/// runs out.
+pub(crate) fn read_request(
+    alloc: Global,
+    words: &Words,
+) -> Result<Result<Request, WordFault>, NoMemory>
     ensures { IfOk result (λ r. r ≡ request_of (drop 1 words.now)) }
 {
     let mut reader = start(alloc);
     for i in 1..words.len() {
         match step(alloc, reader, words.get(i))? {
-            Some(next) => reader = next,
-            None => return Ok(None),
+            Ok(next) => reader = next,
+            Err(fault) => return Ok(Err(fault)),
         }
     }
     Ok(ended(reader))

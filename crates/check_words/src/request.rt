@@ -53,14 +53,18 @@ pub struct Request {
     pub stdin_name: Text,
     /// The configuration file, where one is named.
     pub config: Option<Text>,
+    /// The baseline, where one is named.
+    pub baseline: Option<Text>,
     /// Which reports make the run fail.
     pub fail_on: FailOn,
     /// Whether less is written.
     pub quiet: bool,
     /// Whether the rules are counted.
     pub statistics: bool,
+    /// Whether a baseline is written in place of the findings.
+    pub write_baseline: bool,
     /// The files and folders, in order.
     pub files: Words,
-    /// The words that choose the linter, as `squawk_words` reads them.
+    /// The words that choose the linter, as `squawk_words` reads them, each value after `=`.
     pub linter: Words,
 }

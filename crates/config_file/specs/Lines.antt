@@ -8,6 +8,7 @@ use Rattle.source_file.specs.File.{location}
 use Rattle.source_file.specs.Shown.{shown}
 use Rattle.squawk_words.specs.Words.{Text}
 
+-- the beginning of a line about a file: `error: .squawk.toml:`
 abbrev pub opening : Text → List ℕ
 opening name = codes "error: " ++ shown name ++ codes ":"
 

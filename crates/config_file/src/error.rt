@@ -1,4 +1,7 @@
 //! Why a run has no configuration.
+ghost use Rattle.config_file.specs.Loaded.{IsRefusal};
+
+use text_pos::NoMemory;
 
 /// Why a run has no configuration.
 #[derive(Debug, Drop)]
@@ -7,4 +10,14 @@ pub enum LoadError {
     Refused(Vec<u8>),
     /// Memory ran out.
     NoMemory,
+}
+
+/// The error with a line, if there was memory for it.
+pub fn refused(line: Result<Vec<u8>, NoMemory>) -> LoadError
+    ensures { IsRefusal line result }
+{
+    match line {
+        Ok(line) => LoadError::Refused(line),
+        Err(NoMemory) => LoadError::NoMemory,
+    }
 }

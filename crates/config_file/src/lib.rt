@@ -8,5 +8,6 @@ mod find;
 mod line;
 mod load;
 
-pub use error::LoadError;
+pub use error::{LoadError, refused};
+pub use line::{file_line, line_at};
 pub use load::load_config;

@@ -19,8 +19,8 @@ fn opened(alloc: Global, name: &str) -> Result<Vec<u8>, NoMemory>
     Ok(line)
 }
 
-/// The line about a whole file, with what is wrong with it.
-pub(crate) fn file_line(alloc: Global, name: &str, what: &str) -> Result<Vec<u8>, NoMemory>
+/// The line about a whole file, with what is wrong with it. The error comes when memory runs out.
+pub fn file_line(alloc: Global, name: &str, what: &str) -> Result<Vec<u8>, NoMemory>
     ensures { IfOk result (λ line. line.items ≡ opening name.now ++ what.now) }
 {
     let mut line = opened(alloc, name)?;
@@ -40,8 +40,8 @@ fn place_of(file: &SourceFile<'_>, at: usize) -> Place
     }
 }
 
-// The line about a place of a file, with what is wrong there.
-fn line_at(alloc: Global, name: &str, place: Place, message: &str) -> Result<Vec<u8>, NoMemory>
+/// The line about a place of a file, with what is wrong there. The error comes when memory runs out.
+pub fn line_at(alloc: Global, name: &str, place: Place, message: &str) -> Result<Vec<u8>, NoMemory>
     ensures { IfOk result (λ line. line.items ≡ fault_line name.now place message.now) }
 {
     let mut line = opened(alloc, name)?;

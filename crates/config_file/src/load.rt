@@ -1,9 +1,9 @@
 //! From files to a configuration.
 ghost use Rattle.std.specs.Prelude.{◌≡◌, ◌<◌, ◌≤◌, ◌^◌, IfErr, IfOk, length, string_bytes};
 ghost use Rattle.file_store.specs.Contents.{KeepsContents};
-ghost use Rattle.config_file.specs.Loaded.{AreRefused, AreTaken, IsLoaded, IsRefusal, IsRefusedFile, IsRefusedLoad, IsRefusedText, IsTaken, IsTextTaken};
+ghost use Rattle.config_file.specs.Loaded.{AreRefused, AreTaken, IsLoaded, IsRefusedFile, IsRefusedLoad, IsRefusedText, IsTaken, IsTextTaken};
 
-use crate::error::LoadError;
+use crate::error::{LoadError, refused};
 use crate::find::config_name;
 use crate::line::{file_line, text_line};
 use check_config::{Config, ConfigError, ConfigFault, read_config};
@@ -11,17 +11,6 @@ use file_store::{FileError, FileStore};
 use lint_base::Text;
 use squawk_run::text_in;
 use std::alloc::Global;
-use text_pos::NoMemory;
-
-// The error with a line, if there was memory for it.
-fn refused(line: Result<Vec<u8>, NoMemory>) -> LoadError
-    ensures { IsRefusal line result }
-{
-    match line {
-        Ok(line) => LoadError::Refused(line),
-        Err(NoMemory) => LoadError::NoMemory,
-    }
-}
 
 // The configuration of a text.
 fn text_config(alloc: Global, name: &str, text: &str) -> Result<Config, LoadError>

@@ -1,6 +1,7 @@
 //! The program for people, editors and CI: `lavkheto check migrations`, `lavkheto explain RULE`, `lavkheto server`.
 #![tactic(auto)]
 
+use check_progress::Meter;
 use file_store::SystemFiles;
 use squawk_run::{say_stop, take_words};
 use squawk_stream::{StdSink, StdSource};
@@ -20,6 +21,8 @@ fn check(rt: &HostRuntime, words: &Words) -> u8 {
     let mut out = StdSink::new(rt.stdout());
     let mut err = StdSink::new(rt.stderr());
     let painted = is_painted(rt);
+    let shown = rt.stderr().is_terminal();
+    let mut progress = Meter::new(rt.alloc(), StdSink::new(rt.stderr()), shown);
     let done = check_command::run(
         rt.alloc(),
         words,
@@ -28,6 +31,7 @@ fn check(rt: &HostRuntime, words: &Words) -> u8 {
         &mut src,
         &mut out,
         &mut err,
+        &mut progress,
     );
     match done {
         Ok(status) => status.code(),

@@ -1,5 +1,6 @@
 -- The rule whose printed name is nearest to a text.
-use Rattle.std.specs.Prelude.{◌≡◌, ◌<◌, ◌≤◌, ◌++◌, ◌∷◌, ℕ, List, length, nat_eq, All}
+use Rattle.std.specs.Prelude.{◌≡◌, ◌<◌, ◌≤◌, ◌++◌, ◌∷◌, ◌&&◌, ℕ, List, Option, find, length, nat_eq, nat_le, All}
+use Rattle.std.specs.List.{list_all}
 use Rattle.std.specs.Str.{chars}
 use Rattle.strsim.specs.Edits.{levenshtein_row}
 use Rattle.lint_base.specs.declared.rule.Rule.{Rule}
@@ -20,3 +21,7 @@ pub record IsNearestOf (rules : List Rule) (text : List ℕ) (r : Rule) : Type 0
 -- No rule's name is nearer to the text, and none before it in declaration order is as near.
 abbrev pub IsNearest : List ℕ → Rule → Type 0
 IsNearest text r = IsNearestOf all_rules text r
+
+-- The first rule that takes so many edits at most, where no rule takes fewer.
+unfoldable pub near_rule : ℕ → List ℕ → Option Rule
+near_rule most text = find (λ r. nat_le (edits text r) most && list_all (λ q. nat_le (edits text r) (edits text q)) all_rules) all_rules

@@ -5,4 +5,4 @@
 
 mod nearest;
 
-pub use nearest::nearest_rule;
+pub use nearest::{near_rule, nearest_rule};

@@ -1,6 +1,6 @@
 //! The rule whose name takes the fewest edits.
 ghost use Rattle.std.specs.Prelude.{◌≡◌, ◌<◌, IfOk, length};
-ghost use Rattle.nearest_rule.specs.Nearest.{IsNearest, IsNearestOf, edits};
+ghost use Rattle.nearest_rule.specs.Nearest.{IsNearest, IsNearestOf, edits, near_rule};
 
 use lint_base::Rule;
 use std::alloc::{AllocError, Global};
@@ -37,4 +37,18 @@ pub fn nearest_rule(alloc: Global, text: &str) -> Result<Rule, AllocError>
     ensures { IfOk result (IsNearest text.now) }
 {
     nearest_in(alloc, text, &Rule::ALL)
+}
+
+/// The rule of [`nearest_rule`], where no more than `most` characters must be put in, taken out or changed. The error comes when memory
+/// runs out.
+#[tactic(auto, using(crate::proofs::Near::near_found, crate::proofs::Near::near_none))]
+pub fn near_rule(alloc: Global, text: &str, most: usize) -> Result<Option<Rule>, AllocError>
+    ensures { IfOk result (λ rule. rule ≡ near_rule most text.now) }
+{
+    let nearest = nearest_rule(alloc, text)?;
+    let count = edits(alloc, text, nearest)?;
+    if count > most {
+        return Ok(None);
+    }
+    Ok(Some(nearest))
 }

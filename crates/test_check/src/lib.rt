@@ -7,4 +7,6 @@ mod devices;
 #[cfg(test)]
 mod places;
 #[cfg(test)]
+mod progress;
+#[cfg(test)]
 mod runs;

@@ -1,6 +1,7 @@
 //! A run of the command over memory.
 
 use check_command::run;
+use check_progress::Meter;
 use file_store::MemFiles;
 use squawk_stream::{MemSink, MemSource};
 use squawk_words::Words;
@@ -67,8 +68,16 @@ pub(crate) fn run_is(
     let mut src = MemSource::new(alloc, input, on.step, on.read_fails)?;
     let mut out = MemSink::new(alloc, on.room, &[])?;
     let mut err = MemSink::new(alloc, on.error_room, &[])?;
+    let mut progress = Meter::new(alloc, MemSink::new(alloc, 0, &[])?, false);
     let code = match run(
-        alloc, &words, false, &mut files, &mut src, &mut out, &mut err,
+        alloc,
+        &words,
+        false,
+        &mut files,
+        &mut src,
+        &mut out,
+        &mut err,
+        &mut progress,
     ) {
         Ok(status) => status.code(),
         Err(stop) => stop.code(),

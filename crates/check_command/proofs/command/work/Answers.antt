@@ -1,9 +1,9 @@
 use Rattle.std.proofs.Common.{◌≡◌, ◌∙◌, sym}
 use Rattle.std.proofs.lemmas.Result.{IfErr-weaker, IfOk-weaker}
-use Rattle.check_words.specs.declared.asked.Asked.TheVariants.{Check}
+use Rattle.check_words.specs.declared.asked.Asked.TheVariants.{Check, Refused}
 use Rattle.check_words.specs.declared.help.TheConstants.{HELP, VERSION}
 use Rattle.check_words.specs.Asked.{asked_of}
-use Rattle.check_command.proofs.Doing.{done_for, stopped_for}
+use Rattle.check_command.proofs.Doing.{done_for, same_kept, stopped_for, word_refused}
 use Rattle.check_command.proofs.command.work.Goals as goal
 
 pub returns-in-Ok-Check-clause-done : goal.returns-in-Ok-Check-clause-done
@@ -19,3 +19,8 @@ returns-in-Ok-Check-clause-stopped g c =
     IfErr-weaker c.check_request.result _ _
     (λ s h. stopped_for (asked_of c.args.words.now) c.in-Ok-Check.request HELP.now VERSION.now c.args.is_painted _ _ _ _ _ s asked h)
     c.check_request.ensures.stopped
+
+pub returns-in-Ok-Refused-clause-stopped : goal.returns-in-Ok-Refused-clause-stopped
+returns-in-Ok-Refused-clause-stopped g c =
+    let asked : asked_of c.args.words.now ≡ Refused c.in-Ok-Refused.fault = sym c.in-Ok-Refused.ensures ∙ c.in-Ok-Refused.field-0-is in
+    word_refused (asked_of c.args.words.now) c.in-Ok-Refused.fault HELP.now VERSION.now c.args.is_painted _ _ _ _ _ c.word_failure.result asked c.word_failure.ensures (same_kept (g.K.Sink.held c.args.out.now))

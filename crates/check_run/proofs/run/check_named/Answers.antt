@@ -11,13 +11,13 @@ returns-clause-checked g c =
     let answers = g.J.Judge.answers c.args.judge.now in
     let content = g.F.FileStore.content c.args.files.now in
     let first = g.F.FileStore.faults c.args.files.now in
-    let last = g.F.FileStore.faults c.check_files.new.files in
+    let last = g.F.FileStore.faults c.check_files-checked.new.files in
     let names = c.in_ok-names.names in
-    IfOk-weaker c.check_files.result _ _
+    IfOk-weaker c.check_files-checked.result _ _
     (λ all h. record {
       names = c.in_ok-named.named;
       named = e.named;
       came = subst (λ (ns : List Text). AreChecked answers content first last ns all.items) c.in_ok-names.ensures
           (all_moved answers content (g.F.FileStore.content c.expanded.new.files) first last (g.F.FileStore.faults c.expanded.new.files) names all.items e.kept e.later h);
     })
-    c.check_files.ensures.checked
+    c.check_files-checked.ensures.checked

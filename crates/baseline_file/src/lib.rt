@@ -1,0 +1,10 @@
+//! The baseline of a run: the file that has it, what it leaves of the answers, and the line that is written where it is refused.
+//!
+//! `specs/Loaded.antt` says what is taken of a file, and `specs/Leaving.antt` what is left of answers.
+#![tactic(auto)]
+
+mod load;
+mod sieve;
+
+pub use load::load_sieve;
+pub use sieve::BaselineSieve;

@@ -1,0 +1,86 @@
+//! From files to a baseline.
+ghost use Rattle.std.specs.Prelude.{◌≡◌, ◌<◌, ◌≤◌, ◌^◌, IfErr, IfOk, length, option_map};
+ghost use Rattle.file_store.specs.Contents.{KeepsContents};
+ghost use Rattle.baseline_file.specs.Loaded.{AreRefused, AreTaken, IsBadLine, IsLoaded, IsRefusedFile, IsRefusedLoad, IsRefusedText, IsTaken, IsTextTaken};
+
+use crate::sieve::BaselineSieve;
+use check_baseline::{Baseline, BaselineError};
+use config_file::{LoadError, file_line, line_at, refused};
+use file_store::{FileError, FileStore};
+use source_file::Place;
+use squawk_run::text_in;
+use std::alloc::Global;
+use text_pos::NoMemory;
+
+// The line about a line that is none of a baseline.
+fn bad_line(alloc: Global, name: &str, number: usize) -> Result<Vec<u8>, NoMemory>
+    ensures { IfOk result (λ line. IsBadLine name.now number line.items) }
+{
+    let place = Place {
+        line: number,
+        column: 1,
+    };
+    line_at(alloc, name, place, "not a line of a baseline")
+}
+
+// The sieve of a text.
+fn text_sieve(alloc: Global, name: &str, text: &str) -> Result<BaselineSieve, LoadError>
+    ensures taken { IfOk result (λ sieve. IsTextTaken text.now sieve.baseline) }
+    ensures refused { IfErr result (IsRefusedText name.now text.now) }
+{
+    match Baseline::read(alloc, text) {
+        Ok(baseline) => Ok(BaselineSieve {
+            baseline: Some(baseline),
+        }),
+        Err(BaselineError::Line(number)) => Err(refused(bad_line(alloc, name, number))),
+        Err(BaselineError::NoMemory) => Err(LoadError::NoMemory),
+    }
+}
+
+// The sieve of the bytes of a file.
+fn bytes_sieve(alloc: Global, name: &str, bytes: &[u8]) -> Result<BaselineSieve, LoadError>
+    ensures taken { IfOk result (λ sieve. AreTaken bytes.now sieve.baseline) }
+    ensures refused { IfErr result (AreRefused name.now bytes.now) }
+{
+    match text_in(bytes) {
+        Ok(text) => text_sieve(alloc, name, text),
+        Err(_) => Err(refused(file_line(alloc, name, " not UTF-8\n"))),
+    }
+}
+
+// The sieve of a file.
+fn file_sieve<F: FileStore>(
+    alloc: Global,
+    files: &mut F,
+    name: &str,
+) -> Result<BaselineSieve, LoadError>
+    ensures taken { IfOk result (λ sieve. IsTaken (F.content files.old name.now) sieve.baseline) }
+    ensures refused { IfErr result (IsRefusedFile (F.content files.old name.now) (F.faults files.old) (F.faults files.new) name.now) }
+    ensures kept { KeepsContents (F.content files.old) (F.content files.new) }
+    ensures later { F.faults files.old ≤ F.faults files.new }
+{
+    match files.read(alloc, name) {
+        Ok(bytes) => bytes_sieve(alloc, name, bytes.as_slice()),
+        Err(FileError::NoMemory) => Err(LoadError::NoMemory),
+        Err(FileError::Missing | FileError::Fault | FileError::TooLong) => {
+            Err(refused(file_line(alloc, name, " can't be read\n")))
+        }
+    }
+}
+
+/// What leaves the reports out that the baseline in a file knows, or none where no file is given.
+pub fn load_sieve<F: FileStore>(
+    alloc: Global,
+    files: &mut F,
+    given: Option<&str>,
+) -> Result<BaselineSieve, LoadError>
+    ensures loaded { IfOk result (λ sieve. IsLoaded (F.content files.old) (option_map (λ s. s.now) given.entry) sieve.baseline) }
+    ensures refused { IfErr result (IsRefusedLoad (F.content files.old) (F.faults files.old) (F.faults files.new) (option_map (λ s. s.now) given.entry)) }
+    ensures kept { KeepsContents (F.content files.old) (F.content files.new) }
+    ensures later { F.faults files.old ≤ F.faults files.new }
+{
+    match given {
+        Some(name) => file_sieve(alloc, files, name),
+        None => Ok(BaselineSieve { baseline: None }),
+    }
+}
