@@ -61,6 +61,7 @@
            (action (titled "Ignore `ban-drop-column` here" (actions-at start))))
       (say "hover %S" hover)
       (check "the hover tells the rule" (string-match-p "ban-drop-column" (plist-get (plist-get hover :contents) :value)))
+      (check "it has the page of the rule" (string-match-p "\n    ALTER TABLE users DROP COLUMN email;" (eglot--hover-info (plist-get hover :contents))))
       (check "a comment is offered" action)
       (eglot--apply-workspace-edit (plist-get action :edit))
       (check "it is on a line of its own" (save-excursion (goto-char (point-min)) (search-forward "\n-- squawk-ignore ban-drop-column\nalter table" nil t)))

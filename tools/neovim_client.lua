@@ -96,6 +96,10 @@ check('the diagnostic is gone', not table.concat(list(), '\n'):find('require%-co
 local hover = vim.lsp.buf_request_sync(buf, 'textDocument/hover', { textDocument = { uri = uri }, position = { line = 2, character = 16 } }, 5000)
 say('hover %s', vim.json.encode(hover[id].result))
 check('hover tells the rule', hover[id].result.contents.value:find('ban%-drop%-column') ~= nil)
+local scratch = vim.api.nvim_create_buf(false, true)
+local shown = vim.lsp.util.stylize_markdown(scratch, vim.lsp.util.convert_input_to_markdown_lines(hover[id].result.contents), {})
+check('it is shown without its fences', shown[1] == 'ban-drop-column' and not table.concat(shown, '\n'):find('```'))
+check('it has the page of the rule', vim.tbl_contains(shown, '    ALTER TABLE users DROP COLUMN email;'))
 
 local function set(lines)
   local b = count

@@ -8,8 +8,8 @@ use Rattle.serde_json.specs.Data.{Data, Members, member, no_members, number, obj
 use Rattle.serde_json.specs.Find.{of_integer}
 
 -- the address of a rule's page
-abbrev pub page_of : Rule → List ℕ
-page_of rule = codes "https://squawkhq.com/docs/" ++ name_of rule
+abbrev pub address_of : Rule → List ℕ
+address_of rule = codes "https://squawkhq.com/docs/" ++ name_of rule
 
 -- the name of what a report is about: a rule, or that the text can't be read
 abbrev pub code_of : Option Rule → List ℕ
@@ -28,7 +28,7 @@ from_message severity r =
 abbrev pub diagnostic_by : Option Rule → Report → Data
 diagnostic_by (Some rule) r =
     object (member (codes "code") (string (name_of rule))
-    (member (codes "codeDescription") (object (member (codes "href") (string (page_of rule)) no_members)) (from_message 2 r)))
+    (member (codes "codeDescription") (object (member (codes "href") (string (address_of rule)) no_members)) (from_message 2 r)))
 diagnostic_by None r = object (member (codes "code") (string (codes "syntax")) (from_message 1 r))
 
 unfoldable pub diagnostic_json : Report → Data

@@ -3,7 +3,9 @@ use Rattle.std.specs.Prelude.{ℕ, List, [], ◌∷◌, ◌++◌, Option, Some, 
 use Rattle.lint_base.specs.declared.rule.Rule.{Rule}
 use Rattle.lsp_report.specs.declared.report.Report.{Report}
 use Rattle.lsp_write.specs.Action.{meets}
-use Rattle.lsp_write.specs.Diagnostic.{code_of, page_of}
+use Rattle.lsp_write.specs.Diagnostic.{address_of, code_of}
+use Rattle.lsp_write.specs.Fence.{block}
+use Rattle.rule_pages.specs.Pages as pages
 use Rattle.serde_json.specs.Data.{Data, member, no_members, null, object, string}
 use Rattle.text_utf16.specs.declared.position.Pos.{Pos}
 
@@ -17,23 +19,32 @@ line_if head None = []
 line_if head (Some part) = line head part
 
 -- the line with the address of a rule's page
-abbrev pub page_line : Option Rule → List ℕ
-page_line None = []
-page_line (Some rule) = line (codes "see: ") (page_of rule)
+abbrev pub see_line : Option Rule → List ℕ
+see_line None = []
+see_line (Some rule) = line (codes "see: ") (address_of rule)
 
--- what is to be known of a report
+-- what a report says
+abbrev pub message_lines : Report → List ℕ
+message_lines r = line (codes "") (code_of r.rule) ++ line (codes "") r.message ++ line_if (codes "note: ") r.note ++ line_if (codes "help: ") r.help ++ see_line r.rule
+
+-- a line feed, and what `lavkheto explain` prints of a rule
+abbrev pub page_lines : Option Rule → List ℕ
+page_lines None = []
+page_lines (Some rule) = codes "\n" ++ pages.page_of rule
+
+-- what is to be known of a report: what it says, and the page of its rule
 abbrev pub explanation : Report → List ℕ
-explanation r = line (codes "") (code_of r.rule) ++ line (codes "") r.message ++ line_if (codes "note: ") r.note ++ line_if (codes "help: ") r.help ++ page_line r.rule
+explanation r = message_lines r ++ page_lines r.rule
 
--- what is to be known of the reports at a place
+-- what is to be known of the reports at a place, each in a block
 abbrev pub explanations : List Report → Pos → List ℕ
-explanations reports at = flat_map (λ r. if meets r at at then explanation r else []) reports
+explanations reports at = flat_map (λ r. if meets r at at then block (explanation r) else []) reports
 
 -- a hover, or null where nothing is to be known
 abbrev pub hover_of : List ℕ → Data
 hover_of [] = null
 hover_of (byte ∷ bytes) =
-    object (member (codes "contents") (object (member (codes "kind") (string (codes "plaintext")) (member (codes "value") (string (byte ∷ bytes)) no_members))) no_members)
+    object (member (codes "contents") (object (member (codes "kind") (string (codes "markdown")) (member (codes "value") (string (byte ∷ bytes)) no_members))) no_members)
 
 unfoldable pub hover_json : List Report → Pos → Data
 hover_json reports at = hover_of (explanations reports at)

@@ -4,7 +4,7 @@ ghost use Rattle.diag_json.specs.Json.{list_json};
 ghost use Rattle.diag_json.specs.Putting.{put_if};
 ghost use Rattle.serde_json.specs.Data.{string};
 ghost use Rattle.serde_json.specs.View.{items_of, items_view, members_view, view};
-ghost use Rattle.lsp_write.specs.Diagnostic.{code_of, diagnostic_by, diagnostic_json, integer_json, page_of, published_json, published_params, unversioned};
+ghost use Rattle.lsp_write.specs.Diagnostic.{code_of, diagnostic_by, diagnostic_json, integer_json, address_of, published_json, published_params, unversioned};
 
 use crate::place::range_value;
 use lint_base::Rule;
@@ -22,8 +22,8 @@ const ERROR: u64 = 1;
 const WARNING: u64 = 2;
 
 /// The address of a rule's page.
-pub(crate) fn page_of(alloc: Global, rule: Rule) -> Result<String, AllocError>
-    ensures { IfOk result (λ s. string_bytes s ≡ page_of rule) }
+pub(crate) fn address_of(alloc: Global, rule: Rule) -> Result<String, AllocError>
+    ensures { IfOk result (λ s. string_bytes s ≡ address_of rule) }
 {
     let mut page = String::from_str(alloc, PAGES)?;
     page.push_str(rule.name())?;
@@ -43,7 +43,7 @@ pub(crate) fn code_of(rule: Option<Rule>) -> &'static str
 fn warning(alloc: Global, report: &Report, rule: Rule) -> Result<Value, AllocError>
     ensures { IfOk result (λ v. view v ≡ diagnostic_by (Some rule) report.now) }
 {
-    let page = page_of(alloc, rule)?;
+    let page = address_of(alloc, rule)?;
     let range = range_value(alloc, report.start, report.end)?;
     json!(in alloc; {
         "code": (rule.name()),

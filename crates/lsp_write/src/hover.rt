@@ -2,12 +2,15 @@
 ghost use Rattle.std.specs.Prelude.{◌≡◌, ◌++◌, codes, IfOk, OnOk, if◌then◌else◌, [], string_bytes};
 ghost use Rattle.serde_json.specs.View.{view};
 ghost use Rattle.lsp_write.specs.Action.{meets};
-ghost use Rattle.lsp_write.specs.Hover.{explanation, explanations, hover_json, hover_of, line, line_if, page_line};
+ghost use Rattle.lsp_write.specs.Fence.{block};
+ghost use Rattle.lsp_write.specs.Hover.{explanation, explanations, hover_json, hover_of, line, line_if, message_lines, page_lines, see_line};
 
-use crate::diagnostic::{code_of, page_of};
+use crate::diagnostic::{address_of, code_of};
+use crate::fence::push_block;
 use crate::place::meets;
 use lint_base::{Rule, Text};
 use lsp_report::Report;
+use rule_pages::rule_page;
 use serde_json::{Value, json};
 use std::alloc::{AllocError, Global};
 use text_utf16::Pos;
@@ -29,31 +32,54 @@ fn push_line_if(out: &mut String, head: &str, part: &Option<Text>) -> Result<(),
     }
 }
 
-fn push_page(out: &mut String, alloc: Global, rule: Option<Rule>) -> Result<(), AllocError>
-    ensures { OnOk result (string_bytes out.new ≡ string_bytes out.old ++ page_line rule) }
+fn push_see(out: &mut String, alloc: Global, rule: Option<Rule>) -> Result<(), AllocError>
+    ensures { OnOk result (string_bytes out.new ≡ string_bytes out.old ++ see_line rule) }
 {
     match rule {
-        Some(rule) => push_line(out, "see: ", page_of(alloc, rule)?.as_str()),
+        Some(rule) => push_line(out, "see: ", address_of(alloc, rule)?.as_str()),
         None => Ok(()),
     }
 }
 
-/// Adds what is to be known of a report.
-fn push_explanation(out: &mut String, alloc: Global, report: &Report) -> Result<(), AllocError>
-    ensures { OnOk result (string_bytes out.new ≡ string_bytes out.old ++ explanation report.now) }
+/// Adds what a report says.
+fn push_message(out: &mut String, alloc: Global, report: &Report) -> Result<(), AllocError>
+    ensures { OnOk result (string_bytes out.new ≡ string_bytes out.old ++ message_lines report.now) }
 {
     push_line(out, "", code_of(report.rule))?;
     push_line(out, "", report.message.as_str())?;
     push_line_if(out, "note: ", &report.note)?;
     push_line_if(out, "help: ", &report.help)?;
-    push_page(out, alloc, report.rule)
+    push_see(out, alloc, report.rule)
 }
 
+/// Adds what `lavkheto explain` prints of a rule.
+fn push_page(out: &mut String, rule: Option<Rule>) -> Result<(), AllocError>
+    ensures { OnOk result (string_bytes out.new ≡ string_bytes out.old ++ page_lines rule) }
+{
+    match rule {
+        Some(rule) => {
+            out.push_str("\n")?;
+            out.push_str(rule_page(rule))
+        }
+        None => Ok(()),
+    }
+}
+
+fn explanation(alloc: Global, report: &Report) -> Result<String, AllocError>
+    ensures { IfOk result (λ s. string_bytes s ≡ explanation report.now) }
+{
+    let mut out = String::new(alloc);
+    push_message(&mut out, alloc, report)?;
+    push_page(&mut out, report.rule)?;
+    Ok(out)
+}
+
+/// Adds what is to be known of a report, where it lies at a place.
 fn push_if_at(out: &mut String, alloc: Global, report: &Report, at: Pos) -> Result<(), AllocError>
-    ensures { OnOk result (string_bytes out.new ≡ string_bytes out.old ++ (if meets report.now at at then explanation report.now else [])) }
+    ensures { OnOk result (string_bytes out.new ≡ string_bytes out.old ++ (if meets report.now at at then block (explanation report.now) else [])) }
 {
     if meets(report, at, at) {
-        push_explanation(out, alloc, report)?;
+        push_block(out, alloc, explanation(alloc, report)?.as_str())?;
     }
     Ok(())
 }
@@ -74,7 +100,7 @@ fn contents(alloc: Global, text: &str) -> Result<Value, AllocError>
     if text.is_empty() {
         return Ok(Value::Null);
     }
-    json!(in alloc; {"contents": {"kind": "plaintext", "value": text}})
+    json!(in alloc; {"contents": {"kind": "markdown", "value": text}})
 }
 
 /// What is to be known of those reports that lie at a place.

@@ -5,6 +5,7 @@
 
 mod action;
 mod diagnostic;
+mod fence;
 mod hover;
 mod place;
 mod reply;

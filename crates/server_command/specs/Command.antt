@@ -5,8 +5,8 @@ use Rattle.config_file.specs.Loaded.{IsRefusedFor}
 use Rattle.file_store.specs.Contents.{Content}
 use Rattle.lsp_serve.specs.declared.end.End.{End}
 use Rattle.lsp_serve.specs.Served.{Served as HasServed, Streams}
-use Rattle.lsp_server.specs.declared.linting.Linting.{Linting}
-use Rattle.lsp_server.specs.Shown.{Shows}
+use Rattle.lsp_linter.specs.declared.linting.Linting.{Linting}
+use Rattle.lsp_linter.specs.Shown.{Shows}
 use Rattle.server_command.specs.declared.outcome.Failure.TheVariants as failure
 use Rattle.server_command.specs.declared.outcome.Outcome.{Outcome}
 use Rattle.server_command.specs.declared.outcome.Outcome.TheVariants.{Printed, Served, Failed}

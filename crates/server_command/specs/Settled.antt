@@ -4,7 +4,7 @@ use Rattle.check_config.specs.declared.config.Config.{Config}
 use Rattle.check_config.specs.Defaults.{linter_words}
 use Rattle.config_file.specs.Loaded.{IsLoaded, IsRefusedFor}
 use Rattle.file_store.specs.Contents.{Content}
-use Rattle.lsp_server.specs.declared.linting.Linting.{Linting}
+use Rattle.lsp_linter.specs.declared.linting.Linting.{Linting}
 use Rattle.server_command.specs.declared.outcome.Failure.{Failure}
 use Rattle.server_command.specs.declared.outcome.Failure.TheVariants as failure
 use Rattle.squawk_run.specs.declared.stop.Stop.{Stop}

@@ -8,7 +8,7 @@ use crate::outcome::{Failure, failure_of};
 use check_config::{Config, linter_words};
 use config_file::load_config;
 use file_store::FileStore;
-use lsp_server::Linting;
+use lsp_linter::Linting;
 use squawk_linter::Linter;
 use squawk_run::{Stop, read_text_choices};
 use squawk_words::{Choices, Words};

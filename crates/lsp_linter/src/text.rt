@@ -1,8 +1,8 @@
 //! The reports of a text.
-ghost use Rattle.std.specs.Prelude.{◌≡◌, ◌<◌, ◌^◌, ◌∷◌, [], All, IfErr, IfOk, length};
+ghost use Rattle.std.specs.Prelude.{◌≡◌, ◌<◌, ◌^◌, ◌∷◌, [], All, IfErr, IfOk, Some, length};
 ghost use Rattle.diag_report.specs.Places.{ReportIn};
-ghost use Rattle.lsp_server.specs.Shown as spec;
-ghost use Rattle.lsp_server.specs.Shown.{Lints, SameButFlag, Shows};
+ghost use Rattle.lsp_linter.specs.Shown as spec;
+ghost use Rattle.lsp_linter.specs.Shown.{Lints, Refuses, SameButFlag, Shows};
 ghost use Rattle.lsp_shown.specs.Shown.{shown};
 ghost use Rattle.lsp_shown.specs.Tokens.{long_tokens};
 ghost use Rattle.sql_read.specs.Cause.{IsCause};
@@ -62,36 +62,44 @@ fn position_of(alloc: Global, text: &str, at: u32) -> Result<Pos, NoMemory>
 }
 
 // One report alone.
-fn alone(alloc: Global, message: &'static str, at: Pos) -> Result<Vec<Report>, NoMemory>
-    ensures { IfOk result (λ found. found.items ≡ spec.alone message.entry.now at) }
+fn alone(alloc: Global, report: Report) -> Result<Vec<Report>, NoMemory>
+    ensures { IfOk result (λ found. found.items ≡ report ∷ []) }
 {
     let mut found = Vec::new(alloc);
-    found.push(refused_at(message, at))?;
+    found.push(report)?;
     Ok(found)
 }
 
 // The report of a text that is refused.
 #[tactic(auto, using(crate::proofs::Placing::open_in, crate::proofs::Placing::syntax_in))]
-fn refusal_of(alloc: Global, text: &str, error: LintError) -> Result<Vec<Report>, NoMemory>
+fn refusal_of(alloc: Global, text: &str, error: LintError) -> Result<Report, NoMemory>
     requires { IsCause text.now error }
-    ensures { IfOk result (λ found. found.items ≡ spec.refusal_of text.now error) }
+    ensures { IfOk result (λ report. spec.refusal_of text.now error ≡ Some report) }
 {
     match error {
-        LintError::TooLong => alone(
-            alloc,
+        LintError::TooLong => Ok(refused_at(
             "the text has 2^32 bytes or more",
             Pos { line: 0, col: 0 },
-        ),
+        )),
         LintError::Unterminated { at } => {
             let at = position_of(alloc, text, at)?;
-            alone(alloc, "what begins here does not end", at)
+            Ok(refused_at("what begins here does not end", at))
         }
         LintError::Syntax { at } => {
             let at = position_of(alloc, text, at)?;
-            alone(alloc, "the statement that begins here can't be read", at)
+            Ok(refused_at("the statement that begins here can't be read", at))
         }
         LintError::NoMemory => Err(NoMemory),
     }
+}
+
+// The reports of a text that is refused.
+fn refusals_of(alloc: Global, text: &str, error: LintError) -> Result<Vec<Report>, NoMemory>
+    requires { IsCause text.now error }
+    ensures { IfOk result (λ found. Refuses text.now found.items) }
+{
+    let report = refusal_of(alloc, text, error)?;
+    alone(alloc, report)
 }
 
 // The reports of a text. The flag of the linter may be cleared.
@@ -103,7 +111,7 @@ fn reports_of(alloc: Global, linter: &mut Linter, text: &str) -> Result<Vec<Repo
 {
     match parse(alloc, text) {
         Ok(file) => lint_tree(alloc, linter, &file),
-        Err(error) => refusal_of(alloc, text, error),
+        Err(error) => refusals_of(alloc, text, error),
     }
 }
 

@@ -1,7 +1,7 @@
 use Rattle.std.proofs.Common.{List, ℕ, inl, inr, subst}
 use Rattle.std.proofs.lemmas.Result.{IfOk-weaker}
-use Rattle.lsp_server.specs.Shown.{Lints}
-use Rattle.lsp_server.proofs.text.reports_of.Goals as goal
+use Rattle.lsp_linter.specs.Shown.{Lints}
+use Rattle.lsp_linter.proofs.text.reports_of.Goals as goal
 
 pub returns-in-Ok-clause-shows : goal.returns-in-Ok-clause-shows
 returns-in-Ok-clause-shows c =
@@ -10,5 +10,4 @@ returns-in-Ok-clause-shows c =
     c.lint_tree.ensures.lints
 
 pub returns-in-Err-clause-shows : goal.returns-in-Err-clause-shows
-returns-in-Err-clause-shows c =
-    IfOk-weaker c.refusal_of.result _ _ (λ found h. inr (record { error = c.in-Err.error; cause = c.in-Err.ensures.err; are = h })) c.refusal_of.ensures
+returns-in-Err-clause-shows c = IfOk-weaker c.refusals_of.result _ _ (λ found h. inr h) c.refusals_of.ensures

@@ -4,7 +4,7 @@ use Rattle.lint_base.specs.declared.settings.LinterSettings.{LinterSettings}
 use Rattle.lint_base.specs.declared.violation.Violation.{Violation}
 use Rattle.lint_base.specs.RuleSets.{Rules}
 use Rattle.lsp_report.specs.declared.report.Report.{Report}
-use Rattle.lsp_server.specs.Shown.{Lints}
+use Rattle.lsp_linter.specs.Shown.{Lints}
 use Rattle.lsp_shown.specs.declared.ignore.Lines.{Lines}
 use Rattle.lsp_shown.specs.Shown.{shown}
 use Rattle.lsp_shown.specs.Tokens.{long_tokens}

@@ -1,5 +1,5 @@
 -- Which reports a text has for an editor.
-use Rattle.std.specs.Prelude.{◌≡◌, ◌⊎◌, ℕ, List, [], ◌∷◌, codes}
+use Rattle.std.specs.Prelude.{◌≡◌, ◌⊎◌, ℕ, List, [], ◌∷◌, Option, Some, None, codes}
 use Rattle.lint_base.specs.RuleSets.{Rules}
 use Rattle.lint_base.specs.declared.settings.LinterSettings.{LinterSettings}
 use Rattle.lsp_report.specs.declared.report.Report.{Report}
@@ -22,21 +22,20 @@ pub record Lints (rules : Rules) (settings : LinterSettings) (t : List ℕ) (fou
 abbrev pub start : Pos
 start = record { line = 0; col = 0 }
 
-abbrev pub alone : List ℕ → Pos → List Report
-alone message at = refused_at message at ∷ []
+-- The report of a text that is refused, at the place of the fault. Running out of memory refuses no text, so it has none.
+abbrev pub refusal_of : List ℕ → LintError → Option Report
+refusal_of t TooLong = Some (refused_at (codes "the text has 2^32 bytes or more") start)
+refusal_of t (Unterminated at) = Some (refused_at (codes "what begins here does not end") (position_of t at))
+refusal_of t (Syntax at) = Some (refused_at (codes "the statement that begins here can't be read") (position_of t at))
+refusal_of t NoMemory = None
 
--- the one report of a text that is refused, at the place of the fault
-abbrev pub refusal_of : List ℕ → LintError → List Report
-refusal_of t TooLong = alone (codes "the text has 2^32 bytes or more") start
-refusal_of t (Unterminated at) = alone (codes "what begins here does not end") (position_of t at)
-refusal_of t (Syntax at) = alone (codes "the statement that begins here can't be read") (position_of t at)
-refusal_of t NoMemory = []
-
--- a text that is refused, and the report of that
+-- a text that is refused, and the one report of that
 pub record Refuses (t : List ℕ) (found : List Report) : Type 0 where
   pub error : LintError
   pub cause : IsCause t error
-  pub are : found ≡ refusal_of t error
+  pub report : Report
+  pub of_error : refusal_of t error ≡ Some report
+  pub are : found ≡ report ∷ []
 
 -- the reports of a text
 abbrev pub Shows : Rules → LinterSettings → List ℕ → List Report → Type 0

@@ -1,7 +1,7 @@
 -- What a text leaves of the linter's settings.
 use Rattle.std.proofs.Common.{◌≡◌, ap}
 use Rattle.lint_base.specs.declared.settings.LinterSettings.{LinterSettings}
-use Rattle.lsp_server.specs.Shown.{SameButFlag}
+use Rattle.lsp_linter.specs.Shown.{SameButFlag}
 use Rattle.sql_tree.specs.Statement.{Tree}
 use Rattle.squawk_linter.specs.Reports.{cleared}
 

@@ -1,7 +1,7 @@
 use Rattle.std.proofs.lemmas.Result.{IfOk-weaker}
-use Rattle.lsp_server.proofs.Linted.{linted}
-use Rattle.lsp_server.proofs.Placing.{lexed_of, reports_of}
-use Rattle.lsp_server.proofs.text.lint_tree.Goals as goal
+use Rattle.lsp_linter.proofs.Linted.{linted}
+use Rattle.lsp_linter.proofs.Placing.{lexed_of, reports_of}
+use Rattle.lsp_linter.proofs.text.lint_tree.Goals as goal
 
 pub shown_of-requires-clause-tokens : goal.shown_of-requires-clause-tokens
 shown_of-requires-clause-tokens c =

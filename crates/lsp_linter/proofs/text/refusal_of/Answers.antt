@@ -1,8 +1,8 @@
 use Rattle.std.proofs.Common.{subst}
-use Rattle.lsp_server.proofs.Placing.{syntax_in}
+use Rattle.lsp_linter.proofs.Placing.{syntax_in}
 use Rattle.sql_read.specs.Cause.{IsCause}
 use Rattle.sql_read.specs.declared.error.LintError.{LintError}
-use Rattle.lsp_server.proofs.text.refusal_of.Goals as goal
+use Rattle.lsp_linter.proofs.text.refusal_of.Goals as goal
 
 pub position_of-requires-in-Syntax-clause-place : goal.position_of-requires-in-Syntax-clause-place
 position_of-requires-in-Syntax-clause-place c =

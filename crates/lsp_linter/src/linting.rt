@@ -1,6 +1,6 @@
 //! The linter as what finds the reports of a text.
 ghost use Rattle.std.specs.Prelude.{◌≡◌};
-ghost use Rattle.lsp_server.specs.Shown.{Shows};
+ghost use Rattle.lsp_linter.specs.Shown.{Shows};
 
 use crate::text::check_text;
 use lsp_report::{Checker, Report};

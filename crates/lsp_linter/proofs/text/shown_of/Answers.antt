@@ -1,9 +1,9 @@
 use Rattle.std.proofs.Common.{◌∙◌, All, List, ℕ, subst, sym}
 use Rattle.std.proofs.lemmas.Result.{IfOk-weaker}
-use Rattle.lsp_server.proofs.Linted.{shown_same}
-use Rattle.lsp_server.proofs.Placing.{tokens_in}
+use Rattle.lsp_linter.proofs.Linted.{shown_same}
+use Rattle.lsp_linter.proofs.Placing.{tokens_in}
 use Rattle.lsp_shown.specs.Tokens.{TokenIn}
-use Rattle.lsp_server.proofs.text.shown_of.Goals as goal
+use Rattle.lsp_linter.proofs.text.shown_of.Goals as goal
 
 pub long_tokens-requires : goal.long_tokens-requires
 long_tokens-requires c =
