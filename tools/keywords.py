@@ -5,10 +5,10 @@ Run it at the top of the repository after an edit of WORDS, VERBS or OBJECTS, an
 
     python3 tools/keywords.py && (cd crates/sql_keyword && rt fmt && rt check)
 
-It writes src/words.rt, src/slots.rt, specs/Texts.antt, proofs/Found.antt, proofs/Listed.antt and
-must-fail/number_off_by_one.edit of crates/sql_keyword, and nothing else. The same words give the
-same files. With --check it writes nothing, and ends with 1 where a file says something else than
-the words do; how a file is laid out doesn't matter.
+It writes src/words.rt, src/slots.rt, specs/Texts.antt, proofs/Found.antt and proofs/Listed.antt of
+crates/sql_keyword, and nothing else. The same words give the same files. With --check it writes
+nothing, and ends with 1 where a file says something else than the words do; how a file is laid out
+doesn't matter.
 
 How the table works. A word's slot is the sum of a shift for its first letter, of its length and of
 its second, last but one and last letters, each times a weight, modulo the number of slots; a letter
@@ -286,12 +286,6 @@ unfolding text slot start_of length_of keyword_in text_at look_up
 {lines}"""
 
 
-def off_by_one_edit(slots):
-    """The greatest number of the tables, where the last text begins, and the next one in its place."""
-    number = max(int(number) for number in re.findall(r"\d+(?=,)", slots))
-    return f"file: src/slots.rt\nold: {number},\nnew: {number + 1},\n"
-
-
 def tokens(text):
     """A file without its layout: neither blanks, nor a comma before a closing bracket."""
     return "".join(text.split()).replace(",]", "]").replace(",)", ")").replace(",}", "}")
@@ -301,14 +295,12 @@ def main():
     assert WORDS == sorted(set(WORDS)), "the words stand in order, each once"
     assert all(SHORTEST <= len(word) <= LONGEST for word in WORDS), "src/lib.rt tests the length"
     assert all(word.isascii() and word.isalpha() and word.isupper() for word in WORDS)
-    slots = slots_rt(*search())
     files = {
         "src/words.rt": words_rt(),
-        "src/slots.rt": slots,
+        "src/slots.rt": slots_rt(*search()),
         "specs/Texts.antt": texts_antt(),
         "proofs/Found.antt": found_antt(),
         "proofs/Listed.antt": listed_antt(),
-        "must-fail/number_off_by_one.edit": off_by_one_edit(slots),
     }
     if sys.argv[1:] == ["--check"]:
         stale = [name for name, text in files.items() if tokens(text) != tokens((CRATE / name).read_text("utf-8"))]
