@@ -1,4 +1,5 @@
 mod Chunks
 mod Spaced
 mod Shapes
+mod Told
 mod Uniqueness

@@ -1,43 +1,51 @@
 -- The findings of files, each with what is printed of it.
-use Rattle.std.specs.Prelude.{ℕ, List, [], ◌∷◌, flat_map, map}
+use Rattle.std.specs.Prelude.{ℕ, List, [], ◌∷◌, flat_map, map, slice_range}
 use Rattle.checked_file.specs.declared.answer.Answer.{Answer}
 use Rattle.checked_file.specs.declared.answer.Answer.TheVariants.{Reports, Refused}
 use Rattle.checked_file.specs.declared.checked.Checked.{Checked}
 use Rattle.check_print.specs.Printed.{source_of}
 use Rattle.lint_base.specs.declared.violation.Violation.{Violation}
 use Rattle.lint_base.specs.Rules.{name_of}
+use Rattle.report_gitlab.specs.Issues.{issue_object, severity_of}
 use Rattle.report_json.specs.Objects.{finding_object, fix_data, hint_data, text_data}
-use Rattle.serde_json.specs.Data.{Data, null}
+use Rattle.report_sarif.specs.Results as sarif
+use Rattle.serde_json.specs.Data.{Data, array, no_items, null}
+use Rattle.source_file.specs.declared.level.Level.{Level}
 use Rattle.source_file.specs.declared.level.Level.TheVariants as levels
 use Rattle.source_file.specs.declared.refusal.Refusal.{Refusal}
-use Rattle.source_file.specs.File.{FileValue, location}
+use Rattle.source_file.specs.File.{FileValue, line_number, location}
 use Rattle.source_file.specs.Hints.{hint_of}
 use Rattle.source_file.specs.Levels.{word_of}
 use Rattle.source_file.specs.Refusals as refusals
 use Rattle.text_pos.specs.Range.{Range}
 
--- a finding: its file, its range, its level, the name of its rule, its message, and its note, help and fix as they are printed
+-- a finding: its file, its range, its level, the name of its rule and its message; its note, help and fix as JSON has them; its fixes as
+-- SARIF has them; and the text that is reported, of which GitLab has a fingerprint
 pub record Found : Type 0 where
   pub file : FileValue
   pub range : Range
-  pub level : List ℕ
+  pub level : Level
   pub rule : List ℕ
   pub message : List ℕ
   pub note : Data
   pub help : Data
   pub fix : Data
+  pub fixes : Data
+  pub part : List ℕ
 
 -- a report
 abbrev pub found_report : FileValue → Violation → Found
 found_report file v = record {
   file = file;
   range = v.text_range;
-  level = word_of levels.Warning;
+  level = levels.Warning;
   rule = name_of v.code;
   message = v.message;
   note = text_data v.note;
   help = text_data v.help;
   fix = fix_data v.fix;
+  fixes = sarif.fixes file v.fix;
+  part = slice_range file.text v.text_range.start v.text_range.end;
 }
 
 -- why a file could not be linted
@@ -45,12 +53,14 @@ abbrev pub found_refusal : FileValue → Refusal → Found
 found_refusal file r = record {
   file = file;
   range = record { start = refusals.place_of r; end = refusals.place_of r };
-  level = word_of levels.Error;
+  level = levels.Error;
   rule = refusals.name_of r;
   message = refusals.message_of r;
   note = null;
   help = hint_data (hint_of file.text r);
   fix = null;
+  fixes = array no_items;
+  part = [];
 }
 
 abbrev pub found_by : FileValue → Answer → List Found
@@ -65,9 +75,17 @@ found_in file = found_by (source_of file) file.answer
 abbrev pub all_found : List Checked → List Found
 all_found files = flat_map found_in files
 
--- the object that is printed
+-- the object of JSON
 abbrev pub object_of : Found → Data
-object_of f = finding_object f.file f.range f.level f.rule f.message f.note f.help f.fix
+object_of f = finding_object f.file f.range (word_of f.level) f.rule f.message f.note f.help f.fix
+
+-- the result of SARIF
+abbrev pub result_of : Found → Data
+result_of f = sarif.result_object f.file f.range (word_of f.level) f.rule f.message f.fixes
+
+-- the issue of GitLab
+abbrev pub issue_of : Found → Data
+issue_of f = issue_object f.file (line_number f.file.text f.range.start) f.level f.rule f.message f.part
 
 -- what a reader has of a finding: the file's name, both places, the level, the rule and the message
 pub record Told : Type 0 where
@@ -90,7 +108,24 @@ told f =
       column = first.column;
       line_end = last.line;
       column_end = last.column;
-      level = f.level;
+      level = word_of f.level;
       rule = f.rule;
       message = f.message;
     }
+
+-- what GitLab's format keeps of it: the file's name, the line, the severity, the rule and the message
+pub record ToldIssue : Type 0 where
+  pub name : List ℕ
+  pub line : ℕ
+  pub severity : List ℕ
+  pub rule : List ℕ
+  pub message : List ℕ
+
+abbrev pub told_issue : Found → ToldIssue
+told_issue f = record {
+  name = f.file.name;
+  line = line_number f.file.text f.range.start;
+  severity = severity_of f.level;
+  rule = f.rule;
+  message = f.message;
+}

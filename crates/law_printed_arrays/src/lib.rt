@@ -1,9 +1,20 @@
-//! Laws of what is printed for programs: the JSON of a run leads back to each file, place and rule.
+//! Laws of what is printed for programs: the JSON of a run leads back to each file, place and rule, and so do its SARIF and, as far as its
+//! format keeps them, what GitLab reads.
 #![tactic(auto)]
 
-ghost use Rattle.law_printed_arrays.specs.Unique.{UniqueArrays};
+ghost use Rattle.law_printed_arrays.specs.Unique.{UniqueArrays, UniqueIssues, UniqueLogs};
 
 /// Two lists of files of which the same JSON is printed have the same findings, at the same places, in the same order.
 pub fn unique_arrays()
     ensures { UniqueArrays }
+{}
+
+/// Two lists of files of which the same SARIF is printed have the same findings, at the same places, in the same order.
+pub fn unique_logs()
+    ensures { UniqueLogs }
+{}
+
+/// Two lists of files of which the same is printed for GitLab have the same findings on the same lines, in the same order.
+pub fn unique_issues()
+    ensures { UniqueIssues }
 {}

@@ -1,5 +1,6 @@
 -- What is said of words that are refused.
-use Rattle.std.specs.Prelude.{ℕ, List, [], ◌++◌, None, Option, Some, codes}
+use Rattle.std.specs.Prelude.{ℕ, List, [], ◌++◌, None, Option, Some, codes, if◌then◌else◌}
+use Rattle.std.specs.Str.{bytes_eq}
 use Rattle.check_words.specs.declared.fault.WordFault.{WordFault}
 use Rattle.check_words.specs.declared.fault.WordFault.TheVariants.{NoCommand, UnknownCommand, UnknownWord, MissingValue, TakesNoValue, UnknownValue, UnknownRule, EmptyName, NotNumber, Twice, OnlyBesideLists}
 use Rattle.check_words.specs.declared.names.Choice.{Choice}
@@ -32,10 +33,13 @@ values_of choice.Color = codes "; one of auto, always, never"
 values_of choice.FailOn = codes "; one of warning, never"
 values_of c = []
 
--- the rule that may be meant
+-- the name of the rule that may be meant, but for the one that no option can name
+abbrev pub suggestion : Text → Text
+suggestion name = if bytes_eq name (codes "unused-ignore") then [] else codes "; did you mean " ++ name ++ codes "?"
+
 abbrev pub suggestion_by : Option Rule → Text
 suggestion_by None = []
-suggestion_by (Some rule) = codes "; did you mean " ++ rules.name_of rule ++ codes "?"
+suggestion_by (Some rule) = suggestion (rules.name_of rule)
 
 unfoldable pub message_of : WordFault → Text
 message_of NoCommand = unknown_word (codes "no command") []

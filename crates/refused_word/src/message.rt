@@ -1,6 +1,6 @@
 //! What is wrong with words.
 ghost use Rattle.std.specs.Prelude.{◌≡◌, ◌++◌, IfOk, string_bytes};
-ghost use Rattle.refused_word.specs.Messages.{message_of, of_choice, of_flag, suggestion_by, unknown_word, values_of};
+ghost use Rattle.refused_word.specs.Messages.{message_of, of_choice, of_flag, suggestion, suggestion_by, unknown_word, values_of};
 
 use check_words::{Choice, Flag, WordFault};
 use lint_base::Rule;
@@ -65,12 +65,22 @@ fn values_of(choice: Choice) -> &'static str
     }
 }
 
-// The rule that may be meant.
+// The name of the rule that may be meant, but for the one that no option can name.
+fn suggestion(alloc: Global, name: &str) -> Result<String, AllocError>
+    ensures { IfOk result (λ text. string_bytes text ≡ suggestion name.now) }
+{
+    if name == "unused-ignore" {
+        return String::from_str(alloc, "");
+    }
+    joined(alloc, "; did you mean ", name, "?")
+}
+
+// The same, where there is one.
 fn suggestion_by(alloc: Global, rule: Option<Rule>) -> Result<String, AllocError>
     ensures { IfOk result (λ text. string_bytes text ≡ suggestion_by rule) }
 {
     match rule {
-        Some(rule) => joined(alloc, "; did you mean ", rule.name(), "?"),
+        Some(rule) => suggestion(alloc, rule.name()),
         None => String::from_str(alloc, ""),
     }
 }
