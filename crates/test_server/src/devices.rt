@@ -6,18 +6,22 @@ use std::test::Fail;
 
 const IN_ORDER: End = End::Exited { in_order: true };
 
-// Byte by byte the talk is read in 353 reads. What came whole before the failure is answered, and nothing is read after the exit.
+// Byte by byte. What came whole before the failure is answered, and nothing is read after the exit.
 #[test]
 fn each_read_fails(rt: HostRuntime) -> Result<(), Fail> {
     let talk = input(rt.alloc())?;
-    for call in 0..354u32 {
+    for call in 0..=talk.len() {
         let on = Devices {
             step: 1,
-            read_fails: &[call],
+            read_fails: &[call as u32],
             ..SOUND
         };
-        let said = output(rt.alloc(), call as usize)?;
-        let end = if call < 353 { End::ReadFault } else { IN_ORDER };
+        let said = output(rt.alloc(), call)?;
+        let end = if call < talk.len() {
+            End::ReadFault
+        } else {
+            IN_ORDER
+        };
         serves(&rt, rt.alloc(), talk.as_bytes(), on, end, said.as_bytes())?;
     }
     Ok(())
