@@ -5,7 +5,7 @@ use Rattle.lsp_report.specs.declared.report.Report.{Report}
 use Rattle.lsp_write.specs.Action.{meets}
 use Rattle.lsp_write.specs.Diagnostic.{address_of, code_of}
 use Rattle.lsp_write.specs.Fence.{block}
-use Rattle.rule_pages.specs.Pages.{page_of}
+use Rattle.rule_pages.specs.Pages as pages
 use Rattle.serde_json.specs.Data.{Data, member, no_members, null, object, string}
 use Rattle.text_utf16.specs.declared.position.Pos.{Pos}
 
@@ -27,22 +27,18 @@ see_line (Some rule) = line (codes "see: ") (address_of rule)
 abbrev pub message_lines : Report → List ℕ
 message_lines r = line (codes "") (code_of r.rule) ++ line (codes "") r.message ++ line_if (codes "note: ") r.note ++ line_if (codes "help: ") r.help ++ see_line r.rule
 
--- what the reports at a place say, each in a block
-abbrev pub messages : List Report → Pos → List ℕ
-messages reports at = flat_map (λ r. if meets r at at then block (message_lines r) else []) reports
+-- a line feed, and what `lavkheto explain` prints of a rule
+abbrev pub page_lines : Option Rule → List ℕ
+page_lines None = []
+page_lines (Some rule) = codes "\n" ++ pages.page_of rule
 
--- what `lavkheto explain` prints of a rule, in a block
-abbrev pub page_block : Option Rule → List ℕ
-page_block None = []
-page_block (Some rule) = block (page_of rule)
+-- what is to be known of a report: what it says, and the page of its rule
+abbrev pub explanation : Report → List ℕ
+explanation r = message_lines r ++ page_lines r.rule
 
--- the pages of the rules that the reports at a place are of, in the order of the reports
-abbrev pub pages : List Report → Pos → List ℕ
-pages reports at = flat_map (λ r. if meets r at at then page_block r.rule else []) reports
-
--- what is to be known of the reports at a place: what each says, and then the pages
+-- what is to be known of the reports at a place, each in a block
 abbrev pub explanations : List Report → Pos → List ℕ
-explanations reports at = messages reports at ++ pages reports at
+explanations reports at = flat_map (λ r. if meets r at at then block (explanation r) else []) reports
 
 -- a hover, or null where nothing is to be known
 abbrev pub hover_of : List ℕ → Data

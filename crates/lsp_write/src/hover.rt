@@ -3,7 +3,7 @@ ghost use Rattle.std.specs.Prelude.{◌≡◌, ◌++◌, codes, IfOk, OnOk, if�
 ghost use Rattle.serde_json.specs.View.{view};
 ghost use Rattle.lsp_write.specs.Action.{meets};
 ghost use Rattle.lsp_write.specs.Fence.{block};
-ghost use Rattle.lsp_write.specs.Hover.{explanations, hover_json, hover_of, line, line_if, message_lines, messages, page_block, pages, see_line};
+ghost use Rattle.lsp_write.specs.Hover.{explanation, explanations, hover_json, hover_of, line, line_if, message_lines, page_lines, see_line};
 
 use crate::diagnostic::{address_of, code_of};
 use crate::fence::push_block;
@@ -41,79 +41,56 @@ fn push_see(out: &mut String, alloc: Global, rule: Option<Rule>) -> Result<(), A
     }
 }
 
-/// What a report says.
-fn message_lines(alloc: Global, report: &Report) -> Result<String, AllocError>
-    ensures { IfOk result (λ s. string_bytes s ≡ message_lines report.now) }
+/// Adds what a report says.
+fn push_message(out: &mut String, alloc: Global, report: &Report) -> Result<(), AllocError>
+    ensures { OnOk result (string_bytes out.new ≡ string_bytes out.old ++ message_lines report.now) }
 {
-    let mut out = String::new(alloc);
-    push_line(&mut out, "", code_of(report.rule))?;
-    push_line(&mut out, "", report.message.as_str())?;
-    push_line_if(&mut out, "note: ", &report.note)?;
-    push_line_if(&mut out, "help: ", &report.help)?;
-    push_see(&mut out, alloc, report.rule)?;
-    Ok(out)
-}
-
-fn push_message_at(
-    out: &mut String,
-    alloc: Global,
-    report: &Report,
-    at: Pos,
-) -> Result<(), AllocError>
-    ensures { OnOk result (string_bytes out.new ≡ string_bytes out.old ++ (if meets report.now at at then block (message_lines report.now) else [])) }
-{
-    if meets(report, at, at) {
-        push_block(out, alloc, message_lines(alloc, report)?.as_str())?;
-    }
-    Ok(())
-}
-
-/// What the reports at a place say.
-fn messages(alloc: Global, reports: &[Report], at: Pos) -> Result<String, AllocError>
-    ensures { IfOk result (λ s. string_bytes s ≡ messages reports.now at) }
-{
-    let mut out = String::new(alloc);
-    for report in reports {
-        push_message_at(&mut out, alloc, report, at)?;
-    }
-    Ok(out)
+    push_line(out, "", code_of(report.rule))?;
+    push_line(out, "", report.message.as_str())?;
+    push_line_if(out, "note: ", &report.note)?;
+    push_line_if(out, "help: ", &report.help)?;
+    push_see(out, alloc, report.rule)
 }
 
 /// Adds what `lavkheto explain` prints of a rule.
-fn push_page(out: &mut String, alloc: Global, rule: Option<Rule>) -> Result<(), AllocError>
-    ensures { OnOk result (string_bytes out.new ≡ string_bytes out.old ++ page_block rule) }
+fn push_page(out: &mut String, rule: Option<Rule>) -> Result<(), AllocError>
+    ensures { OnOk result (string_bytes out.new ≡ string_bytes out.old ++ page_lines rule) }
 {
     match rule {
-        Some(rule) => push_block(out, alloc, rule_page(rule)),
+        Some(rule) => {
+            out.push_str("\n")?;
+            out.push_str(rule_page(rule))
+        }
         None => Ok(()),
     }
 }
 
-fn push_page_at(out: &mut String, alloc: Global, report: &Report, at: Pos) -> Result<(), AllocError>
-    ensures { OnOk result (string_bytes out.new ≡ string_bytes out.old ++ (if meets report.now at at then page_block report.now.rule else [])) }
-{
-    if meets(report, at, at) {
-        push_page(out, alloc, report.rule)?;
-    }
-    Ok(())
-}
-
-/// The pages of the rules that the reports at a place are of.
-fn pages(alloc: Global, reports: &[Report], at: Pos) -> Result<String, AllocError>
-    ensures { IfOk result (λ s. string_bytes s ≡ pages reports.now at) }
+fn explanation(alloc: Global, report: &Report) -> Result<String, AllocError>
+    ensures { IfOk result (λ s. string_bytes s ≡ explanation report.now) }
 {
     let mut out = String::new(alloc);
-    for report in reports {
-        push_page_at(&mut out, alloc, report, at)?;
-    }
+    push_message(&mut out, alloc, report)?;
+    push_page(&mut out, report.rule)?;
     Ok(out)
+}
+
+/// Adds what is to be known of a report, where it lies at a place.
+fn push_if_at(out: &mut String, alloc: Global, report: &Report, at: Pos) -> Result<(), AllocError>
+    ensures { OnOk result (string_bytes out.new ≡ string_bytes out.old ++ (if meets report.now at at then block (explanation report.now) else [])) }
+{
+    if meets(report, at, at) {
+        push_block(out, alloc, explanation(alloc, report)?.as_str())?;
+    }
+    Ok(())
 }
 
 fn explanations(alloc: Global, reports: &[Report], at: Pos) -> Result<String, AllocError>
     ensures { IfOk result (λ s. string_bytes s ≡ explanations reports.now at) }
 {
-    let mut out = messages(alloc, reports, at)?;
-    out.push_str(pages(alloc, reports, at)?.as_str())?;
+    let mut out = String::new(alloc);
+    for report in reports {
+        push_if_at(&mut out, alloc, report, at)?;
+    }
     Ok(out)
 }
 
