@@ -13,8 +13,8 @@ use Rattle.sql_token.proofs.CommentLaws.{comment_one}
 use Rattle.sql_token.proofs.QuoteLaws.{quoted_one, dollar_one}
 use Rattle.psql_text.specs.Lines.{begins_command, starts_line, leads_to_end, IsLineEnd, IsDataEnd}
 use Rattle.psql_text.specs.Marks.{ends_copy}
-use Rattle.psql_text.specs.Psql.{State, Reads, NoLineAfter, mark_here, after_command, after_token, after_data}
-use Rattle.psql_text.specs.Psql.Reads.{ends, unclosed, command, token, copy}
+use Rattle.psql_text.specs.Psql.{State, Reads, mark_here, after_command, after_token, after_data, after_last}
+use Rattle.psql_text.specs.Psql.Reads.{ends, unclosed, command, token, copy, last}
 use Rattle.psql_text.specs.declared.part.Part.{Part}
 use Rattle.psql_text.specs.declared.part.PartKind.TheVariants.{Command, Data}
 
@@ -94,16 +94,21 @@ no_command_open s n h =
 no_token_past : {P : Type 0} (s : State) (k : TokKind) (j : ℕ) → length s.text ≤ s.at → At s.text s.at k j → P
 no_token_past s k j past a = absurd (omega (arith, a.before, a.within))
 
--- data come after the token and do not
-none_and_some : {P : Type 0} (s : State) (k m : TokKind) (j l d : ℕ) → At s.text s.at k j → At s.text s.at m l →
-    (ends_copy s.marks (mark_here s k j) ≡ true → NoLineAfter s j) → ends_copy s.marks (mark_here s m l) ≡ true → IsLineEnd s.text (max l s.taken) d → d + 1 < length s.text → P
-none_and_some s k m j l d a b none is line some =
+-- the token ends a COPY .. FROM STDIN and does not
+ends_and_not : {P : Type 0} (s : State) (k m : TokKind) (j l : ℕ) → At s.text s.at k j → At s.text s.at m l → ends_copy s.marks (mark_here s k j) ≡ false → ends_copy s.marks (mark_here s m l) ≡ true → P
+ends_and_not s k m j l a b none is =
     let kind = kind_one s.text s.at j l k m a b in
     let end = token_end_one s.text s.at j l k m a b in
     let is_kind = subst (λ (x : TokKind). ends_copy s.marks (mark_here s x l) ≡ true) kind is in
-    let found = none (subst (λ (x : ℕ). ends_copy s.marks (mark_here s k x) ≡ true) end is_kind) in
-    let same = line_end_one s.text (max j s.taken) found.0 d found.1 (subst (λ (x : ℕ). IsLineEnd s.text (max x s.taken) d) end line) in
-    absurd (omega (arith, found.2))
+    false_true _ (subst (λ (x : ℕ). ends_copy s.marks (mark_here s k x) ≡ true) end is_kind) none
+
+-- lines come after the token and do not
+lines_and_none : {P : Type 0} (s : State) (k m : TokKind) (j l d e : ℕ) → At s.text s.at k j → At s.text s.at m l →
+    IsLineEnd s.text (max j s.taken) d → d + 1 < length s.text → IsLineEnd s.text (max l s.taken) e → length s.text ≤ e + 1 → P
+lines_and_none s k m j l d e a b line some other none =
+    let end = token_end_one s.text s.at j l k m a b in
+    let same = line_end_one s.text (max j s.taken) d e line (subst (λ (x : ℕ). IsLineEnd s.text (max x s.taken) e) end other) in
+    absurd (omega arith)
 
 pub reads_one : (s : State) (ps qs : List Part) → Reads s ps → Reads s qs → ps ≡ qs
 reads_one s _ _ (ends _ p) (ends _ q) = refl
@@ -132,11 +137,11 @@ reads_one s ps qs (token _ k j _ c a n r) (token _ m l _ d b o u) =
     let end = token_end_one s.text s.at j l k m a b in
     let same = subst (λ (x : TokKind). Reads (after_token s x l) qs) kind u in
     reads_one (after_token s k j) ps qs r (subst (λ (x : ℕ). Reads (after_token s k x) qs) end same)
-reads_one s ps _ (token _ k j _ c a n r) (copy _ m l d f qs b h is line some end u) = none_and_some s k m j l d a h n is line some
+reads_one s ps _ (token _ k j _ c a n r) (copy _ m l d f qs b h is line some end u) = ends_and_not s k m j l a h n is
 reads_one s _ _ (copy _ k j d e ps c a is l m n r) (ends _ q) = no_token_past s k j q a
 reads_one s _ _ (copy _ k j d e ps c a is l m n r) (unclosed _ q) = absurd (q.never k j a)
 reads_one s _ _ (copy _ k j d e ps c a is l m n r) (command _ f qs g h u) = false_true _ g c
-reads_one s _ qs (copy _ k j d e ps c a is l m n r) (token _ i f _ g b o u) = none_and_some s i k f j d b a o is l m
+reads_one s _ qs (copy _ k j d e ps c a is l m n r) (token _ i f _ g b o u) = ends_and_not s i k f j b a o is
 reads_one s _ _ (copy _ k j d e ps c a is l m n r) (copy _ i f g h qs b y has line some end u) =
     let kind = kind_one s.text s.at j f k i a y in
     let close = token_end_one s.text s.at j f k i a y in
@@ -147,3 +152,20 @@ reads_one s _ _ (copy _ k j d e ps c a is l m n r) (copy _ i f g h qs b y has li
     let u-feed = subst (λ (x : ℕ). Reads (after_data s k j x h) qs) feed u-close in
     let rest = reads_one (after_data s k j d e) ps qs r (subst (λ (x : ℕ). Reads (after_data s k j d x) qs) last u-feed) in
     λ i. record { kind = Data; from = sym feed i + 1; to = sym last i } ∷ rest i
+reads_one s _ qs (ends _ p) (last _ k j d _ c a is l n r) = no_token_past s k j p a
+reads_one s _ qs (unclosed _ p) (last _ k j d _ c a is l n r) = absurd (p.never k j a)
+reads_one s _ qs (command _ e ps c l r) (last _ k j d _ b a is m n u) = false_true _ c b
+reads_one s ps qs (token _ k j _ c a n r) (last _ m l d _ b o is line none u) = ends_and_not s k m j l a o n is
+reads_one s _ qs (copy _ k j d e ps c a is l m n r) (last _ i f g _ b y has line none u) = lines_and_none s k i j f d g a y l m line none
+reads_one s ps _ (last _ k j d _ c a is l n r) (ends _ q) = no_token_past s k j q a
+reads_one s ps _ (last _ k j d _ c a is l n r) (unclosed _ q) = absurd (q.never k j a)
+reads_one s ps _ (last _ k j d _ c a is l n r) (command _ f qs g m u) = false_true _ g c
+reads_one s ps qs (last _ k j d _ c a is l n r) (token _ m i _ b o none u) = ends_and_not s m k i j o a none is
+reads_one s ps _ (last _ k j d _ c a is l n r) (copy _ i f g h qs b y has line some end u) = lines_and_none s i k f j g d y a line some l n
+reads_one s ps qs (last _ k j d _ c a is l n r) (last _ i f g _ b y has line none u) =
+    let kind = kind_one s.text s.at j f k i a y in
+    let close = token_end_one s.text s.at j f k i a y in
+    let feed = line_end_one s.text (max j s.taken) d g l (subst (λ (x : ℕ). IsLineEnd s.text (max x s.taken) g) close line) in
+    let u-kind = subst (λ (x : TokKind). Reads (after_last s x f g) qs) kind u in
+    let u-close = subst (λ (x : ℕ). Reads (after_last s k x g) qs) close u-kind in
+    reads_one (after_last s k j d) ps qs r (subst (λ (x : ℕ). Reads (after_last s k j x) qs) feed u-close)

@@ -5,7 +5,7 @@ use Rattle.sql_token.specs.Token.{Text, At}
 use Rattle.psql_text.specs.Lines.{begins_command}
 use Rattle.psql_text.specs.Marks.{mark_of, is_stdin, is_nothing, begins_copy, has_from_stdin, ends_statement, ends_copy, marks_after}
 use Rattle.psql_text.specs.Psql.{State, Reads, Passes, start, mark_here, after_token}
-use Rattle.psql_text.specs.Psql.Reads.{ends, unclosed, command, token, copy}
+use Rattle.psql_text.specs.Psql.Reads.{ends, unclosed, command, token, copy, last}
 use Rattle.psql_text.specs.Laws.{IsPlain}
 use Rattle.psql_text.specs.declared.mark.Mark.{Mark}
 use Rattle.psql_text.specs.declared.part.Part.{Part}
@@ -33,6 +33,8 @@ plain_reads s _ plain h (command _ e ps c l r) = false_true _ c (plain.commands 
 plain_reads s ps plain h (token _ k j _ c a n r) =
     plain_reads (after_token s k j) ps plain (stays_none s.marks (mark_here s k j) h (plain.stdin s.at j k a)) r
 plain_reads s _ plain h (copy _ k j d e ps c a is l m n r) =
+    false_true _ is (no_copy (ends_statement s.marks (mark_here s k j)) (begins_copy s.marks) (has_from_stdin s.marks) h)
+plain_reads s ps plain h (last _ k j d _ c a is l n r) =
     false_true _ is (no_copy (ends_statement s.marks (mark_here s k j)) (begins_copy s.marks) (has_from_stdin s.marks) h)
 
 pub nothing_read : (t : Text) (ps : List Part) → IsPlain t → Passes t ps → ps ≡ []

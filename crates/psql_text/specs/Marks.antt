@@ -32,30 +32,37 @@ mark_of k.Word bs = word_mark bs
 mark_of k.Punct bs = punct_mark (slice_index bs 0)
 mark_of _ bs = Other
 
+-- the word COPY
 abbrev pub is_copy : Mark → Bool
 is_copy Copy = true
 is_copy _ = false
 
+-- the word FROM
 abbrev pub is_from : Mark → Bool
 is_from From = true
 is_from _ = false
 
+-- the word STDIN
 abbrev pub is_stdin : Mark → Bool
 is_stdin Stdin = true
 is_stdin _ = false
 
+-- ( or [
 abbrev pub is_opener : Mark → Bool
 is_opener Opener = true
 is_opener _ = false
 
+-- ) or ]
 abbrev pub is_closer : Mark → Bool
 is_closer Closer = true
 is_closer _ = false
 
+-- a semicolon
 abbrev pub is_semicolon : Mark → Bool
 is_semicolon Semicolon = true
 is_semicolon _ = false
 
+-- blanks or a comment
 abbrev pub is_nothing : Mark → Bool
 is_nothing Nothing = true
 is_nothing _ = false

@@ -44,9 +44,9 @@ after_token s k j = record s { at = j; marks = marks_after s.marks (mark_here s 
 abbrev pub after_data : State → TokKind → ℕ → ℕ → ℕ → State
 after_data s k j d e = record (after_token s k j) { text = blanked (d + 1) e s.text; taken = e }
 
--- no line comes after the token that ends at j, or only an empty one that ends the text
-abbrev pub NoLineAfter : State → ℕ → Type 0
-NoLineAfter s j = (d : ℕ) × IsLineEnd s.text (max j s.taken) d × (length s.text ≤ d + 1)
+-- after a COPY .. FROM STDIN on the last line, which ends at d
+abbrev pub after_last : State → TokKind → ℕ → ℕ → State
+after_last s k j d = record (after_token s k j) { taken = d }
 
 -- From here on, these parts are passed over.
 pub data Reads : State → List Part → Type 0 where
@@ -57,13 +57,16 @@ pub data Reads : State → List Part → Type 0 where
   -- a line that begins with a backslash
   command : (s : State) (e : ℕ) (ps : List Part) → begins_command s.text s.at ≡ true → IsLineEnd s.text s.at e →
       Reads (after_command s e) ps → Reads s (record { kind = Command; from = s.at; to = e } ∷ ps)
-  -- a token that ends no COPY .. FROM STDIN, or one after which no line comes
+  -- a token that ends no COPY .. FROM STDIN
   token : (s : State) (k : TokKind) (j : ℕ) (ps : List Part) → begins_command s.text s.at ≡ false → At s.text s.at k j →
-      (ends_copy s.marks (mark_here s k j) ≡ true → NoLineAfter s j) → Reads (after_token s k j) ps → Reads s ps
+      ends_copy s.marks (mark_here s k j) ≡ false → Reads (after_token s k j) ps → Reads s ps
   -- the semicolon of a COPY .. FROM STDIN: data come from the next line on that was not taken
   copy : (s : State) (k : TokKind) (j d e : ℕ) (ps : List Part) → begins_command s.text s.at ≡ false → At s.text s.at k j →
       ends_copy s.marks (mark_here s k j) ≡ true → IsLineEnd s.text (max j s.taken) d → d + 1 < length s.text → IsDataEnd s.text d e →
       Reads (after_data s k j d e) ps → Reads s (record { kind = Data; from = d + 1; to = e } ∷ ps)
+  -- the same where no line comes next, or only an empty one that ends the text
+  last : (s : State) (k : TokKind) (j d : ℕ) (ps : List Part) → begins_command s.text s.at ≡ false → At s.text s.at k j →
+      ends_copy s.marks (mark_here s k j) ≡ true → IsLineEnd s.text (max j s.taken) d → length s.text ≤ d + 1 → Reads (after_last s k j d) ps → Reads s ps
 
 abbrev pub start : Text → State
 start t = record { text = t; at = 0; taken = 0; marks = [] }

@@ -34,10 +34,10 @@ pub record IsPlace (t : Text) (r : Reading) : Type 0 where
   pub opened : r.statement.opened ≤ r.at
   pub closed : r.statement.closed ≤ r.at
 
--- It is after another one, and no line was taken since.
+-- It is after another one.
 pub record IsOn (t : Text) (r next : Reading) : Type 0 where
   pub at : r.at < next.at
-  pub taken : next.taken ≡ r.taken
+  pub taken : r.taken ≤ next.taken
   pub place : IsPlace t next
 
 -- as many lines of data as bytes were taken, or fewer
@@ -54,6 +54,7 @@ pub record IsAhead (t : Text) (r : Reading) (f : Found) : Type 0 where
   pub lines : r.taken + at_most f.part ≤ f.next.taken
   pub whole : IsUtf8 t → IsCharBoundary t f.part.from × IsCharBoundary t f.part.to
 
+-- where reading is after a step
 abbrev pub MovesOn : Text → Reading → Step → Type 0
 MovesOn t r (step.Token next) = IsOn t r next
 MovesOn t r (step.Part f) = IsAhead t r f
@@ -78,6 +79,7 @@ StepIs t s (step.Token r) = GoesTo t s r
 StepIs t s (step.Part f) = GoesPast t s f
 StepIs t s step.Open = Reads s []
 
+-- A step of the reading r, with these marks so far.
 abbrev pub Steps : Text → Reading → Step → Type 0
 Steps t r result = (ms : List Mark) → r.statement ≡ summary ms → StepIs t (state t r ms) result
 
@@ -85,5 +87,6 @@ abbrev pub FoundIs : Text → State → Option Found → Type 0
 FoundIs t s None = Reads s []
 FoundIs t s (Some f) = GoesPast t s f
 
+-- The next part from the reading r on, with these marks so far.
 abbrev pub Finds : Text → Reading → Option Found → Type 0
 Finds t r result = (ms : List Mark) → r.statement ≡ summary ms → FoundIs t (state t r ms) result

@@ -116,13 +116,14 @@ fn blank_from(alloc: Global, source: &str, first: Found) -> Result<Blanked, NoMe
             commands: counts.commands,
             data_lines: counts.data_lines,
         }),
-        Err(_) => Err(NoMemory),
+        Err(_) => unreachable!(),
     }
 }
 
 /// The text without what psql keeps to itself: each line that begins with a backslash outside of a token, and the lines of data
 /// after a COPY .. FROM STDIN up to the line `\.`, are blank in it. `None` where nothing is blank that was none, so that
-/// nothing is copied. After a token that never closes the text stays as it is.
+/// nothing is copied. After a token that never closes the text stays as it is. It is for a text as it was written, and not for
+/// its own answer, in which each COPY .. FROM STDIN is there still. The error comes when memory runs out.
 pub fn without_psql(alloc: Global, text: &str) -> Result<Option<Blanked>, NoMemory>
     ensures some { IfOk result (λ answer. (ps : List Part) × Passes text.now ps × IsAnswer text.now ps answer) }
     // There are no other parts than these.

@@ -98,7 +98,11 @@ fn step_over(text: &[u8], reading: Reading, kind: TokKind, end: usize) -> Step
     }
     let feed = line_end(text, end.max(reading.taken));
     if feed + 1 >= text.len() {
-        return Step::Token(next);
+        return Step::Token(Reading {
+            at: end,
+            taken: feed,
+            statement: next.statement,
+        });
     }
     let data_end = data_end(text, feed);
     Step::Part(Found {

@@ -1,10 +1,10 @@
-use Rattle.std.proofs.Common.{arith, ◌∙◌, [], ◌∷◌}
+use Rattle.std.proofs.Common.{arith, [], ◌∷◌}
 use Rattle.psql_text.specs.Psql.Reads.{ends}
 use Rattle.psql_text.specs.Reading.{state}
 use Rattle.psql_text.proofs.reading.next_part.Goals as goal
 
 pub loop-now-init : goal.loop-now-init
-loop-now-init c = record { place = c.requires; begun = omega arith; taken = λ i. c.args.reading.taken; goes = λ ms h. (ms, h, λ ps r. r) }
+loop-now-init c = record { place = c.requires; begun = omega arith; taken = omega arith; goes = λ ms h. (ms, h, λ ps r. r) }
 
 pub step_at-requires-clause-place : goal.step_at-requires-clause-place
 step_at-requires-clause-place c = c.loop-now.invariant.place
@@ -16,7 +16,7 @@ loop-now-preserved c =
     record {
       place = on.place;
       begun = omega (arith, on.at, before.begun);
-      taken = on.taken ∙ before.taken;
+      taken = omega (arith, on.taken, before.taken);
       goes = λ ms h. let g = before.goes ms h in let n = c.in-Token.ensures.goes g.0 g.1 in (n.0, n.1, λ ps r. g.2 ps (n.2 ps r));
     }
 
@@ -36,7 +36,7 @@ returns-in-Part-clause-ahead c =
       begun = ahead.begun;
       some = ahead.some;
       within = ahead.within;
-      lines = rw (← before.taken) ahead.lines;
+      lines = omega (arith, ahead.lines, before.taken);
       whole = ahead.whole;
     }
 

@@ -7,7 +7,7 @@ abbrev pub invariant-loop-now : goal.invariant-loop-now
 invariant-loop-now l = record {
   place : IsPlace l.text l.now;
   begun : l.fn.reading.at ≤ l.now.at;
-  taken : l.now.taken ≡ l.fn.reading.taken;
+  taken : l.fn.reading.taken ≤ l.now.taken;
   goes : (ms : List Mark) → l.fn.reading.statement ≡ summary ms → GoesTo l.text (state l.text l.fn.reading ms) l.now;
 }
 
