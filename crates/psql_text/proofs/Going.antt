@@ -5,9 +5,8 @@ use Rattle.std.specs.Str.{IsUtf8}
 use Rattle.sql_token.specs.Token.{Text}
 use Rattle.psql_text.specs.Count.{lines_between, commands_of, data_of}
 use Rattle.psql_text.specs.Psql.{State, Reads, Passes, start, blanked, blank_all}
-use Rattle.psql_text.specs.Reading.{IsPlace, IsAhead, FoundIs, Finds, GoesPast, state, summary, at_most}
+use Rattle.psql_text.specs.Reading.{IsPlace, IsAhead, FoundIs, Finds, GoesPast, state, at_most}
 use Rattle.psql_text.specs.Told.{StartsAt, commands_in, data_in}
-use Rattle.psql_text.specs.declared.mark.Mark.{Mark}
 use Rattle.psql_text.specs.declared.part.Part.{Part}
 use Rattle.psql_text.specs.declared.reading.Reading.{Reading}
 use Rattle.psql_text.specs.declared.reading.Found.{Found}

@@ -1,17 +1,16 @@
 -- A text is read in one way alone.
-use Rattle.std.proofs.Common.{◌≡◌, ℕ, ◌+◌, ◌-◌, ◌<◌, ◌≤◌, Bool, true, false, max, List, [], ◌∷◌, length, take, drop, refl, sym, ap, ◌∙◌, subst, arith, get_or}
+use Rattle.std.proofs.Common.{◌≡◌, ℕ, ◌+◌, ◌-◌, ◌<◌, ◌≤◌, Bool, true, false, max, List, ◌∷◌, length, take, drop, refl, sym, ap, ◌∙◌, subst, arith, get_or}
 use Rattle.std.specs.Prelude.{◌==◌}
 use Rattle.std.proofs.Common.{inl, inr}
 use Rattle.std.proofs.lemmas.Bool.{and_parts, cases_lt}
 use Rattle.std.proofs.lemmas.Bool.Decides.{nat_tests}
 use Rattle.std.proofs.lemmas.List.{get_or-drop, get_or_past}
-use Rattle.text_pos.specs.Line.{is_line_feed}
 use Rattle.sql_token.specs.declared.token.TokKind.{TokKind}
 use Rattle.sql_token.specs.declared.token.TokKind.TheVariants.{Blank, LineComment, BlockComment, Word, Quoted, Str, UName, Dollar, Param, Number, Op, Punct, Other}
 use Rattle.sql_token.specs.Token.{Text, NeverCloses, At, IsRun, op_len, Takes, kind_of, is_closing}
 use Rattle.sql_token.proofs.CommentLaws.{comment_one}
 use Rattle.sql_token.proofs.QuoteLaws.{quoted_one, dollar_one}
-use Rattle.psql_text.specs.Lines.{begins_command, starts_line, leads_to_end, IsLineEnd, IsDataEnd}
+use Rattle.psql_text.specs.Lines.{begins_command, starts_line, IsLineEnd, IsDataEnd}
 use Rattle.psql_text.specs.Marks.{ends_copy}
 use Rattle.psql_text.specs.Psql.{State, Reads, mark_here, after_command, after_token, after_data, after_last}
 use Rattle.psql_text.specs.Psql.Reads.{ends, unclosed, command, token, copy, last}

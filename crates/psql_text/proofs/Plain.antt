@@ -1,9 +1,7 @@
 -- Texts without anything for psql.
-use Rattle.std.proofs.Common.{◌≡◌, ℕ, ◌-◌, Bool, true, false, ◌&&◌, ◌||◌, if◌then◌else◌, List, [], ◌∷◌, take, drop, refl, sym, ap, ◌∙◌, subst}
-use Rattle.sql_token.specs.declared.token.TokKind.{TokKind}
-use Rattle.sql_token.specs.Token.{Text, At}
-use Rattle.psql_text.specs.Lines.{begins_command}
-use Rattle.psql_text.specs.Marks.{mark_of, is_stdin, is_nothing, begins_copy, has_from_stdin, ends_statement, ends_copy, marks_after}
+use Rattle.std.proofs.Common.{◌≡◌, Bool, true, false, ◌&&◌, if◌then◌else◌, List, [], ◌∷◌, refl}
+use Rattle.sql_token.specs.Token.{Text}
+use Rattle.psql_text.specs.Marks.{is_stdin, is_nothing, begins_copy, has_from_stdin, ends_statement, marks_after}
 use Rattle.psql_text.specs.Psql.{State, Reads, Passes, start, mark_here, after_token}
 use Rattle.psql_text.specs.Psql.Reads.{ends, unclosed, command, token, copy, last}
 use Rattle.psql_text.specs.Laws.{IsPlain}

@@ -1,11 +1,11 @@
 -- One step of the reading.
-use Rattle.std.proofs.Common.{◌≡◌, ℕ, ◌+◌, ◌-◌, ◌<◌, ◌≤◌, true, false, max, List, [], length, refl, take, drop, ap, sym, ◌∙◌, subst, arith}
+use Rattle.std.proofs.Common.{◌≡◌, ℕ, ◌+◌, ◌<◌, ◌≤◌, true, false, max, List, [], length, refl, ap, sym, ◌∙◌, subst, arith}
 use Rattle.std.specs.Prelude.{Option}
 use Rattle.sql_token.specs.declared.token.TokKind.{TokKind}
 use Rattle.sql_token.specs.Token.{Text, At}
 use Rattle.psql_text.specs.Lines.{begins_command, IsLineEnd, IsDataEnd}
-use Rattle.psql_text.specs.Marks.{mark_of, marks_after, ends_copy}
-use Rattle.psql_text.specs.Psql.{State, Reads, mark_here, start}
+use Rattle.psql_text.specs.Marks.{marks_after, ends_copy}
+use Rattle.psql_text.specs.Psql.{mark_here, start}
 use Rattle.psql_text.specs.Psql.Reads.{token, copy, last}
 use Rattle.psql_text.specs.Reading.{GoesTo, GoesPast, FoundIs, Finds, IsPlace, IsOn, IsAhead, state, summary}
 use Rattle.psql_text.specs.declared.mark.Mark.{Mark}
@@ -13,7 +13,7 @@ use Rattle.psql_text.specs.declared.statement.Statement.{Statement}
 use Rattle.psql_text.specs.declared.part.PartKind.TheVariants.{Data}
 use Rattle.psql_text.specs.declared.reading.Reading.{Reading}
 use Rattle.psql_text.specs.declared.reading.Found.{Found}
-use Rattle.psql_text.proofs.Places.{line_whole, after_feed, data_bounds, data_whole}
+use Rattle.psql_text.proofs.Places.{after_feed, data_bounds, data_whole}
 
 pub token_goes : (t : Text) (r : Reading) (k : TokKind) (j : ℕ) (st : Statement) (m : Mark) (ms : List Mark) → begins_command t r.at ≡ false → At t r.at k j →
     m ≡ mark_here (state t r ms) k j → ends_copy ms m ≡ false → st ≡ summary (marks_after ms m) →

@@ -1,5 +1,5 @@
 -- Laws of what psql passes over.
-use Rattle.std.specs.Prelude.{◌≡◌, ◌⊎◌, ◌<◌, ℕ, ◌-◌, false, List, [], ◌∷◌, length, take, drop, slice_index}
+use Rattle.std.specs.Prelude.{◌≡◌, ◌⊎◌, ℕ, ◌-◌, false, List, [], length, take, drop, slice_index}
 use Rattle.sql_token.specs.declared.token.TokKind.{TokKind}
 use Rattle.sql_token.specs.Token.{Text, At, is_blank}
 use Rattle.psql_text.specs.Lines.{begins_command}

@@ -1,7 +1,5 @@
-use Rattle.std.proofs.Common.{◌+◌, false, ap, ◌∙◌, ℕ}
+use Rattle.std.proofs.Common.{◌+◌, false, ◌∙◌}
 use Rattle.sql_token.specs.Depth.{one_if}
-use Rattle.psql_text.specs.declared.statement.Statement.{Statement}
-use Rattle.psql_text.specs.Marks.{is_opener, is_closer}
 use Rattle.psql_text.proofs.statement.Statement.with.Goals as goal
 
 pub returns-clause-summary : goal.returns-clause-summary
