@@ -1,0 +1,18 @@
+-- How many lines a part is.
+use Rattle.std.specs.Prelude.{ℕ, ◌+◌, ◌-◌, min, length, count_by, take, drop}
+use Rattle.text_pos.specs.Line.{is_line_feed}
+use Rattle.sql_token.specs.Token.{Text}
+use Rattle.psql_text.specs.declared.part.PartKind.{PartKind}
+use Rattle.psql_text.specs.declared.part.PartKind.TheVariants.{Command, Data}
+
+-- how many lines of the text begin from one place to another, the first of them there: a line feed that ends the text begins none
+abbrev pub lines_between : Text → ℕ → ℕ → ℕ
+lines_between t from to = count_by is_line_feed (take (min to (length t - 1) - from) (drop from t)) + 1
+
+abbrev pub commands_of : PartKind → ℕ
+commands_of Command = 1
+commands_of Data = 0
+
+abbrev pub data_of : PartKind → ℕ → ℕ
+data_of Command n = 0
+data_of Data n = n

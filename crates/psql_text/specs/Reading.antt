@@ -1,0 +1,92 @@
+-- How far the code has read a text, against the definition.
+use Rattle.std.specs.Prelude.{◌≡◌, ◌≤◌, ◌<◌, ◌+◌, ◌-◌, ℕ, List, [], ◌∷◌, length, Option, Some, None}
+use Rattle.std.specs.Str.{IsUtf8, IsCharBoundary}
+use Rattle.sql_token.specs.Token.{Text}
+use Rattle.psql_text.specs.Count.{data_of}
+use Rattle.psql_text.specs.Marks.{is_none, begins_copy, opened, closed, ends_in_from, has_from_stdin}
+use Rattle.psql_text.specs.Psql.{State, Reads, blanked}
+use Rattle.psql_text.specs.declared.mark.Mark.{Mark}
+use Rattle.psql_text.specs.declared.statement.Statement.{Statement}
+use Rattle.psql_text.specs.declared.part.Part.{Part}
+use Rattle.psql_text.specs.declared.reading.Reading.{Reading}
+use Rattle.psql_text.specs.declared.reading.Found.{Found}
+use Rattle.psql_text.specs.declared.reading.Step.{Step}
+use Rattle.psql_text.specs.declared.reading.Step.TheVariants as step
+
+-- what is kept of these marks
+abbrev pub summary : List Mark → Statement
+summary ms = record {
+  is_empty = is_none ms;
+  begins_copy = begins_copy ms;
+  opened = opened ms;
+  closed = closed ms;
+  ends_in_from = ends_in_from ms;
+  has_from_stdin = has_from_stdin ms;
+}
+
+abbrev pub state : Text → Reading → List Mark → State
+state t r ms = record { text = t; at = r.at; taken = r.taken; marks = ms }
+
+-- The reading is within the text, and its counts are small.
+pub record IsPlace (t : Text) (r : Reading) : Type 0 where
+  pub at : r.at ≤ length t
+  pub taken : r.taken ≤ length t
+  pub opened : r.statement.opened ≤ r.at
+  pub closed : r.statement.closed ≤ r.at
+
+-- It is after another one.
+pub record IsOn (t : Text) (r next : Reading) : Type 0 where
+  pub at : r.at < next.at
+  pub taken : r.taken ≤ next.taken
+  pub place : IsPlace t next
+
+-- as many lines of data as bytes were taken, or fewer
+abbrev pub at_most : Part → ℕ
+at_most p = data_of p.kind (p.to - p.from + 1)
+
+-- A part after the reading, and that it is whole characters.
+pub record IsAhead (t : Text) (r : Reading) (f : Found) : Type 0 where
+  pub at : r.at < f.next.at
+  pub place : IsPlace t f.next
+  pub begun : f.part.from ≤ f.part.to
+  pub some : f.part.from < length t
+  pub within : f.part.to ≤ length t
+  pub lines : r.taken + at_most f.part ≤ f.next.taken
+  pub whole : IsUtf8 t → IsCharBoundary t f.part.from × IsCharBoundary t f.part.to
+
+-- where reading is after a step
+abbrev pub MovesOn : Text → Reading → Step → Type 0
+MovesOn t r (step.Token next) = IsOn t r next
+MovesOn t r (step.Part f) = IsAhead t r f
+MovesOn t r step.Open = Unit {0}
+
+-- From the one state the same parts are passed over as from the other, with these before them.
+abbrev pub Follows : State → State → Type 0
+Follows s u = (ps : List Part) → Reads u ps → Reads s ps
+
+abbrev pub FollowsAfter : State → Part → State → Type 0
+FollowsAfter s p u = (ps : List Part) → Reads u ps → Reads s (p ∷ ps)
+
+-- A reading with these marks, and that from it the parts follow.
+abbrev pub GoesTo : Text → State → Reading → Type 0
+GoesTo t s r = (ms : List Mark) × (r.statement ≡ summary ms) × Follows s (state t r ms)
+
+abbrev pub GoesPast : Text → State → Found → Type 0
+GoesPast t s f = (ms : List Mark) × (f.next.statement ≡ summary ms) × FollowsAfter s f.part (state (blanked f.part.from f.part.to t) f.next ms)
+
+abbrev pub StepIs : Text → State → Step → Type 0
+StepIs t s (step.Token r) = GoesTo t s r
+StepIs t s (step.Part f) = GoesPast t s f
+StepIs t s step.Open = Reads s []
+
+-- A step of the reading r, with these marks so far.
+abbrev pub Steps : Text → Reading → Step → Type 0
+Steps t r result = (ms : List Mark) → r.statement ≡ summary ms → StepIs t (state t r ms) result
+
+abbrev pub FoundIs : Text → State → Option Found → Type 0
+FoundIs t s None = Reads s []
+FoundIs t s (Some f) = GoesPast t s f
+
+-- The next part from the reading r on, with these marks so far.
+abbrev pub Finds : Text → Reading → Option Found → Type 0
+Finds t r result = (ms : List Mark) → r.statement ≡ summary ms → FoundIs t (state t r ms) result

@@ -1,0 +1,153 @@
+//! How far a text was read, and the next part of it that is no SQL.
+
+ghost use Rattle.std.specs.Prelude.{◌≡◌, ◌<◌, ◌+◌, true, false, [], length, List, IfSome};
+ghost use Rattle.sql_token.specs.Token.{At, Text};
+ghost use Rattle.psql_text.specs.Lines as lines;
+ghost use Rattle.psql_text.specs.Reading.{IsPlace, IsAhead, GoesPast, Steps, Finds, MovesOn, state, summary};
+ghost use Rattle.psql_text.specs.declared.mark.Mark.{Mark};
+
+use crate::lines::{begins_command, data_end, line_end};
+use crate::mark::mark_of;
+use crate::part::{Part, PartKind};
+use crate::scan::token_at;
+use crate::statement::Statement;
+use sql_token::TokKind;
+
+/// How far a text was read.
+#[derive(Clone, Copy)]
+pub struct Reading {
+    /// Up to this byte it was read as SQL.
+    pub at: usize,
+    /// Up to this byte its lines were taken as data.
+    pub taken: usize,
+    /// The statement that is not yet ended.
+    pub statement: Statement,
+}
+
+/// A part that is no SQL, and how far the text was read before what comes after it.
+#[derive(Clone, Copy)]
+pub struct Found {
+    pub part: Part,
+    pub next: Reading,
+}
+
+/// What is at one place of a text.
+#[derive(Clone, Copy)]
+pub enum Step {
+    /// A token of SQL.
+    Token(Reading),
+    /// A part that is no SQL, or a token after which one comes.
+    Part(Found),
+    /// A token that never closes.
+    Open,
+}
+
+/// Where reading begins.
+pub fn start() -> Reading
+    ensures statement { result.statement ≡ summary [] }
+    ensures place { (t : Text) → IsPlace t result }
+    ensures at { result.at ≡ 0 }
+    ensures taken { result.taken ≡ 0 }
+{
+    Reading {
+        at: 0,
+        taken: 0,
+        statement: Statement::new(),
+    }
+}
+
+/// The command at this place.
+fn command_at(text: &[u8], reading: Reading) -> Found
+    requires place { IsPlace text.now reading }
+    requires begins { lines.begins_command text.now reading.at ≡ true }
+    requires within { reading.at < length text.now }
+    ensures goes { (ms : List Mark) → reading.statement ≡ summary ms → GoesPast text.now (state text.now reading ms) result }
+    ensures moves { IsAhead text.now reading result }
+{
+    let end = line_end(text, reading.at);
+    Found {
+        part: Part {
+            kind: PartKind::Command,
+            from: reading.at,
+            to: end,
+        },
+        next: Reading {
+            at: end,
+            taken: reading.taken,
+            statement: reading.statement,
+        },
+    }
+}
+
+/// What comes of the token of this kind that ends here.
+fn step_over(text: &[u8], reading: Reading, kind: TokKind, end: usize) -> Step
+    requires place { IsPlace text.now reading }
+    requires plain { lines.begins_command text.now reading.at ≡ false }
+    requires token { At text.now reading.at kind end }
+    ensures goes { Steps text.now reading result }
+    ensures moves { MovesOn text.now reading result }
+{
+    let mark = mark_of(kind, &text[reading.at..end]);
+    let next = Reading {
+        at: end,
+        taken: reading.taken,
+        statement: reading.statement.after(mark),
+    };
+    if !reading.statement.ends_copy_at(mark) {
+        return Step::Token(next);
+    }
+    let feed = line_end(text, end.max(reading.taken));
+    if feed + 1 >= text.len() {
+        return Step::Token(Reading {
+            at: end,
+            taken: feed,
+            statement: next.statement,
+        });
+    }
+    let data_end = data_end(text, feed);
+    Step::Part(Found {
+        part: Part {
+            kind: PartKind::Data,
+            from: feed + 1,
+            to: data_end,
+        },
+        next: Reading {
+            at: end,
+            taken: data_end,
+            statement: next.statement,
+        },
+    })
+}
+
+/// What is at the place up to which the text was read.
+fn step_at(text: &[u8], reading: Reading) -> Step
+    requires place { IsPlace text.now reading }
+    requires within { reading.at < length text.now }
+    ensures goes { Steps text.now reading result }
+    ensures moves { MovesOn text.now reading result }
+{
+    if begins_command(text, reading.at) {
+        return Step::Part(command_at(text, reading));
+    }
+    match token_at(text, reading.at) {
+        Some((kind, end)) => step_over(text, reading, kind, end),
+        None => Step::Open,
+    }
+}
+
+/// The next part that is no SQL.
+pub fn next_part(text: &[u8], reading: Reading) -> Option<Found>
+    requires { IsPlace text.now reading }
+    ensures finds { Finds text.now reading result }
+    ensures ahead { IfSome result (IsAhead text.now reading) }
+{
+    let mut now = reading;
+    while now.at < text.len() {
+        match step_at(text, now) {
+            Step::Token(next) => now = next,
+            Step::Part(found) => return Some(found),
+            Step::Open => return None,
+        }
+    }
+    None
+}
