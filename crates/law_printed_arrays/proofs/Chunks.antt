@@ -28,7 +28,7 @@ members_in (object ms) = ms
 
 -- those of what is printed of a finding
 abbrev pub members_by : (Found → Data) → Found → Members
-members_by object f = members_in (object f)
+members_by as_data f = members_in (as_data f)
 
 -- objects on lines of their own, with what is before each
 abbrev pub chunks : Bool → List Members → List ℕ

@@ -3,10 +3,9 @@ use Rattle.std.proofs.Common.{◌≡◌, ◌∙◌, ◌<◌, ℕ, List, [], All,
 use Rattle.std.specs.Prelude.{⊤}
 use Rattle.std.proofs.lemmas.Fmt.{decimal_injective}
 use Rattle.json.specs.Json as json
-use Rattle.percent_encoding.specs.AsciiSet.{contains}
-use Rattle.percent_encoding.specs.Percent.{percent_decode, percent_encode}
+use Rattle.percent_encoding.specs.Percent.{percent_decode}
 use Rattle.percent_encoding.proofs.PercentLemmas.{round_trip}
-use Rattle.report_sarif.specs.declared.places.TheConstants.{ESCAPED}
+use Rattle.report_sarif.specs.Places.{uri_of}
 use Rattle.serde_json.specs.Written.{outline}
 use Rattle.law_printed_arrays.specs.Found.{Found, Told, ToldIssue, issue_of, object_of, result_of, told, told_issue}
 use Rattle.law_printed_arrays.proofs.Chunks.{members_by}
@@ -85,11 +84,11 @@ physical j = at 0 (only (at 2 j))
 abbrev name_in : json.Json → List ℕ
 name_in j = percent_decode (text_in (at 0 (at 0 (physical j))))
 
-escapes_percent : contains ESCAPED.now 37 ≡ true
-escapes_percent = refl
+uri_back : (name : List ℕ) → All (λ b. b < 256) name → percent_decode (uri_of name) ≡ name
+uri_back name short = round_trip _ name refl short
 
-uri_same : (name other : List ℕ) → All (λ b. b < 256) name → All (λ b. b < 256) other → percent_decode (percent_encode ESCAPED.now name) ≡ percent_decode (percent_encode ESCAPED.now other) → name ≡ other
-uri_same name other short others e = sym (round_trip ESCAPED.now name escapes_percent short) ∙ e ∙ round_trip ESCAPED.now other escapes_percent others
+uri_same : (name other : List ℕ) → All (λ b. b < 256) name → All (λ b. b < 256) other → percent_decode (uri_of name) ≡ percent_decode (uri_of other) → name ≡ other
+uri_same name other short others e = sym (uri_back name short) ∙ e ∙ uri_back other others
 
 -- a result of SARIF
 pub result_told : LeadsBack (members_by result_of) (λ f. All (λ b. b < 256) f.file.name) told
@@ -124,7 +123,7 @@ pub issue_told : LeadsBack (members_by issue_of) (λ f. ⊤) told_issue
 issue_told f g short others p q e =
     let a = told_issue f in
     let b = told_issue g in
-    let line = decimal_injective a.line b.line short.1.1.1.0.0.0.0 others.1.1.1.0.0.0.0 (ap (λ j. text_in (at 0 (at 0 (at 3 j)))) e) in
+    let line = decimal_injective a.line b.line short.1.1.1.0.0.0 others.1.1.1.0.0.0 (ap (λ j. text_in (at 0 (at 0 (at 3 j)))) e) in
     let name : a.name ≡ b.name = ap (λ j. text_in (at 1 (at 3 j))) e in
     let severity : a.severity ≡ b.severity = ap (λ j. text_in (at 4 j)) e in
     let rule : a.rule ≡ b.rule = ap (λ j. text_in (at 0 j)) e in

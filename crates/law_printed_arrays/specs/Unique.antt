@@ -34,7 +34,7 @@ abbrev mutual
 
 -- all numbers in what is printed of the findings are such
 abbrev pub AreShort : (Found → Data) → List Checked → Type 0
-AreShort object files = All (λ f. IsShort (object f)) (all_found files)
+AreShort as_data files = All (λ f. IsShort (as_data f)) (all_found files)
 
 -- the names of files with findings are bytes
 abbrev pub HaveByteNames : List Checked → Type 0
