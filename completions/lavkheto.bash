@@ -28,7 +28,7 @@ _lavkheto() {
     fi
     COMPREPLY=()
     if ((COMP_CWORD == 1)); then
-        _lavkheto_words 'check explain --help --version'
+        _lavkheto_words 'check explain server --help --version'
         return
     fi
     case $command:$before in
@@ -37,6 +37,7 @@ _lavkheto() {
     check:--stdin-filename) :; return ;;
     check:--config) _lavkheto_files; return ;;
     check:--fail-on) _lavkheto_words 'warning never'; return ;;
+    check:--baseline) _lavkheto_files; return ;;
     check:--only) _lavkheto_rules; return ;;
     check:--include) _lavkheto_rules; return ;;
     check:--exclude) _lavkheto_rules; return ;;
@@ -44,12 +45,21 @@ _lavkheto() {
     check:--pg-major) :; return ;;
     check:--pg-minor) :; return ;;
     check:--pg-patch) :; return ;;
+    server:--only) _lavkheto_rules; return ;;
+    server:--include) _lavkheto_rules; return ;;
+    server:--exclude) _lavkheto_rules; return ;;
+    server:--non-volatile) :; return ;;
+    server:--pg-major) :; return ;;
+    server:--pg-minor) :; return ;;
+    server:--pg-patch) :; return ;;
     esac
     case $command:$cur in
-    check:-*) _lavkheto_words '--format --color --quiet --statistics --stdin-filename --config --fail-on -- --only --include --exclude --non-volatile --assume-in-transaction --pg-major --pg-minor --pg-patch --help --version' ;;
+    check:-*) _lavkheto_words '--format --color --quiet --statistics --stdin-filename --config --fail-on --baseline --write-baseline -- --only --include --exclude --non-volatile --assume-in-transaction --pg-major --pg-minor --pg-patch --help --version' ;;
     check:*) _lavkheto_files '*.sql' ;;
     explain:-*) _lavkheto_words '--help' ;;
     explain:*) _lavkheto_rules ;;
+    server:-*) _lavkheto_words '--only --include --exclude --non-volatile --assume-in-transaction --pg-major --pg-minor --pg-patch --help' ;;
+    server:*) : ;;
     esac
 }
 
