@@ -1,5 +1,5 @@
 -- From the outline of an array back to the findings.
-use Rattle.std.proofs.Common.{◌≡◌, ◌∙◌, ◌+◌, ℕ, List, [], ◌∷◌, ◌++◌, All, Option, Some, None, ap, arith, map, refl, sym}
+use Rattle.std.proofs.Common.{◌≡◌, ◌∙◌, ◌+◌, List, [], ◌∷◌, ◌++◌, All, Option, Some, None, ap, arith, map, refl, sym}
 use Rattle.std.proofs.lemmas.List.Elements.{All-head, All-tail}
 use Rattle.json.specs.Json as json
 use Rattle.json.specs.Token.{Token}

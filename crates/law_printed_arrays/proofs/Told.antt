@@ -6,8 +6,7 @@ use Rattle.json.specs.Json as json
 use Rattle.percent_encoding.specs.Percent.{percent_decode}
 use Rattle.percent_encoding.proofs.PercentLemmas.{round_trip}
 use Rattle.report_sarif.specs.Places.{uri_of}
-use Rattle.serde_json.specs.Written.{outline}
-use Rattle.law_printed_arrays.specs.Found.{Found, Told, ToldIssue, issue_of, object_of, result_of, told, told_issue}
+use Rattle.law_printed_arrays.specs.Found.{Told, ToldIssue, issue_of, object_of, result_of, told, told_issue}
 use Rattle.law_printed_arrays.proofs.Chunks.{members_by}
 use Rattle.law_printed_arrays.proofs.Shapes.{LeadsBack, first_in, items_in}
 

@@ -1,9 +1,9 @@
 -- What is printed for programs leads back to the findings.
-use Rattle.std.proofs.Common.{◌≡◌, ◌∙◌, ◌<◌, ◌++◌, ◌∷◌, [], Bool, false, List, All, ap, map, sym}
+use Rattle.std.proofs.Common.{◌≡◌, ◌∙◌, ◌<◌, ◌++◌, ◌∷◌, [], false, List, All, ap, map, sym}
 use Rattle.std.specs.Prelude.{codes, ⊤}
 use Rattle.std.proofs.lemmas.List.{append_cancel_left, append_cancel_right}
 use Rattle.check_print.specs.declared.style.Style.{Style}
-use Rattle.check_print.specs.Printed.{printed, printed_files}
+use Rattle.check_print.specs.Printed.{printed_files}
 use Rattle.check_words.specs.declared.request.Format.TheVariants as format
 use Rattle.checked_file.specs.declared.checked.Checked.{Checked}
 use Rattle.json.specs.Lex.{tokens}
