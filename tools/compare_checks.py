@@ -319,9 +319,15 @@ def as_sarif(file, found):
     return dumped({"ruleId": found.rule, "level": found.level, "message": {"text": found.message}, "locations": [location], "fixes": fixes})
 
 
+def statement_around(text, start, end):
+    """The text up to the semicolons next to a range, without white space at its ends."""
+    before, after = text[:start].rpartition(b";")[2], b"" if text[:end].endswith(b";") else text[end:].partition(b";")[0]
+    return before.lstrip(b"\t\n\f\r ") + text[start:end] + after.rstrip(b"\t\n\f\r ")
+
+
 def as_gitlab(file, found):
-    part = file.text[found.start:found.end] if found.level == "warning" else b""
-    print_of = hashlib.sha256(b"\0".join((file.name.encode("utf-8"), found.rule.encode(), part))).hexdigest()
+    statement = statement_around(file.text, found.start, found.end) if found.level == "warning" else b""
+    print_of = hashlib.sha256(b"\0".join((file.name.encode("utf-8"), found.rule.encode(), statement))).hexdigest()
     severity = {"warning": "minor", "error": "major"}[found.level]
     return dumped({"description": found.message, "check_name": found.rule, "fingerprint": print_of, "severity": severity,
                    "location": {"path": file.name, "lines": {"begin": place(file.text, found.start)[0]}}})

@@ -1,5 +1,5 @@
 -- Which reports a baseline knows, and what is left of files without them.
-use Rattle.std.specs.Prelude.{◌≡◌, ℕ, ◌+◌, ◌==◌, ◌&&◌, ◌||◌, Bool, not, List, [], ◌∷◌, Option, Some, None, codes, filter, if◌then◌else◌, length, nat_eq, nat_le, slice_range, ⊤}
+use Rattle.std.specs.Prelude.{◌≡◌, ℕ, ◌+◌, ◌==◌, ◌&&◌, ◌||◌, Bool, not, List, [], ◌∷◌, Option, Some, None, codes, filter, if◌then◌else◌, length, nat_eq, nat_le, ⊤}
 use Rattle.std.specs.HashSet.{contains_text}
 use Rattle.std.specs.List.{before_first, list_all, list_any, slice_split, starts_with}
 use Rattle.std.specs.Str.{bytes_eq}
@@ -8,8 +8,7 @@ use Rattle.checked_file.specs.declared.answer.Answer.TheVariants.{Reports, Refus
 use Rattle.checked_file.specs.declared.checked.Checked.{Checked}
 use Rattle.checked_file.specs.Files.{readable_of}
 use Rattle.lint_base.specs.declared.violation.Violation.{Violation}
-use Rattle.lint_base.specs.Rules.{name_of}
-use Rattle.report_gitlab.specs.Issues.{fingerprint}
+use Rattle.report_gitlab.specs.Issues.{report_fingerprint}
 use Rattle.check_baseline.specs.declared.baseline.Baseline.{Baseline}
 use Rattle.check_baseline.specs.declared.baseline.BaselineError.{BaselineError}
 use Rattle.check_baseline.specs.declared.baseline.BaselineError.TheVariants.{Line, NoMemory}
@@ -68,13 +67,9 @@ IsNoBaseline text NoMemory = ⊤
 
 -- ---- reports
 
--- the fingerprint of a report of a file
-abbrev pub fingerprint_of : Text → Text → Violation → Text
-fingerprint_of name text v = fingerprint name (name_of v.code) (slice_range text v.text_range.start v.text_range.end)
-
 -- a baseline has the fingerprint of a report
 abbrev pub is_known : Baseline → Text → Text → Violation → Bool
-is_known baseline name text v = knows baseline (fingerprint_of name text v)
+is_known baseline name text v = knows baseline (report_fingerprint name text v)
 
 -- the reports that a baseline does not know, in their order
 abbrev pub unknown_reports : Baseline → Text → Text → List Violation → List Violation

@@ -10,7 +10,8 @@ use Rattle.lint_base.specs.Rules.{name_of}
 use Rattle.source_file.specs.declared.refusal.Refusal.{Refusal}
 use Rattle.source_file.specs.Refusals.{message_of}
 use Rattle.source_file.specs.Shown.{shown}
-use Rattle.check_baseline.specs.Known.{Text, fingerprint_of}
+use Rattle.check_baseline.specs.Known.{Text}
+use Rattle.report_gitlab.specs.Issues.{report_fingerprint}
 
 -- what comes before the first line
 abbrev pub heading : Text
@@ -18,7 +19,7 @@ heading = codes "# Reports that lavkheto lets pass: fingerprint, rule, file. Wri
 
 -- the line of a report: its fingerprint, and for people the rule and the file, as it is shown on a terminal
 unfoldable pub report_line : Text → Text → Violation → Text
-report_line name text v = fingerprint_of name text v ++ codes " " ++ name_of v.code ++ codes " " ++ shown name ++ codes "\n"
+report_line name text v = report_fingerprint name text v ++ codes " " ++ name_of v.code ++ codes " " ++ shown name ++ codes "\n"
 
 unfoldable pub refusal_mark : Text
 refusal_mark = codes "# not linted: "

@@ -3,12 +3,13 @@ ghost use Rattle.std.specs.Prelude.{◌≡◌, All, IfOk, string_bytes};
 ghost use Rattle.std.specs.List.{AllZip};
 ghost use Rattle.checked_file.specs.Sound.{IsIn, IsSound};
 ghost use Rattle.source_file.specs.File.{IsRangeIn};
-ghost use Rattle.check_baseline.specs.Known.{IsLeft, IsLeftOf, fingerprint_of, is_known, unknown_reports};
+ghost use Rattle.report_gitlab.specs.Issues.{report_fingerprint};
+ghost use Rattle.check_baseline.specs.Known.{IsLeft, IsLeftOf, is_known, unknown_reports};
 
 use crate::baseline::Baseline;
 use checked_file::{Answer, Checked, readable};
 use lint_base::Violation;
-use report_gitlab::fingerprint;
+use report_gitlab::report_fingerprint;
 use std::alloc::Global;
 use text_pos::NoMemory;
 
@@ -20,11 +21,9 @@ pub(crate) fn print_of(
     report: &Violation,
 ) -> Result<String, NoMemory>
     requires { IsRangeIn text.now report.now.text_range }
-    ensures { IfOk result (λ print. string_bytes print ≡ fingerprint_of name.now text.now report.now) }
+    ensures { IfOk result (λ print. string_bytes print ≡ report_fingerprint name.now text.now report.now) }
 {
-    let range = report.text_range;
-    let part = &text.as_bytes()[range.start().raw() as usize..range.end().raw() as usize];
-    let print = fingerprint(alloc, name, report.code.name(), part)?;
+    let print = report_fingerprint(alloc, name, text, report)?;
     Ok(print)
 }
 

@@ -1,5 +1,5 @@
 -- The findings of files, each with what is printed of it.
-use Rattle.std.specs.Prelude.{ℕ, List, [], ◌∷◌, flat_map, map, slice_range}
+use Rattle.std.specs.Prelude.{ℕ, List, [], ◌∷◌, flat_map, map}
 use Rattle.checked_file.specs.declared.answer.Answer.{Answer}
 use Rattle.checked_file.specs.declared.answer.Answer.TheVariants.{Reports, Refused}
 use Rattle.checked_file.specs.declared.checked.Checked.{Checked}
@@ -7,6 +7,7 @@ use Rattle.check_print.specs.Printed.{source_of}
 use Rattle.lint_base.specs.declared.violation.Violation.{Violation}
 use Rattle.lint_base.specs.Rules.{name_of}
 use Rattle.report_gitlab.specs.Issues.{issue_object, severity_of}
+use Rattle.report_gitlab.specs.Statement.{statement_around}
 use Rattle.report_json.specs.Objects.{finding_object, fix_data, hint_data, text_data}
 use Rattle.report_sarif.specs.Results as sarif
 use Rattle.serde_json.specs.Data.{Data, array, no_items, null}
@@ -20,7 +21,7 @@ use Rattle.source_file.specs.Refusals as refusals
 use Rattle.text_pos.specs.Range.{Range}
 
 -- a finding: its file, its range, its level, the name of its rule and its message; its note, help and fix as JSON has them; its fixes as
--- SARIF has them; and the text that is reported, of which GitLab has a fingerprint
+-- SARIF has them; and the text of its statement, of which GitLab has a fingerprint
 pub record Found : Type 0 where
   pub file : FileValue
   pub range : Range
@@ -31,7 +32,7 @@ pub record Found : Type 0 where
   pub help : Data
   pub fix : Data
   pub fixes : Data
-  pub part : List ℕ
+  pub statement : List ℕ
 
 -- a report
 abbrev pub found_report : FileValue → Violation → Found
@@ -45,7 +46,7 @@ found_report file v = record {
   help = text_data v.help;
   fix = fix_data v.fix;
   fixes = sarif.fixes file v.fix;
-  part = slice_range file.text v.text_range.start v.text_range.end;
+  statement = statement_around file.text v.text_range.start v.text_range.end;
 }
 
 -- why a file could not be linted
@@ -60,7 +61,7 @@ found_refusal file r = record {
   help = hint_data (hint_of file.text r);
   fix = null;
   fixes = array no_items;
-  part = [];
+  statement = [];
 }
 
 abbrev pub found_by : FileValue → Answer → List Found
@@ -85,7 +86,7 @@ result_of f = sarif.result_object f.file f.range (word_of f.level) f.rule f.mess
 
 -- the issue of GitLab
 abbrev pub issue_of : Found → Data
-issue_of f = issue_object f.file (line_number f.file.text f.range.start) f.level f.rule f.message f.part
+issue_of f = issue_object f.file (line_number f.file.text f.range.start) f.level f.rule f.message f.statement
 
 -- what a reader has of a finding: the file's name, both places, the level, the rule and the message
 pub record Told : Type 0 where

@@ -1,1 +1,2 @@
 pub mod Issues
+pub mod Statement

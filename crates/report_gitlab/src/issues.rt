@@ -2,8 +2,10 @@
 ghost use Rattle.std.specs.Prelude.{◌≡◌, IfOk, string_bytes};
 ghost use Rattle.serde_json.specs.View.{view};
 ghost use Rattle.source_file.specs.File.{IsRangeIn};
-ghost use Rattle.report_gitlab.specs.Issues.{described, fingerprint, fingerprinted, issue_object, location_object, refusal_issue, report_issue, severity_of};
+ghost use Rattle.report_gitlab.specs.Issues.{described, fingerprint, fingerprinted, issue_object, location_object, refusal_issue, report_fingerprint, report_issue, severity_of};
+ghost use Rattle.report_gitlab.specs.Statement.{statement_around};
 
+use crate::statement::statement_around;
 use lint_base::Violation;
 use serde_json::{Value, json};
 use sha2::{Digest, Sha256};
@@ -32,13 +34,42 @@ fn fingerprinted(alloc: Global, file: &str, name: &str, part: &[u8]) -> Result<V
     Ok(all)
 }
 
-/// The fingerprint of a finding, by the file's name, the rule's and the text that is reported. The error comes when memory runs out.
+// The fingerprint of a finding, by the file's name, the rule's and the statement.
 #[tactic(auto, unfolding(crate::specs::Issues::fingerprint))]
-pub fn fingerprint(alloc: Global, file: &str, name: &str, part: &[u8]) -> Result<String, AllocError>
+fn fingerprint(alloc: Global, file: &str, name: &str, part: &[u8]) -> Result<String, AllocError>
     ensures { IfOk result (λ text. string_bytes text ≡ fingerprint file.now name.now part.now) }
 {
     let all = fingerprinted(alloc, file, name, part)?;
     hex::encode(alloc, Sha256::digest(all.as_slice()))
+}
+
+// The text of the statement that a report is in.
+fn statement_of(alloc: Global, text: &str, report: &Violation) -> Result<Vec<u8>, AllocError>
+    requires { IsRangeIn text.now report.now.text_range }
+    ensures { IfOk result (λ all. all.items ≡ statement_around text.now report.now.text_range.start report.now.text_range.end) }
+{
+    let range = report.text_range;
+    statement_around(
+        alloc,
+        text.as_bytes(),
+        range.start().raw() as usize,
+        range.end().raw() as usize,
+    )
+}
+
+/// The fingerprint of a report of a file, by the file's name, the rule's and the text of the statement: that up to the semicolons next to
+/// the range of the report, without white space at its ends. The error comes when memory runs out.
+pub fn report_fingerprint(
+    alloc: Global,
+    file: &str,
+    text: &str,
+    report: &Violation,
+) -> Result<String, AllocError>
+    requires { IsRangeIn text.now report.now.text_range }
+    ensures { IfOk result (λ print. string_bytes print ≡ report_fingerprint file.now text.now report.now) }
+{
+    let statement = statement_of(alloc, text, report)?;
+    fingerprint(alloc, file, report.code.name(), statement.as_slice())
 }
 
 // A line of a file.
@@ -95,12 +126,19 @@ pub(crate) fn report_issue(
     requires { IsRangeIn file.now.text violation.now.text_range }
     ensures { IfOk result (λ value. view value ≡ report_issue file.now violation.now) }
 {
-    let range = violation.text_range;
-    let part = &file.text().as_bytes()[range.start().raw() as usize..range.end().raw() as usize];
-    let line = file.line(range.start());
+    let statement = statement_of(alloc, file.text(), violation)?;
+    let line = file.line(violation.text_range.start());
     let name = violation.code.name();
     let message = violation.message.as_str();
-    issue_value(alloc, file, line, Level::Warning, name, message, part)
+    issue_value(
+        alloc,
+        file,
+        line,
+        Level::Warning,
+        name,
+        message,
+        statement.as_slice(),
+    )
 }
 
 /// Why a file could not be linted, as an issue. The error comes when memory runs out.

@@ -4,7 +4,8 @@
 #![tactic(auto)]
 
 mod issues;
+mod statement;
 mod text;
 
-pub use issues::fingerprint;
+pub use issues::report_fingerprint;
 pub use text::{push_refusal, push_report};
