@@ -123,7 +123,7 @@ fn answer_unread(alloc: Global, file: &Unread) -> Result<Answer, NoMemory>
 }
 
 /// The answer for the files that a request names. The error comes when memory runs out, and for 2^32 files and more.
-pub(crate) fn answer<F: FileStore>(
+pub(crate) fn answer_files<F: FileStore>(
     alloc: Global,
     request: &Request,
     linter: &mut Linter,

@@ -10,7 +10,7 @@ ghost use Rattle.gate_command.specs.Command as spec;
 ghost use Rattle.gate_command.specs.Failures.{IsStop, line_of};
 ghost use Rattle.gate_command.specs.declared.outcome.Status.TheVariants as status;
 
-use crate::answer::{Answer, answer};
+use crate::answer::{Answer, answer_files};
 use crate::asked::{Asked, read_asked};
 use crate::failure::Failure;
 use crate::fault::{Fault, fault_line};
@@ -70,7 +70,7 @@ fn gated<F: FileStore>(alloc: Global, request: Request, files: &mut F) -> Result
     if is_beside(&request, &linter) {
         return Err(refused(alloc, &Fault::Beside));
     }
-    match answer(alloc, &request, &mut linter, files) {
+    match answer_files(alloc, &request, &mut linter, files) {
         Ok(answer) => Ok(answer),
         Err(NoMemory) => Err(Failure::Stop(Stop::NoMemory)),
     }

@@ -68,7 +68,7 @@ fn refusal_of(error: FileError) -> Result<Refusal, NoMemory>
 }
 
 // A file that was not read as a text.
-fn unread(alloc: Global, name: &str, front: &str, refusal: Refusal) -> Result<Unread, NoMemory>
+fn unread_file(alloc: Global, name: &str, front: &str, refusal: Refusal) -> Result<Unread, NoMemory>
     ensures { IfOk result (IsUnreadAs name.now front.now refusal) }
 {
     let front = copied(alloc, front)?;
@@ -99,7 +99,7 @@ fn of_bytes(alloc: Global, name: &str, bytes: &[u8]) -> Result<Came, NoMemory>
         Err(error) => {
             let at = TextSize::new(error.valid_up_to() as u32);
             let refusal = Refusal::NotUtf8 { at };
-            Ok(Came::Unread(unread(alloc, name, readable(bytes), refusal)?))
+            Ok(Came::Unread(unread_file(alloc, name, readable(bytes), refusal)?))
         }
     }
 }
@@ -114,7 +114,7 @@ fn read_one<F: FileStore>(alloc: Global, files: &mut F, name: &str) -> Result<Ca
         Ok(bytes) => of_bytes(alloc, name, bytes.as_slice()),
         Err(error) => {
             let refusal = refusal_of(error)?;
-            Ok(Came::Unread(unread(alloc, name, "", refusal)?))
+            Ok(Came::Unread(unread_file(alloc, name, "", refusal)?))
         }
     }
 }
