@@ -5,3 +5,4 @@ mod Opening
 mod Judging
 mod Listing
 mod Ending
+mod Moving
