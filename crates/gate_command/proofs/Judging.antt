@@ -1,5 +1,5 @@
 -- From a verdict to what comes of files.
-use Rattle.std.proofs.Common.{◌≡◌, ◌∙◌, subst, sym, ℕ, Bool, true, false, List, [], ◌∷◌, Ok, Err}
+use Rattle.std.proofs.Common.{◌≡◌, ◌∙◌, refl, subst, sym, ℕ, Bool, true, false, List, [], ◌∷◌, Ok}
 use Rattle.std.proofs.lemmas.List.Elements.{All-cons, All-nil}
 use Rattle.std.specs.Prelude.{All}
 use Rattle.lint_base.specs.declared.settings.LinterSettings.{LinterSettings}
@@ -12,8 +12,11 @@ use Rattle.gate_machine.specs.Laws.{SessionsAgree}
 use Rattle.gate_machine.specs.Run.{EndsOutside}
 use Rattle.gate_verdict.specs.Laws.{AreClean}
 use Rattle.gate_verdict.specs.Verdicts.{ArePassing, IsVerdict}
-use Rattle.gate_command.specs.Open.{AllEndOutside, IsFirstOpen}
-use Rattle.gate_command.specs.Outcomes.{AreAccepted, AreCleanInOne, IsLeftOpen}
+use Rattle.gate_command.specs.Open.{AllEndOutside}
+use Rattle.gate_report.specs.declared.cause.Cause.TheVariants.{Unread, Against, Open}
+use Rattle.gate_command.specs.declared.outcome.Outcome.{Outcome}
+use Rattle.gate_command.specs.declared.outcome.Outcome.TheVariants.{Accepted, Refused}
+use Rattle.gate_command.specs.Outcomes.{AreAccepted, AreCleanInOne, IsOutcome, IsPassed}
 
 outside_trees : (rules : Rules) (settings : LinterSettings) (ts : List Text) (trees : List Tree) → ArePassing rules settings ts trees → AllEndOutside ts → All EndsOutside trees
 outside_trees rules settings ts [] h o = All-nil EndsOutside
@@ -38,15 +41,16 @@ in_one law linter ts works apart h o =
       listed = h.listed ∙ sym (law linter.settings h.trees apart (read_trees linter.rules linter.settings ts h.trees h.passing) outside);
     }
 
-pub accepted_apart : (b : Bool) (linter : Linter) (ts : List Text) (works : List GateWork) → b ≡ false → AreClean linter.rules linter.settings ts works → AreAccepted b linter ts works
-accepted_apart true linter ts works e h = absurd cc
-accepted_apart false linter ts works e h = h
+accepted : SessionsAgree → (b : Bool) (linter : Linter) (ts : List Text) (works : List GateWork) → (b ≡ true → linter.settings.assume_in_transaction ≡ false)
+    → AreClean linter.rules linter.settings ts works → (b ≡ true → AllEndOutside ts) → AreAccepted b linter ts works
+accepted law false linter ts works apart h o = h
+accepted law true linter ts works apart h o = (h, in_one law linter ts works (apart refl) h (o refl))
 
-pub accepted_in_one : SessionsAgree → (b : Bool) (linter : Linter) (ts : List Text) (works : List GateWork) → b ≡ true → (b ≡ true → linter.settings.assume_in_transaction ≡ false)
-    → AreClean linter.rules linter.settings ts works → AllEndOutside ts → AreAccepted b linter ts works
-accepted_in_one law true linter ts works e apart h o = (h, in_one law linter ts works (apart e) h o)
-accepted_in_one law false linter ts works e apart h o = absurd cc
-
-pub left_open : (b : Bool) (linter : Linter) (ts : List Text) (works : List GateWork) (file : ℕ) → b ≡ true → IsVerdict linter.rules linter.settings ts (Ok works) → IsFirstOpen ts file
-    → IsLeftOpen b linter ts file
-left_open b linter ts works file e pass first = record { asked = e; works = works; pass = pass; first = first }
+-- files that pass, by what comes of them
+pub outcome_of : SessionsAgree → (b : Bool) (linter : Linter) (ts : List Text) (works : List GateWork) (outcome : Outcome) → (b ≡ true → linter.settings.assume_in_transaction ≡ false)
+    → IsVerdict linter.rules linter.settings ts (Ok works) → AreClean linter.rules linter.settings ts works → IsPassed b ts works outcome → IsOutcome b linter ts outcome
+outcome_of law b linter ts works (Accepted all) apart pass clean h =
+    subst (λ (ws : List GateWork). IsVerdict linter.rules linter.settings ts (Ok ws) × AreAccepted b linter ts ws) (sym h.0) (pass, accepted law b linter ts works apart clean h.1)
+outcome_of law b linter ts works (Refused file Open) apart pass clean h = record { asked = h.0; works = works; pass = pass; first = h.1 }
+outcome_of law b linter ts works (Refused file (Against why)) apart pass clean h = absurd h
+outcome_of law b linter ts works (Refused file (Unread refusal)) apart pass clean h = h

@@ -63,12 +63,15 @@ IsRefusedBy None failure = IsNoMemory failure
 
 -- ---- answers
 
+-- the linter fits the request, and this is the answer for the files
+abbrev pub IsAnswered : Request → AnyLinter → (Text → Content) → ℕ → ℕ → Status → List ℕ → Type 0
+IsAnswered r l content before now status bytes = (is_beside r l ≡ false) × IsAnswerOf r l content before now status bytes
+
 -- the words name a linter that fits, and this is the answer for the files
 pub record IsGated (request : Request) (content : Text → Content) (before now : ℕ) (status : Status) (bytes : List ℕ) : Type 0 where
   pub linter : AnyLinter
   pub named : linter_of request.linter ≡ Some linter
-  pub apart : is_beside request linter ≡ false
-  pub told : IsAnswerOf request linter content before now status bytes
+  pub told : IsAnswered request linter content before now status bytes
 
 abbrev pub IsAnswerBy : Asked → (Text → Content) → ℕ → ℕ → Status → List ℕ → Type 0
 IsAnswerBy (Gate request) content before now status bytes = IsGated request content before now status bytes

@@ -14,7 +14,7 @@ use Rattle.gate_verdict.specs.Laws.{AreClean, RunsClean}
 use Rattle.gate_verdict.specs.Verdicts.{ArePassing, IsVerdict}
 use Rattle.gate_command.specs.declared.outcome.Outcome.{Outcome}
 use Rattle.gate_command.specs.declared.outcome.Outcome.TheVariants.{Accepted, Refused}
-use Rattle.gate_command.specs.Open.{IsFirstOpen}
+use Rattle.gate_command.specs.Open.{AllEndOutside, IsFirstOpen}
 
 -- The files pass, none ends inside a transaction, and these are the works of the one session that runs them all.
 pub record AreCleanInOne (rules : Rules) (settings : LinterSettings) (ts : List Text) (works : List GateWork) : Type 0 where
@@ -42,6 +42,13 @@ IsOutcome one_session linter ts (Accepted works) = IsVerdict linter.rules linter
 IsOutcome one_session linter ts (Refused file (Against why)) = IsVerdict linter.rules linter.settings ts (Err (file, why))
 IsOutcome one_session linter ts (Refused file Open) = IsLeftOpen one_session linter ts file
 IsOutcome one_session linter ts (Refused file (Unread refusal)) = ⊥
+
+-- this comes of files that pass and have these works
+abbrev pub IsPassed : Bool → List Text → List GateWork → Outcome → Type 0
+IsPassed one_session ts works (Accepted all) = (all.items ≡ works) × (one_session ≡ true → AllEndOutside ts)
+IsPassed one_session ts works (Refused file Open) = (one_session ≡ true) × IsFirstOpen ts file
+IsPassed one_session ts works (Refused file (Against why)) = ⊥
+IsPassed one_session ts works (Refused file (Unread refusal)) = ⊥
 
 -- what is written of the files
 abbrev pub printed_outcome : Bool → List Text → List Text → Outcome → List ℕ

@@ -29,6 +29,7 @@ pub(crate) struct Answer {
 fn borrowed<'t>(alloc: Global, files: &'t [MigrationFile]) -> Result<Vec<GateFile<'t>>, NoMemory>
     ensures names { IfOk result (λ all. names_of all.items ≡ map (λ f. f.name) files.entry.now) }
     ensures texts { IfOk result (λ all. texts_of all.items ≡ map (λ f. f.text) files.entry.now) }
+    ensures count { IfOk result (λ all. length all.items ≡ length files.entry.now) }
 {
     let mut all = Vec::new(alloc);
     for file in files {
@@ -134,7 +135,8 @@ pub(crate) fn answer_files<F: FileStore>(
     ensures { IfOk result (λ a. spec.IsAnswerOf request.now linter.old (F.content files.old) (F.faults files.old) (F.faults files.new) a.status a.bytes.items) }
 {
     let names = named_files(alloc, files, request.order, &request.files)?;
-    match read_files(alloc, files, &names)? {
+    let reading = read_files(alloc, files, &names)?;
+    match reading {
         Reading::Files(read) => answer_read(alloc, request, linter, read.as_slice()),
         Reading::Unread(file) => answer_unread(alloc, &file),
     }

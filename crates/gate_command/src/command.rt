@@ -1,10 +1,11 @@
 //! The run of the command, over any files and sinks.
-ghost use Rattle.std.specs.Prelude.{◌≡◌, IfErr, IfOk, OnOk};
+ghost use Rattle.std.specs.Prelude.{◌≡◌, IfErr, IfOk, OnOk, Some};
 ghost use Rattle.std.specs.Io.KnownBytes.{Appends, Keeps};
 ghost use Rattle.squawk_run.specs.declared.stop.Stop.TheVariants as stop;
 ghost use Rattle.squawk_stream.specs.Faults.{HasCause, Rose};
 ghost use Rattle.squawk_stream.specs.Parts.{AppendsPart};
 ghost use Rattle.gate_command.specs.Asked.{asked_of};
+ghost use Rattle.law_clean.specs.Clean.{HasDefaults};
 ghost use Rattle.migration_gate.specs.Config.{linter_of};
 ghost use Rattle.gate_command.specs.Command as spec;
 ghost use Rattle.gate_command.specs.Failures.{IsStop, line_of};
@@ -57,21 +58,37 @@ fn refused_linter(alloc: Global, request: Request) -> Failure
     refused(alloc, &Fault::Linter(linter))
 }
 
+// The answer for the files that a request names, by a linter.
+fn answered<F: FileStore>(
+    alloc: Global,
+    request: &Request,
+    linter: &mut Linter,
+    files: &mut F,
+) -> Result<Answer, Failure>
+    requires { HasDefaults linter.old.rules }
+    ensures answer { IfOk result (λ a. spec.IsAnswered request.now linter.old (F.content files.old) (F.faults files.old) (F.faults files.new) a.status a.bytes.items) }
+    ensures refused { IfErr result (spec.IsRefusedBy (spec.fault_by request.now (Some linter.old))) }
+{
+    if is_beside(request, linter) {
+        return Err(refused(alloc, &Fault::Beside));
+    }
+    match answer_files(alloc, request, linter, files) {
+        Ok(answer) => Ok(answer),
+        Err(NoMemory) => Err(Failure::Stop(Stop::NoMemory)),
+    }
+}
+
 // The answer for the files that a request names.
 fn gated<F: FileStore>(alloc: Global, request: Request, files: &mut F) -> Result<Answer, Failure>
     ensures answer { IfOk result (λ a. spec.IsGated request (F.content files.old) (F.faults files.old) (F.faults files.new) a.status a.bytes.items) }
     ensures refused { IfErr result (spec.IsRefusedBy (spec.fault_by request (linter_of request.linter))) }
 {
-    let mut linter = match linter_of(alloc, &request.linter) {
-        Ok(Some(linter)) => linter,
-        Ok(None) => return Err(refused_linter(alloc, request)),
-        Err(NoMemory) => return Err(Failure::Stop(Stop::NoMemory)),
-    };
-    if is_beside(&request, &linter) {
-        return Err(refused(alloc, &Fault::Beside));
-    }
-    match answer_files(alloc, &request, &mut linter, files) {
-        Ok(answer) => Ok(answer),
+    match linter_of(alloc, &request.linter) {
+        Ok(Some(linter)) => {
+            let mut linter = linter;
+            answered(alloc, &request, &mut linter, files)
+        }
+        Ok(None) => Err(refused_linter(alloc, request)),
         Err(NoMemory) => Err(Failure::Stop(Stop::NoMemory)),
     }
 }
