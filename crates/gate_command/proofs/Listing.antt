@@ -1,7 +1,7 @@
 -- Files as they were read and as the gate takes them.
-use Rattle.std.proofs.Common.{◌≡◌, ◌<◌, ◌^◌, subst, sym, ℕ, List, [], ◌∷◌, length, map}
+use Rattle.std.proofs.Common.{◌≡◌, ◌<◌, ◌^◌, arith, subst, sym, ℕ, zero, suc, List, [], ◌∷◌, length, map}
 use Rattle.std.proofs.lemmas.List.Elements.{All-cons, All-nil, All-head, All-tail}
-use Rattle.std.specs.Prelude.{All}
+use Rattle.std.specs.Prelude.{All, slice_index_or}
 use Rattle.file_store.specs.Contents.{Content}
 use Rattle.squawk_words.specs.Words.{Text}
 use Rattle.gate_files.specs.declared.read.MigrationFile.{MigrationFile}
@@ -43,3 +43,8 @@ told_slice request linter slice files status bytes e h =
 
 pub short_slice : (slice files : List MigrationFile) → slice ≡ files → All (λ f. length f.text < 2 ^ 32) files → All (λ f. length f.text < 2 ^ 32) slice
 short_slice slice files e h = subst (λ (fs : List MigrationFile). All HasShort fs) (sym e) h
+
+pub short_at : (ts : List Text) (i : ℕ) → All (λ t. length t < 2 ^ 32) ts → length (slice_index_or ts i []) < 2 ^ 32
+short_at [] i h = omega arith
+short_at (t ∷ ts) zero h = All-head IsShort t ts h
+short_at (t ∷ ts) (suc i) h = short_at ts i (All-tail IsShort t ts h)

@@ -66,8 +66,8 @@ fn printed(
     match outcome {
         Outcome::Accepted { works } => print_accepted(alloc, files, works, lists),
         Outcome::Refused { file, cause } => {
-            let file = file_at(files, file);
-            print_refused(alloc, file.name, file.text, cause)
+            let refused = file_at(files, file);
+            print_refused(alloc, refused.name, refused.text, cause)
         }
     }
 }

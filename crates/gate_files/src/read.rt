@@ -131,7 +131,8 @@ pub fn read_files<F: FileStore>(
 {
     let mut all = Vec::new(alloc);
     for i in 0..names.len() {
-        match read_one(alloc, files, names.get(i))? {
+        let came = read_one(alloc, files, names.get(i))?;
+        match came {
             Came::Read(file) => all.push(file)?,
             Came::Unread(file) => return Ok(Reading::Unread(file)),
         }
