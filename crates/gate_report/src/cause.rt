@@ -98,30 +98,30 @@ fn refusal_help(refusal: Refusal) -> &'static str
 
 impl Cause {
     /// A name for it, as rules have them.
-    pub(crate) fn name(self) -> &'static str
-        ensures { result.now ≡ spec.name_of self }
+    pub(crate) fn name(&self) -> &'static str
+        ensures { result.now ≡ spec.name_of self.now }
     {
         match self {
             Cause::Unread(refusal) => refusal.name(),
-            Cause::Against(why) => why_name(why),
+            Cause::Against(why) => why_name(*why),
             Cause::Open => "open-transaction",
         }
     }
 
     /// What is wrong.
-    pub(crate) fn message(self) -> &'static str
-        ensures { result.now ≡ spec.message_of self }
+    pub(crate) fn message(&self) -> &'static str
+        ensures { result.now ≡ spec.message_of self.now }
     {
         match self {
             Cause::Unread(refusal) => refusal.message(),
-            Cause::Against(why) => why_message(why),
+            Cause::Against(why) => why_message(*why),
             Cause::Open => "the file ends inside a transaction",
         }
     }
 
     /// The place of what is wrong, where it has one.
-    pub(crate) fn place(self) -> Option<TextSize>
-        ensures { result ≡ spec.place_of self }
+    pub(crate) fn place(&self) -> Option<TextSize>
+        ensures { result ≡ spec.place_of self.now }
     {
         match self {
             Cause::Unread(refusal) => {
@@ -131,28 +131,28 @@ impl Cause {
                     None
                 }
             }
-            Cause::Against(why) => why_place(why),
+            Cause::Against(why) => why_place(*why),
             Cause::Open => None,
         }
     }
 
     /// What to do; of a report what follows the name of the command that explains it.
-    pub(crate) fn help(self) -> &'static str
-        ensures { result.now ≡ spec.help_of self }
+    pub(crate) fn help(&self) -> &'static str
+        ensures { result.now ≡ spec.help_of self.now }
     {
         match self {
-            Cause::Unread(refusal) => refusal_help(refusal),
-            Cause::Against(why) => why_help(why),
+            Cause::Unread(refusal) => refusal_help(*refusal),
+            Cause::Against(why) => why_help(*why),
             Cause::Open => "end it in this file, by COMMIT or ROLLBACK without AND CHAIN",
         }
     }
 
     /// The rule whose page says more, where there is one.
-    pub(crate) fn rule(self) -> Option<Rule>
-        ensures { result ≡ spec.rule_of self }
+    pub(crate) fn rule(&self) -> Option<Rule>
+        ensures { result ≡ spec.rule_of self.now }
     {
         match self {
-            Cause::Against(why) => why_rule(why),
+            Cause::Against(why) => why_rule(*why),
             Cause::Unread(_) | Cause::Open => None,
         }
     }

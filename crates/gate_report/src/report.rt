@@ -50,13 +50,14 @@ fn push_refused(
     to: &mut Vec<u8>,
     alloc: Global,
     file: &SourceFile<'_>,
-    cause: Cause,
+    cause: &Cause,
 ) -> Result<(), NoMemory>
     requires { length file.now.text < 2 ^ 32 }
-    ensures { OnOk result (to.new.items ≡ to.old.items ++ spec.printed_refused file.now cause) }
+    ensures { OnOk result (to.new.items ≡ to.old.items ++ spec.printed_refused file.now cause.now) }
 {
     push_title(to, cause.name(), cause.message())?;
-    let gutter = push_where(to, file, spot_of(file.text(), cause))?;
+    let spot = spot_of(file.text(), cause);
+    let gutter = push_where(to, file, spot)?;
     let command = command_of(alloc, cause.rule())?;
     push_help(to, gutter, command.as_slice(), cause.help())?;
     push(to, b"\n")
@@ -75,6 +76,6 @@ pub fn print_refused(
 {
     let file = SourceFile::new(alloc, name, text)?;
     let mut to = Vec::new(alloc);
-    push_refused(&mut to, alloc, &file, cause)?;
+    push_refused(&mut to, alloc, &file, &cause)?;
     Ok(to)
 }

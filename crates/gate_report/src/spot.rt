@@ -18,8 +18,8 @@ fn is_between(text: &[u8], at: usize) -> bool
 }
 
 /// The place of a cause, where it has one and the text may be cut there.
-pub(crate) fn spot_of(text: &str, cause: Cause) -> Option<TextSize>
-    ensures value { result ≡ spec.spot_of text.now cause }
+pub(crate) fn spot_of(text: &str, cause: &Cause) -> Option<TextSize>
+    ensures value { result ≡ spec.spot_of text.now cause.now }
     ensures between { IfSome result (IsCharBoundary text.now) }
 {
     match cause.place() {
