@@ -1,18 +1,23 @@
 -- Why a run stopped.
-use Rattle.std.proofs.Common.{◌≡◌, refl, subst, sym, ℕ, Bool, true, false, List, Option, Some, None}
-use Rattle.std.specs.Io.KnownBytes.{Keeps}
+use Rattle.std.proofs.Common.{◌≡◌, refl, subst, sym, ℕ, Bool, true, false, List, Option, Some, None, Result, Ok, Err, IfOk, IfErr, OnOk}
+use Rattle.std.specs.Io.KnownBytes.{Appends, Keeps}
 use Rattle.std.specs.Prelude.{◌&&◌}
 use Rattle.file_store.specs.Contents.{Content}
 use Rattle.squawk_linter.specs.declared.linter.Linter.{Linter}
 use Rattle.squawk_run.specs.declared.stop.Stop.{Stop as AnyStop}
 use Rattle.squawk_run.specs.declared.stop.Stop.TheVariants.{BadArguments, NotUtf8, TooLong, ReadFault, WriteFault, NoMemory}
+use Rattle.squawk_stream.specs.Faults.{HasCause}
+use Rattle.squawk_stream.specs.Parts.{AppendsPart}
 use Rattle.squawk_words.specs.Words.{Text}
 use Rattle.gate_command.specs.declared.failure.Failure.{Failure}
 use Rattle.gate_command.specs.declared.failure.Failure.TheVariants.{Stop, Words}
 use Rattle.gate_command.specs.declared.fault.Fault.{Fault}
 use Rattle.gate_command.specs.declared.fault.Fault.TheVariants as fault
+use Rattle.gate_command.specs.declared.outcome.Status.{Status}
 use Rattle.gate_command.specs.declared.request.Request.{Request}
-use Rattle.gate_command.specs.Command.{IsLineOf, IsRefusedBy, StoppedFor, fault_by, fault_of, is_beside}
+use Rattle.gate_command.specs.Asked.{asked_of}
+use Rattle.gate_command.specs.Failures.{IsStop}
+use Rattle.gate_command.specs.Command.{HasWritten, HasWrittenPart, IsAnswerBy, IsLineOf, IsRefusedBy, StoppedFor, fault_by, fault_of, is_beside}
 
 -- ---- faults
 
@@ -63,3 +68,22 @@ pub stopped_by : (words : List Text) (content : Text → Content) (before now : 
     → StoppedFor words content before now old new f g failure
 stopped_by words content before now old new f g (Words line) r k = (r, k)
 stopped_by words content before now old new f g (Stop s) r k = stopped_at words content before now old new f g s (stop_in (fault_of words) s r) k
+
+-- ---- what was written
+
+pub written_by : (words : List Text) (content : Text → Content) (before now : ℕ) (old new : Option (List ℕ)) (status : Status) (bytes : List ℕ) (r : Result Status Failure)
+    → IsAnswerBy (asked_of words) content before now status bytes → OnOk r (Appends old new bytes) → IfOk r (λ s. s ≡ status) → IfOk r (HasWritten words content before now old new)
+written_by words content before now old new status bytes (Ok s) answer wrote is =
+    record { bytes = bytes; answer = subst (λ (x : Status). IsAnswerBy (asked_of words) content before now x bytes) (sym is) answer; appended = wrote }
+written_by words content before now old new status bytes (Err failure) answer wrote is = tt
+
+part_by : (words : List Text) (content : Text → Content) (before now : ℕ) (old new : Option (List ℕ)) (f g : ℕ) (failure : Failure) → failure ≡ Stop WriteFault
+    → HasWrittenPart words content before now old new f g → StoppedFor words content before now old new f g failure
+part_by words content before now old new f g failure is part = subst (λ (x : Failure). StoppedFor words content before now old new f g x) (sym is) part
+
+pub cut_by : (words : List Text) (content : Text → Content) (before now : ℕ) (old new : Option (List ℕ)) (f g : ℕ) (status : Status) (bytes : List ℕ) (r : Result Status Failure)
+    → IsAnswerBy (asked_of words) content before now status bytes → IfErr r (IsStop WriteFault) → AppendsPart old new bytes → HasCause f g r
+    → IfErr r (StoppedFor words content before now old new f g)
+cut_by words content before now old new f g status bytes (Ok s) answer stop part cause = tt
+cut_by words content before now old new f g status bytes (Err failure) answer stop part cause =
+    part_by words content before now old new f g failure stop (record { status = status; bytes = bytes; answer = answer; appended = part; cause = cause.failed })

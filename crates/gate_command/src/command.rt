@@ -59,6 +59,7 @@ fn refused_linter(alloc: Global, request: Request) -> Failure
 }
 
 // The answer for the files that a request names, by a linter.
+#[tactic(auto, using(crate::proofs::Ending::beside_by, crate::proofs::Ending::no_memory_fits, crate::proofs::Ending::apart_by))]
 fn answered<F: FileStore>(
     alloc: Global,
     request: &Request,
@@ -79,6 +80,7 @@ fn answered<F: FileStore>(
 }
 
 // The answer for the files that a request names.
+#[tactic(auto, using(crate::proofs::Ending::unnamed, crate::proofs::Ending::no_memory_fits))]
 fn gated<F: FileStore>(alloc: Global, request: Request, files: &mut F) -> Result<Answer, Failure>
     ensures answer { IfOk result (λ a. spec.IsGated request (F.content files.old) (F.faults files.old) (F.faults files.new) a.status a.bytes.items) }
     ensures refused { IfErr result (spec.IsRefusedBy (spec.fault_by request (linter_of request.linter))) }
@@ -108,6 +110,7 @@ fn help(alloc: Global) -> Result<Answer, Failure>
 }
 
 // What is to be written.
+#[tactic(auto, using(crate::proofs::Ending::no_memory_fits))]
 fn told<F: FileStore>(alloc: Global, words: &Words, files: &mut F) -> Result<Answer, Failure>
     ensures answer { IfOk result (λ a. spec.IsAnswerBy (asked_of words.now) (F.content files.old) (F.faults files.old) (F.faults files.new) a.status a.bytes.items) }
     ensures refused { IfErr result (spec.IsRefusedBy (spec.fault_of words.now)) }
@@ -135,6 +138,7 @@ fn write_answer<K: Sink>(answer: &Answer, out: &mut K) -> Result<Status, Failure
 }
 
 // All of a run but the line on the error sink.
+#[tactic(auto, using(crate::proofs::Ending::stopped_by, crate::proofs::Ending::written_by, crate::proofs::Ending::cut_by))]
 fn work<F: FileStore, K: Sink>(
     alloc: Global,
     words: &Words,
