@@ -52,7 +52,7 @@ fn refused_linter(alloc: Global, request: Request) -> Failure
         order: _,
         works: _,
         one_session: _,
-        files: _,
+        files: _files,
         linter,
     } = request;
     refused(alloc, &Fault::Linter(linter))
