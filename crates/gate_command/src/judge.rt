@@ -4,7 +4,7 @@ ghost use Rattle.law_clean.specs.Clean.{HasDefaults};
 ghost use Rattle.gate_machine.specs.Verdicts.{texts_of};
 ghost use Rattle.gate_command.specs.Outcomes.{IsOutcome, IsPassed};
 
-use crate::ending::first_open;
+use crate::left_open::first_open;
 use crate::outcome::Outcome;
 use gate_bundle::GateFile;
 use gate_machine::laws::sessions_agree;

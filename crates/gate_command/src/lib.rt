@@ -7,11 +7,11 @@
 mod answer;
 mod asked;
 mod command;
-mod ending;
 mod failure;
 mod fault;
 mod help;
 mod judge;
+mod left_open;
 mod outcome;
 mod read;
 mod request;
