@@ -28,7 +28,7 @@ no_memory_fits (Some f) = tt
 pub unnamed : (r : Request) (o : Option Linter) (failure : Failure) → None ≡ o → IsLineOf (fault.Linter r.linter) failure → IsRefusedBy (fault_by r o) failure
 unnamed r o failure e told = subst (λ (l : Option Linter). IsRefusedBy (fault_by r l) failure) e told
 
-beside_by : (r : Request) (l : Linter) (failure : Failure) (b : Bool) → b ≡ is_beside r l → b ≡ true → IsLineOf fault.Beside failure → IsRefusedBy (fault_by r (Some l)) failure
+pub beside_by : (r : Request) (l : Linter) (failure : Failure) (b : Bool) → b ≡ is_beside r l → b ≡ true → IsLineOf fault.Beside failure → IsRefusedBy (fault_by r (Some l)) failure
 beside_by r l failure b e is told = let there : is_beside r l ≡ true = cc in rw there told
 
 pub beside : (r : Request) (o : Option Linter) (l : Linter) (failure : Failure) (b : Bool) → Some l ≡ o → b ≡ is_beside r l → b ≡ true → IsLineOf fault.Beside failure

@@ -59,7 +59,7 @@ fn refused_linter(alloc: Global, request: Request) -> Failure
 }
 
 // The answer for the files that a request names, by a linter.
-#[tactic(auto, using(crate::proofs::Ending::beside_by, crate::proofs::Ending::no_memory_fits, crate::proofs::Ending::apart_by))]
+#[tactic(auto, using(crate::proofs::Ending::no_memory_fits))]
 fn answered<F: FileStore>(
     alloc: Global,
     request: &Request,

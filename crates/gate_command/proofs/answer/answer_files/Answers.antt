@@ -44,8 +44,8 @@ returns-in-Files g c =
     })
     c.answer_read.ensures
 
-pub returns-in-Unread : goal.returns-in-Unread
-returns-in-Unread g c =
+pub returns : goal.returns
+returns g c =
     let content = g.F.FileStore.content c.args.files.now in
     let now = g.F.FileStore.content c.named_files.new.files in
     let first = g.F.FileStore.faults c.args.files.now in
