@@ -1,4 +1,4 @@
-//! Runs of `lavkheto check` over the files that a text holds, and of `lavkheto explain`. Used by tests only.
+//! Runs of `lavkheto check` and `lavkheto gate` over the files that a text holds, and of `lavkheto explain`. Used by tests only.
 //!
 //! What comes before the first file is standard input. These lines begin a file:
 //!
@@ -69,6 +69,19 @@ pub fn explained(alloc: Global, words: &[String]) -> Result<Answer, Fault> {
     let mut err = MemSink::new(alloc, ROOM, &[])?;
     let code = match explain_command::run(alloc, &words, &mut out, &mut err) {
         Ok(()) => 0,
+        Err(failure) => failure.code(),
+    };
+    answer_of(alloc, code, out.bytes(), err.bytes())
+}
+
+/// A run of the gate with these words, the first of which stands for its name, over the files of a text.
+pub fn gated(alloc: Global, words: &[String], text: &[u8]) -> Result<Answer, Fault> {
+    let words = words_of(alloc, words)?;
+    let (_, mut files) = read_files(alloc, text)?;
+    let mut out = MemSink::new(alloc, ROOM, &[])?;
+    let mut err = MemSink::new(alloc, ROOM, &[])?;
+    let code = match gate_command::run(alloc, &words, &mut files, &mut out, &mut err) {
+        Ok(status) => status.code(),
         Err(failure) => failure.code(),
     };
     answer_of(alloc, code, out.bytes(), err.bytes())

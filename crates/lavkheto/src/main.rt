@@ -49,6 +49,17 @@ fn explain(rt: &HostRuntime, words: &Words) -> u8 {
     }
 }
 
+// A run of `gate`. The exit status.
+fn gate(rt: &HostRuntime, words: &Words) -> u8 {
+    let mut files = SystemFiles::new(rt);
+    let mut out = StdSink::new(rt.stdout());
+    let mut err = StdSink::new(rt.stderr());
+    match gate_command::run(rt.alloc(), words, &mut files, &mut out, &mut err) {
+        Ok(status) => status.code(),
+        Err(failure) => failure.code(),
+    }
+}
+
 // A run of `server`. The exit status.
 fn serve(rt: &HostRuntime, words: &Words) -> u8 {
     let mut files = SystemFiles::new(rt);
@@ -68,6 +79,7 @@ fn first(words: &Words) -> &str {
 fn run_words(rt: &HostRuntime, words: &Words) -> u8 {
     match first(words) {
         "explain" => explain(rt, words),
+        "gate" => gate(rt, words),
         "server" => serve(rt, words),
         _ => check(rt, words),
     }

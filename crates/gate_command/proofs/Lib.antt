@@ -1,0 +1,8 @@
+mod Signs
+mod Walk
+mod Parts
+mod Opening
+mod Judging
+mod Listing
+mod Ending
+mod Moving

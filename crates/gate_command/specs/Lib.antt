@@ -1,0 +1,9 @@
+pub mod Steps
+pub mod Faults
+pub mod Asked
+pub mod Failures
+pub mod Statuses
+pub mod Open
+pub mod Outcomes
+pub mod Answers
+pub mod Command

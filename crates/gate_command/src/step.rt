@@ -1,0 +1,195 @@
+//! One word after another.
+ghost use Rattle.std.specs.Prelude.{◌≡◌, [], IfOk, codes, option_map};
+ghost use Rattle.squawk_words.specs.Words.{after_dashes, begins_with_dash, name_in, value_in};
+ghost use Rattle.gate_command.specs.Steps as spec;
+
+use crate::request::Request;
+use gate_files::Order;
+use text_pos::NoMemory;
+
+/// What the next word is to be.
+#[derive(Clone, Copy, Debug, PartialEq, Eq)]
+pub(crate) enum Next {
+    /// An option, or a file.
+    Any,
+    /// The value of `--order`.
+    OrderValue,
+    /// The value of an option that chooses the linter.
+    LinterValue,
+    /// A file, after `--`.
+    File,
+}
+
+/// What the words so far ask for, and what the next one is to be.
+#[derive(Drop)]
+pub(crate) struct Reader {
+    pub(crate) next: Next,
+    pub(crate) request: Request,
+}
+
+// What comes before the first `=`.
+fn name_in(text: &str) -> &str
+    ensures { result.now ≡ name_in text.entry.now }
+{
+    match text.split_once('=') {
+        Some((name, _)) => name,
+        None => text,
+    }
+}
+
+// What comes after the first `=`, if there is one.
+fn value_in(text: &str) -> Option<&str>
+    ensures { option_map (λ s. s.now) result ≡ value_in text.entry.now }
+{
+    match text.split_once('=') {
+        Some((_, value)) => Some(value),
+        None => None,
+    }
+}
+
+// What follows `--` at the start of a word.
+fn after_dashes(word: &str) -> Option<&str>
+    ensures { option_map (λ s. s.now) result ≡ after_dashes word.entry.now }
+{
+    word.strip_prefix("--")
+}
+
+// Whether a word begins with `-`.
+fn begins_with_dash(word: &str) -> bool
+    ensures { result ≡ begins_with_dash word.now }
+{
+    match word.as_bytes() {
+        [first, ..] => *first == b'-',
+        [] => false,
+    }
+}
+
+// The order of a name.
+fn order_named(name: &str) -> Option<Order>
+    ensures { result ≡ spec.order_named name.now }
+{
+    if name == "given" {
+        Some(Order::Given)
+    } else if name == "name" {
+        Some(Order::Name)
+    } else {
+        None
+    }
+}
+
+// A request with an order, where there is one of this name.
+fn put_order(mut request: Request, value: &str) -> Option<Reader>
+    ensures { result ≡ spec.put_order value.now request }
+{
+    request.order = order_named(value)?;
+    Some(Reader {
+        next: Next::Any,
+        request,
+    })
+}
+
+// A request with one more file.
+fn with_file(next: Next, mut request: Request, word: &str) -> Result<Reader, NoMemory>
+    ensures { IfOk result (λ r. r ≡ spec.with_file next word.now request) }
+{
+    request.files.push(word)?;
+    Ok(Reader { next, request })
+}
+
+// A request with one more word for the linter.
+fn with_linter_word(next: Next, mut request: Request, word: &str) -> Result<Reader, NoMemory>
+    ensures { IfOk result (λ r. r ≡ spec.with_linter_word next word.now request) }
+{
+    request.linter.push(word)?;
+    Ok(Reader { next, request })
+}
+
+// What follows an option for the linter, which is given without its dashes.
+#[tactic(auto, unfolding(crate::specs::Steps::after_linter_option))]
+fn after_linter_option(rest: &str) -> Next
+    ensures { result ≡ spec.after_linter_option rest.now }
+{
+    if value_in(rest).is_some() || rest == "assume-in-transaction" {
+        Next::Any
+    } else {
+        Next::LinterValue
+    }
+}
+
+// `--order`, and what follows its `=`, if there is one.
+fn order_word(value: Option<&str>, request: Request) -> Option<Reader>
+    ensures { result ≡ spec.order_word (option_map (λ s. s.now) value.entry) request }
+{
+    match value {
+        Some(value) => put_order(request, value),
+        None => Some(Reader {
+            next: Next::OrderValue,
+            request,
+        }),
+    }
+}
+
+// An option with a value, or one for the linter, by what follows its dashes.
+#[tactic(auto, unfolding(crate::specs::Steps::valued_word))]
+fn valued_word(word: &str, rest: &str, request: Request) -> Result<Option<Reader>, NoMemory>
+    ensures { IfOk result (λ r. r ≡ spec.valued_word word.now rest.now request) }
+{
+    if name_in(rest) == "order" {
+        return Ok(order_word(value_in(rest), request));
+    }
+    Ok(Some(with_linter_word(after_linter_option(rest), request, word)?))
+}
+
+// An option, by what follows its dashes.
+#[tactic(auto, unfolding(crate::specs::Steps::option_word))]
+fn option_word(word: &str, rest: &str, mut request: Request) -> Result<Option<Reader>, NoMemory>
+    ensures { IfOk result (λ r. r ≡ spec.option_word word.now rest.now request) }
+{
+    match rest {
+        "works" => request.works = true,
+        "one-session" => request.one_session = true,
+        _ => return valued_word(word, rest, request),
+    }
+    Ok(Some(Reader {
+        next: Next::Any,
+        request,
+    }))
+}
+
+// A word that may be anything.
+#[tactic(auto, unfolding(crate::specs::Steps::any_word))]
+fn any_word(word: &str, request: Request) -> Result<Option<Reader>, NoMemory>
+    ensures { IfOk result (λ r. r ≡ spec.any_word word.now request) }
+{
+    match after_dashes(word) {
+        Some(rest) => {
+            if rest.is_empty() {
+                return Ok(Some(Reader {
+                    next: Next::File,
+                    request,
+                }));
+            }
+            option_word(word, rest, request)
+        }
+        None => {
+            if begins_with_dash(word) {
+                return Ok(None);
+            }
+            Ok(Some(with_file(Next::Any, request, word)?))
+        }
+    }
+}
+
+/// One word more, or `None` where it is refused. The error comes when memory runs out.
+#[tactic(auto, unfolding(crate::specs::Steps::step))]
+pub(crate) fn step(reader: Reader, word: &str) -> Result<Option<Reader>, NoMemory>
+    ensures { IfOk result (λ r. r ≡ spec.step word.now reader) }
+{
+    let Reader { next, request } = reader;
+    match next {
+        Next::Any => any_word(word, request),
+        Next::OrderValue => Ok(put_order(request, word)),
+        Next::LinterValue => Ok(Some(with_linter_word(Next::Any, request, word)?)),
+        Next::File => Ok(Some(with_file(Next::File, request, word)?)),
+    }
+}

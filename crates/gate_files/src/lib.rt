@@ -1,0 +1,12 @@
+//! The files of a gate: which ones words stand for, in which order they run, and their texts.
+//!
+//! `specs/Named.antt` says which files the words stand for, and `specs/Read.antt` what was read of them.
+#![tactic(auto)]
+
+mod named;
+mod order;
+mod read;
+
+pub use named::named_files;
+pub use order::Order;
+pub use read::{MigrationFile, Reading, Unread, read_files};

@@ -1,0 +1,4 @@
+pub mod Causes
+pub mod Spots
+pub mod Report
+pub mod Accepted
