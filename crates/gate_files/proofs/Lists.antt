@@ -1,5 +1,5 @@
 -- Files, one by one.
-use Rattle.std.proofs.Common.{◌≡◌, ◌∙◌, ◌+◌, ◌<◌, ◌≤◌, ◌^◌, ap, arith, refl, subst, sym, ℕ, zero, suc, List, [], ◌∷◌, ◌++◌, length, take, drop, map, string_bytes, Some}
+use Rattle.std.proofs.Common.{◌≡◌, ◌∙◌, ◌+◌, ◌<◌, ◌≤◌, ◌^◌, ap, arith, subst, sym, ℕ, zero, suc, List, [], ◌∷◌, ◌++◌, length, take, drop, map, string_bytes, Some}
 use Rattle.std.proofs.lemmas.List.{length-take-le, take_all}
 use Rattle.std.proofs.lemmas.Option.{slice_get_within}
 use Rattle.std.proofs.lemmas.Str.{utf8_valid_len_le}

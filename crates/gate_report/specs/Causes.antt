@@ -1,5 +1,5 @@
 -- The words for each cause.
-use Rattle.std.specs.Prelude.{◌≡◌, ℕ, List, ◌++◌, codes, Option, Some, None, if◌then◌else◌}
+use Rattle.std.specs.Prelude.{ℕ, List, codes, Option, Some, None, if◌then◌else◌}
 use Rattle.lint_base.specs.declared.rule.Rule.{Rule}
 use Rattle.lint_base.specs.Rules.{name_of as rule_name}
 use Rattle.source_file.specs.declared.refusal.Refusal.{Refusal}
