@@ -1,5 +1,5 @@
 -- From a verdict to what comes of files.
-use Rattle.std.proofs.Common.{◌≡◌, ◌∙◌, refl, subst, sym, ℕ, Bool, true, false, List, [], ◌∷◌, Ok}
+use Rattle.std.proofs.Common.{◌≡◌, ◌∙◌, refl, subst, sym, Bool, true, false, List, [], ◌∷◌, Ok}
 use Rattle.std.proofs.lemmas.List.Elements.{All-cons, All-nil}
 use Rattle.std.specs.Prelude.{All}
 use Rattle.lint_base.specs.declared.settings.LinterSettings.{LinterSettings}

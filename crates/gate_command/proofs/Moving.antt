@@ -1,5 +1,5 @@
 -- What was read of a store that was used before.
-use Rattle.std.proofs.Common.{◌≡◌, ◌<◌, ◌≤◌, ◌^◌, arith, subst, ℕ, List, [], ◌∷◌, length}
+use Rattle.std.proofs.Common.{◌≤◌, arith, subst, ℕ, List, [], ◌∷◌}
 use Rattle.file_store.specs.Contents.{Content, KeepsContents}
 use Rattle.source_file.specs.declared.refusal.Refusal.{Refusal}
 use Rattle.source_file.specs.declared.refusal.Refusal.TheVariants as refusal
@@ -8,7 +8,7 @@ use Rattle.squawk_words.specs.Words.{Text}
 use Rattle.gate_files.specs.declared.read.MigrationFile.{MigrationFile}
 use Rattle.gate_files.specs.declared.read.Reading.{Reading}
 use Rattle.gate_files.specs.declared.read.Reading.TheVariants.{Files, Unread as NotRead}
-use Rattle.gate_files.specs.Read.{AreRead, IsFirstUnread, IsRead, IsReading, IsUnread}
+use Rattle.gate_files.specs.Read.{AreRead, IsRead, IsReading, IsUnread}
 
 files_moved : (content now : Text → Content) (names : List Text) (files : List MigrationFile) → KeepsContents content now → AreRead now names files → AreRead content names files
 files_moved content now [] [] kept h = tt

@@ -1,5 +1,5 @@
 -- Files that end inside a transaction, one by one.
-use Rattle.std.proofs.Common.{◌≡◌, ◌+◌, ◌≤◌, ap, arith, subst, sym, ℕ, zero, suc, Bool, true, false, List, [], ◌∷◌, ◌++◌, length, drop, take, Some}
+use Rattle.std.proofs.Common.{◌≡◌, ◌+◌, ◌≤◌, ap, arith, subst, sym, ℕ, zero, suc, Bool, true, false, List, [], ◌∷◌, length, drop, take, Some}
 use Rattle.std.proofs.lemmas.List.{take_all}
 use Rattle.std.proofs.lemmas.Option.{slice_get_within}
 use Rattle.std.specs.Prelude.{slice_get}
@@ -10,7 +10,7 @@ use Rattle.sql_read.specs.Cause.{IsTreeOf}
 use Rattle.gate_bundle.specs.declared.file.GateFile.{GateFile}
 use Rattle.gate_machine.specs.Run.{EndsOutside}
 use Rattle.gate_machine.specs.Verdicts.{texts_of}
-use Rattle.gate_command.specs.Open.{AllEndOutside, EndsInside, IsFirstOpen, NeverInside, TellsOpen}
+use Rattle.gate_command.specs.Open.{AllEndOutside, IsFirstOpen, NeverInside, TellsOpen}
 
 -- what is told of the one tree of a text
 pub tells_open : (text : Text) (tree : Tree) (b : Bool) → IsTreeOf text tree → ((t : Tree) → IsTreeOf text t → tree ≡ t) → b ≡ is_open false tree (length tree.stmts) → TellsOpen text b

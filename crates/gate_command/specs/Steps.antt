@@ -1,5 +1,5 @@
 -- What one word adds to what the words before it ask for.
-use Rattle.std.specs.Prelude.{◌==◌, ◌||◌, ◌++◌, Bool, true, false, [], ◌∷◌, Option, Some, None, codes, is_some, option_map, if◌then◌else◌}
+use Rattle.std.specs.Prelude.{◌||◌, ◌++◌, true, [], ◌∷◌, Option, Some, None, codes, is_some, option_map, if◌then◌else◌}
 use Rattle.std.specs.Str.{bytes_eq}
 use Rattle.squawk_words.specs.Words.{Text, after_dashes, begins_with_dash, name_in, value_in}
 use Rattle.gate_files.specs.declared.order.Order.{Order}
