@@ -19,6 +19,7 @@ mod symbol;
 pub use error::LexError;
 pub use inside::terminals_in;
 pub use lexer::lex;
+pub use scan::token_at;
 pub use sound::is_sound;
 pub use spans::cut;
 pub use sql_token::span_of;
