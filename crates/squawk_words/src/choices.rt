@@ -1,7 +1,7 @@
 //! What words choose.
 ghost use Rattle.std.specs.Prelude.{◌≡◌, ◌↔◌, IfOk, IsSome, Some, None, option_map};
 ghost use Rattle.squawk_words.specs.Command.{said_by};
-ghost use Rattle.squawk_words.specs.Choices.{IsAccepted, choices_by, choices_of, rules_by, version_by};
+ghost use Rattle.squawk_words.specs.Choices.{IsAccepted, choices_by, choices_of, rules_by, said_of, version_by};
 
 use crate::given::{Given, given_words};
 use crate::values::{groups_by, names_by, number_or, rule_list, rules_or_none};
@@ -45,14 +45,22 @@ pub fn read_choices(alloc: Global, words: &Words) -> Result<Option<Choices>, NoM
     ensures value { IfOk result (λ choices. choices ≡ choices_of words.now) }
     ensures accepted { IfOk result (λ choices. IsSome choices ↔ IsAccepted words.now) }
 {
-    match given_words(alloc, words.as_slice())? {
+    match read_given(alloc, words)? {
         None => Ok(None),
         Some(given) => choices_by(alloc, given),
     }
 }
 
-// The choices by the values of the words, if each can be read.
-fn choices_by(alloc: Global, given: Given<'_>) -> Result<Option<Choices>, NoMemory>
+/// The values of words, not yet read, or `None` exactly where the words are refused whatever their values are. The error comes when memory
+/// runs out.
+pub fn read_given<'w>(alloc: Global, words: &'w Words) -> Result<Option<Given<'w>>, NoMemory>
+    ensures { IfOk result (λ given. option_map said_by given ≡ said_of words.entry.now) }
+{
+    given_words(alloc, words.as_slice())
+}
+
+/// What values choose, or `None` exactly where one of them can't be read. The error comes when memory runs out.
+pub fn choices_by(alloc: Global, given: Given<'_>) -> Result<Option<Choices>, NoMemory>
     ensures { IfOk result (λ choices. choices ≡ choices_by (said_by given.entry)) }
 {
     let Some(pg_version) = version_by(given.pg_major, given.pg_minor, given.pg_patch) else {

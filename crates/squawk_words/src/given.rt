@@ -10,19 +10,19 @@ use clap::{Arg, ArgAction, ArgMatches, Command};
 use std::alloc::{AllocError, Global};
 use text_pos::NoMemory;
 
-/// The values of the words, not yet read.
+/// The values of words, not yet read: of each name that takes one the value that it is set to, and of each other whether it is there.
 #[derive(Clone, Copy)]
-pub(crate) struct Given<'w> {
-    pub(crate) only: Option<&'w str>,
-    pub(crate) include: Option<&'w str>,
-    pub(crate) exclude: Option<&'w str>,
-    pub(crate) non_volatile: Option<&'w str>,
-    pub(crate) pg_major: Option<&'w str>,
-    pub(crate) pg_minor: Option<&'w str>,
-    pub(crate) pg_patch: Option<&'w str>,
-    pub(crate) generate: Option<&'w str>,
-    pub(crate) assume_in_transaction: bool,
-    pub(crate) locks: bool,
+pub struct Given<'w> {
+    pub only: Option<&'w str>,
+    pub include: Option<&'w str>,
+    pub exclude: Option<&'w str>,
+    pub non_volatile: Option<&'w str>,
+    pub pg_major: Option<&'w str>,
+    pub pg_minor: Option<&'w str>,
+    pub pg_patch: Option<&'w str>,
+    pub generate: Option<&'w str>,
+    pub assume_in_transaction: bool,
+    pub locks: bool,
 }
 
 /// The values of the words, or `None` exactly where the words are refused. The error comes when

@@ -9,5 +9,6 @@ mod given;
 mod values;
 mod words;
 
-pub use choices::{Choices, read_choices};
+pub use choices::{Choices, choices_by, read_choices, read_given};
+pub use given::Given;
 pub use words::Words;

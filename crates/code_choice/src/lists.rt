@@ -1,0 +1,71 @@
+//! Lists of names.
+ghost use Rattle.std.specs.Prelude.{◌≡◌, [], IfOk, map, option_map};
+ghost use Rattle.squawk_words.specs.Choices.{items_of, read_or};
+ghost use Rattle.code_choice.specs.Choices as spec;
+
+use hazard_base::Hazard;
+use lint_base::Rule;
+use lint_report::{Code, code_named};
+use std::alloc::{AllocError, Global};
+use text_pos::NoMemory;
+
+// What is between the commas of a list.
+fn items_of(alloc: Global, list: &str) -> Result<Vec<&str>, AllocError>
+    ensures { IfOk result (λ v. map (λ s. s.now) v.items ≡ items_of list.now) }
+{
+    list.split(',').collect(alloc)
+}
+
+/// What a list names, between its commas, or `None` where an item names neither a rule nor a hazard. The error comes when memory runs out.
+pub fn code_list(alloc: Global, list: &str) -> Result<Option<Vec<Code>>, NoMemory>
+    ensures { IfOk result (λ found. option_map (λ v. v.items) found ≡ spec.code_list list.now) }
+{
+    let items = items_of(alloc, list)?;
+    let mut found = Vec::new(alloc);
+    for item in &items {
+        match code_named(item) {
+            Some(code) => found.push(code)?,
+            None => return Ok(None),
+        }
+    }
+    Ok(Some(found))
+}
+
+/// The same, where no list names nothing.
+pub(crate) fn codes_or_none(
+    alloc: Global,
+    list: Option<&str>,
+) -> Result<Option<Vec<Code>>, NoMemory>
+    ensures { IfOk result (λ found. option_map (λ v. v.items) found ≡ read_or [] spec.code_list (option_map (λ s. s.now) list.entry)) }
+{
+    match list {
+        None => Ok(Some(Vec::new(alloc))),
+        Some(list) => code_list(alloc, list),
+    }
+}
+
+/// The rules among codes, in order.
+pub(crate) fn rules_among(alloc: Global, codes: &[Code]) -> Result<Vec<Rule>, AllocError>
+    ensures { IfOk result (λ v. v.items ≡ spec.rules_among codes.now) }
+{
+    let mut rules = Vec::new(alloc);
+    for code in codes {
+        if let Code::Rule(rule) = *code {
+            rules.push(rule)?;
+        }
+    }
+    Ok(rules)
+}
+
+/// The hazards among codes, in order.
+pub(crate) fn hazards_among(alloc: Global, codes: &[Code]) -> Result<Vec<Hazard>, AllocError>
+    ensures { IfOk result (λ v. v.items ≡ spec.hazards_among codes.now) }
+{
+    let mut hazards = Vec::new(alloc);
+    for code in codes {
+        if let Code::Hazard(hazard) = *code {
+            hazards.push(hazard)?;
+        }
+    }
+    Ok(hazards)
+}
