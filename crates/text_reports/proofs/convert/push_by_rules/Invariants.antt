@@ -1,0 +1,13 @@
+use Rattle.std.proofs.Common.{◌≡◌, ◌++◌, map}
+use Rattle.std.specs.Vec.Iter.{into_iter_items}
+use Rattle.text_reports.specs.Reports.{by_rule}
+use Rattle.text_reports.specs.Statements.{IsCursor}
+use Rattle.text_reports.proofs.convert.push_by_rules.Given as goal
+
+-- what was yielded was added, and the others follow it
+abbrev pub invariant-loop-v : goal.invariant-loop-v
+invariant-loop-v l = record {
+  cursor : IsCursor l.file l.cursor;
+  added : l.list.items ≡ l.fn.list.items ++ map (by_rule l.file) l.yielded;
+  others : l.fn.reports.items ≡ l.yielded ++ into_iter_items l.v-iterator;
+}

@@ -1,0 +1,10 @@
+//! All that is reported of a text: what the rules of the linter find, and what hazards it has, in one list by place.
+//!
+//! `specs/Reports.antt` says which reports these are, and `specs/Statements.antt` which statement each is in.
+#![tactic(auto)]
+
+mod convert;
+mod cursor;
+mod find;
+
+pub use find::{TextLinter, find_reports};
