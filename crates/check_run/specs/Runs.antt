@@ -1,11 +1,12 @@
 -- What a run says of its files, and what it wrote.
-use Rattle.std.specs.Prelude.{◌≡◌, ℕ, Bool, true, false, List, [], ◌∷◌}
+use Rattle.std.specs.Prelude.{◌≡◌, ℕ, All, Bool, true, false, List, [], ◌∷◌}
 use Rattle.std.specs.declared.option.Option.{Option}
 use Rattle.std.specs.Io.KnownBytes.{Appends, Keeps}
 use Rattle.check_words.specs.declared.request.Request.{Request}
 use Rattle.checked_file.specs.declared.checked.Checked.{Checked}
 use Rattle.checked_file.specs.declared.status.Status.{Status}
 use Rattle.checked_file.specs.Files.{worst}
+use Rattle.checked_file.specs.Sound.{IsSound}
 use Rattle.file_choice.specs.Choice.{chosen_of}
 use Rattle.file_store.specs.Contents.{Content}
 use Rattle.squawk_run.specs.declared.stop.Stop.{Stop}
@@ -58,10 +59,11 @@ pub record AreLeft (Are : List Checked → Type 0) (leaves : List Checked → Li
 
 -- ---- what was written
 
--- All that is printed of such files was written, and the status is the greatest of theirs.
+-- All that is printed of such files, which are sound, was written, and the status is the greatest of theirs.
 pub record HasRun (Are : List Checked → Type 0) (printed : List Checked → List ℕ) (old new : Option (List ℕ)) (status : Status) : Type 0 where
   pub files : List Checked
   pub are : Are files
+  pub sound : All IsSound files
   pub worst_of : status ≡ worst files
   pub appended : Appends old new (printed files)
 
@@ -74,10 +76,11 @@ StopsWriting ReadFault bytes old new before now = ⊥
 StopsWriting WriteFault bytes old new before now = AppendsPart old new bytes × Rose before now
 StopsWriting NoMemory bytes old new before now = Keeps old new
 
--- such files were there, and a front part of what is printed of them was written before a write failed
+-- such files were there, which are sound, and a front part of what is printed of them was written before a write failed
 pub record HasWrittenPart (Are : List Checked → Type 0) (printed : List Checked → List ℕ) (old new : Option (List ℕ)) (before now : ℕ) : Type 0 where
   pub files : List Checked
   pub are : Are files
+  pub sound : All IsSound files
   pub part : AppendsPart old new (printed files)
   pub cause : Rose before now
 

@@ -1,5 +1,6 @@
 //! Files, one by one.
 ghost use Rattle.std.specs.Prelude.{◌≡◌, ◌<◌, ◌≤◌, ◌^◌, ℕ, All, IfOk, List, length};
+ghost use Rattle.std.specs.Str.{IsUtf8};
 ghost use Rattle.checked_file.specs.Sound.{IsSound};
 ghost use Rattle.checked_file.specs.declared.answer.Answer.{Answer};
 ghost use Rattle.file_store.specs.Contents.{KeepsContents};
@@ -23,6 +24,7 @@ pub(crate) fn named(
     answer: Answer,
 ) -> Result<Checked, NoMemory>
     ensures name { IfOk result (λ file. file.name ≡ name.now) }
+    ensures utf8 { IfOk result (λ file. IsUtf8 file.name) }
     ensures bytes { IfOk result (λ file. file.bytes ≡ bytes) }
     ensures answer { IfOk result (λ file. file.answer ≡ answer) }
 {

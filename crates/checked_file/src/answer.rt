@@ -1,14 +1,14 @@
 //! What comes of a file.
 
 use crate::status::Status;
-use lint_base::Violation;
+use lint_report::Report;
 use source_file::Refusal;
 
 /// What comes of a file.
 #[derive(Debug, Drop)]
 pub enum Answer {
     /// It was linted, and this is reported.
-    Reports(Vec<Violation>),
+    Reports(Vec<Report>),
     /// It could not be linted.
     Refused(Refusal),
 }
