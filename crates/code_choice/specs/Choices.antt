@@ -1,5 +1,5 @@
 -- Which rules and which hazards words choose.
-use Rattle.std.specs.Prelude.{◌&&◌, ◌||◌, Bool, true, false, List, [], ◌∷◌, Option, Some, None, codes, filter, flat_map, if◌then◌else◌, is_some, not, option_and_then, option_map}
+use Rattle.std.specs.Prelude.{◌||◌, Bool, true, false, List, [], ◌∷◌, Option, Some, None, codes, flat_map, if◌then◌else◌, is_some, not, option_and_then, option_map}
 use Rattle.std.specs.List.{list_any}
 use Rattle.std.specs.Str.{bytes_eq}
 use Rattle.hazard_base.specs.declared.hazard.Hazard.{Hazard}
@@ -107,8 +107,11 @@ is_no_hazards word = bytes_eq word (codes "--no-hazards")
 abbrev pub has_no_hazards : List Text → Bool
 has_no_hazards words = list_any is_no_hazards words
 
+abbrev pub other_word : Text → List Text
+other_word word = if is_no_hazards word then [] else word ∷ []
+
 abbrev pub other_words : List Text → List Text
-other_words words = filter (λ word. not (is_no_hazards word)) words
+other_words words = flat_map other_word words
 
 -- no hazard is enabled, where none is wanted
 abbrev pub without_hazards : Bool → CodeChoices → CodeChoices

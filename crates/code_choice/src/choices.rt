@@ -19,7 +19,7 @@ pub struct CodeChoices {
 
 /// The rules: those of `only` where there is such a list, and else those of the default set, with and without others.
 pub(crate) fn rules_by(only: Option<&[Rule]>, include: &[Rule], exclude: &[Rule]) -> RuleSet
-    ensures { result ≡ spec.rules_by (option_map (λ s. s.now) only) include.now exclude.now }
+    ensures { result ≡ spec.rules_by (option_map (λ s. s.now) only.entry) include.now exclude.now }
 {
     match only {
         Some(rules) => RuleSet::named(rules),
@@ -31,17 +31,12 @@ pub(crate) fn rules_by(only: Option<&[Rule]>, include: &[Rule], exclude: &[Rule]
 fn is_among(hazards: &[Hazard], hazard: Hazard) -> bool
     ensures { result ≡ spec.is_among hazards.now hazard }
 {
-    for h in hazards {
-        if hazard.is(*h) {
-            return true;
-        }
-    }
-    false
+    hazards.iter().any(|h| hazard.is(*h))
 }
 
 // Whether a hazard is enabled.
 fn is_enabled(only: Option<&[Hazard]>, exclude: &[Hazard], hazard: Hazard) -> bool
-    ensures { result ≡ spec.is_enabled (option_map (λ s. s.now) only) exclude.now hazard }
+    ensures { result ≡ spec.is_enabled (option_map (λ s. s.now) only.entry) exclude.now hazard }
 {
     match only {
         Some(hazards) => is_among(hazards, hazard),
@@ -51,7 +46,7 @@ fn is_enabled(only: Option<&[Hazard]>, exclude: &[Hazard], hazard: Hazard) -> bo
 
 /// The hazards: those of `only` where there is such a list, and else all but others.
 pub(crate) fn hazards_by(only: Option<&[Hazard]>, exclude: &[Hazard]) -> HazardSet
-    ensures { result ≡ spec.hazards_that (spec.is_enabled (option_map (λ s. s.now) only) exclude.now) }
+    ensures { result ≡ spec.hazards_that (spec.is_enabled (option_map (λ s. s.now) only.entry) exclude.now) }
 {
     HazardSet {
         statement_in_transaction: is_enabled(only, exclude, Hazard::StatementInTransaction),

@@ -1,5 +1,5 @@
 //! Lists of names.
-ghost use Rattle.std.specs.Prelude.{◌≡◌, [], IfOk, map, option_map};
+ghost use Rattle.std.specs.Prelude.{◌≡◌, ◌++◌, [], IfOk, OnOk, map, option_map};
 ghost use Rattle.squawk_words.specs.Choices.{items_of, read_or};
 ghost use Rattle.code_choice.specs.Choices as spec;
 
@@ -44,15 +44,35 @@ pub(crate) fn codes_or_none(
     }
 }
 
+// Adds a rule.
+fn push_rule(rules: &mut Vec<Rule>, code: &Code) -> Result<(), AllocError>
+    ensures { OnOk result (rules.new.items ≡ rules.old.items ++ spec.rule_in code.now) }
+{
+    match *code {
+        Code::Rule(rule) => rules.push(rule)?,
+        Code::Hazard(_) => {}
+    }
+    Ok(())
+}
+
+// Adds a hazard.
+fn push_hazard(hazards: &mut Vec<Hazard>, code: &Code) -> Result<(), AllocError>
+    ensures { OnOk result (hazards.new.items ≡ hazards.old.items ++ spec.hazard_in code.now) }
+{
+    match *code {
+        Code::Rule(_) => {}
+        Code::Hazard(hazard) => hazards.push(hazard)?,
+    }
+    Ok(())
+}
+
 /// The rules among codes, in order.
 pub(crate) fn rules_among(alloc: Global, codes: &[Code]) -> Result<Vec<Rule>, AllocError>
     ensures { IfOk result (λ v. v.items ≡ spec.rules_among codes.now) }
 {
     let mut rules = Vec::new(alloc);
     for code in codes {
-        if let Code::Rule(rule) = *code {
-            rules.push(rule)?;
-        }
+        push_rule(&mut rules, code)?;
     }
     Ok(rules)
 }
@@ -63,9 +83,7 @@ pub(crate) fn hazards_among(alloc: Global, codes: &[Code]) -> Result<Vec<Hazard>
 {
     let mut hazards = Vec::new(alloc);
     for code in codes {
-        if let Code::Hazard(hazard) = *code {
-            hazards.push(hazard)?;
-        }
+        push_hazard(&mut hazards, code)?;
     }
     Ok(hazards)
 }

@@ -1,11 +1,10 @@
 //! What words choose.
-ghost use Rattle.std.specs.Prelude.{◌≡◌, ◌∷◌, [], IfOk, option_map};
+ghost use Rattle.std.specs.Prelude.{◌≡◌, ◌++◌, IfOk, OnOk, option_map};
 ghost use Rattle.squawk_words.specs.Command.{said_by};
 ghost use Rattle.code_choice.specs.Choices as spec;
 
 use crate::choices::{CodeChoices, hazards_by, rules_by};
 use crate::lists::{code_list, codes_or_none, hazards_among, rules_among};
-use hazard_base::HazardSet;
 use lint_report::Code;
 use squawk_run::has_foreign_word;
 use squawk_words::{Choices, Given, Words, choices_by, read_given};
@@ -20,7 +19,7 @@ fn with_lists(
     include: &[Code],
     exclude: &[Code],
 ) -> Result<CodeChoices, NoMemory>
-    ensures { IfOk result (λ r. r ≡ spec.with_lists (option_map (λ s. s.now) only) include.now exclude.now choices) }
+    ensures { IfOk result (λ r. r ≡ spec.with_lists (option_map (λ s. s.now) only.entry) include.now exclude.now choices) }
 {
     let included = rules_among(alloc, include)?;
     let excluded = rules_among(alloc, exclude)?;
@@ -34,7 +33,11 @@ fn with_lists(
         Some(codes) => {
             let rules = rules_among(alloc, codes)?;
             let named = hazards_among(alloc, codes)?;
-            choices.rules = rules_by(Some(rules.as_slice()), included.as_slice(), excluded.as_slice());
+            choices.rules = rules_by(
+                Some(rules.as_slice()),
+                included.as_slice(),
+                excluded.as_slice(),
+            );
             let hazards = hazards_by(Some(named.as_slice()), apart.as_slice());
             Ok(CodeChoices { choices, hazards })
         }
@@ -55,7 +58,11 @@ fn plain_choices(alloc: Global, given: Given<'_>) -> Result<Option<Choices>, NoM
 }
 
 // What values choose that have no list `only`.
-fn chosen_beside(alloc: Global, given: Given<'_>, choices: Choices) -> Result<Option<CodeChoices>, NoMemory>
+fn chosen_beside(
+    alloc: Global,
+    given: Given<'_>,
+    choices: Choices,
+) -> Result<Option<CodeChoices>, NoMemory>
     ensures { IfOk result (λ r. r ≡ spec.chosen_beside (said_by given.entry) choices) }
 {
     let Some(include) = codes_or_none(alloc, given.include)? else {
@@ -119,15 +126,23 @@ fn has_no_hazards(words: &Words) -> bool
     false
 }
 
+// Adds another word.
+fn push_other(rest: &mut Words, word: &str) -> Result<(), NoMemory>
+    ensures { OnOk result (rest.new ≡ rest.old ++ spec.other_word word.now) }
+{
+    if is_no_hazards(word) {
+        return Ok(());
+    }
+    rest.push(word)
+}
+
 // The other words.
 fn other_words(alloc: Global, words: &Words) -> Result<Words, NoMemory>
     ensures { IfOk result (λ rest. rest ≡ spec.other_words words.now) }
 {
     let mut rest = Words::new(alloc);
     for i in 0..words.len() {
-        if !is_no_hazards(words.get(i)) {
-            rest.push(words.get(i))?;
-        }
+        push_other(&mut rest, words.get(i))?;
     }
     Ok(rest)
 }
@@ -142,6 +157,16 @@ fn choices_of(alloc: Global, words: &Words) -> Result<Option<CodeChoices>, NoMem
     }
 }
 
+// Choices, without hazards where none are wanted.
+fn without_hazards(are_unwanted: bool, mut chosen: CodeChoices) -> CodeChoices
+    ensures { result ≡ spec.without_hazards are_unwanted chosen }
+{
+    if are_unwanted {
+        chosen.hazards = hazards_by(Some(&[]), &[]);
+    }
+    chosen
+}
+
 /// What words choose, or `None` exactly where they are refused.
 ///
 /// The words are those of [`squawk_words::read_choices`] without `--locks` and `--generate`, where a list of rules may name hazards too, and
@@ -153,11 +178,8 @@ pub fn read_code_choices(alloc: Global, words: &Words) -> Result<Option<CodeChoi
         return Ok(None);
     }
     let rest = other_words(alloc, words)?;
-    let Some(mut chosen) = choices_of(alloc, &rest)? else {
-        return Ok(None);
-    };
-    if has_no_hazards(words) {
-        chosen.hazards = HazardSet::empty();
+    match choices_of(alloc, &rest)? {
+        None => Ok(None),
+        Some(chosen) => Ok(Some(without_hazards(has_no_hazards(words), chosen))),
     }
-    Ok(Some(chosen))
 }

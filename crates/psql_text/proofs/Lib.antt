@@ -1,8 +1,6 @@
 pub mod Blanks
-pub mod CommentBytes
 pub mod Going
 pub mod LineEnds
-pub mod LineRuns
 pub mod Once
 pub mod Places
 pub mod Plain

@@ -1,4 +1,3 @@
-pub mod Begins
 pub mod Count
 pub mod Laws
 pub mod Lines

@@ -1,6 +1,6 @@
 //! Bytes of a text, and their classes.
 
-ghost use Rattle.std.specs.Prelude.{◌≡◌, ◌≢◌, ◌<◌, length, slice_index};
+ghost use Rattle.std.specs.Prelude.{◌≡◌, ◌≢◌, ◌<◌, ◌≤◌, length, slice_index, true};
 ghost use Rattle.sql_token.specs.Token as spec;
 
 /// The byte at a place, or 0 past the end.
@@ -19,18 +19,10 @@ pub fn is_blank(b: u8) -> bool
     b == b' ' || (9 <= b && b <= 13)
 }
 
-/// Whether a word goes on over this byte.
-#[inline]
-pub fn is_word(b: u8) -> bool
-    ensures { result ≡ spec.is_word b }
+/// Whether the text begins with the byte order mark of UTF-8.
+pub fn begins_byte_order_mark(z: &[u8]) -> bool
+    ensures value { result ≡ spec.begins_byte_order_mark z.now }
+    ensures within { result ≡ true → 3 ≤ length z.now }
 {
-    b.is_ascii_alphanumeric() || b == b'_' || b == b'$' || 128 <= b
-}
-
-/// Whether a number goes on over this byte, whatever is beside it.
-#[inline]
-pub fn is_in_number(b: u8) -> bool
-    ensures { result ≡ spec.is_in_number b }
-{
-    b.is_ascii_alphanumeric() || b == b'_' || b == b'.'
+    byte(z, 0) == 0xef && byte(z, 1) == 0xbb && byte(z, 2) == 0xbf
 }

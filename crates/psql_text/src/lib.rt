@@ -3,16 +3,11 @@
 
 mod blank;
 mod class;
-mod comment;
-mod dollar;
 pub mod laws;
 mod lines;
 mod mark;
-mod op;
 mod part;
-mod quote;
 mod reading;
-mod scan;
 mod statement;
 
 pub use blank::{Blanked, without_psql};

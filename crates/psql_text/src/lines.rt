@@ -3,8 +3,7 @@
 ghost use Rattle.std.specs.Prelude.{◌≡◌, ◌<◌, ◌≤◌, ℕ, true, false, length};
 ghost use Rattle.psql_text.specs.Lines as spec;
 
-use crate::class::byte;
-use crate::scan::begins_byte_order_mark;
+use crate::class::{begins_byte_order_mark, byte};
 use memchr::memchr;
 
 fn starts_line(text: &[u8], at: usize) -> bool

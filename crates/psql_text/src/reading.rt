@@ -9,8 +9,8 @@ ghost use Rattle.psql_text.specs.declared.mark.Mark.{Mark};
 use crate::lines::{begins_command, data_end, line_end};
 use crate::mark::mark_of;
 use crate::part::{Part, PartKind};
-use crate::scan::token_at;
 use crate::statement::Statement;
+use sql_lex::token_at;
 use sql_token::TokKind;
 
 /// How far a text was read.
