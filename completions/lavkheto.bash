@@ -28,7 +28,7 @@ _lavkheto() {
     fi
     COMPREPLY=()
     if ((COMP_CWORD == 1)); then
-        _lavkheto_words 'check explain server --help --version'
+        _lavkheto_words 'check fix gate explain server --help --version'
         return
     fi
     case $command:$before in
@@ -45,6 +45,12 @@ _lavkheto() {
     check:--pg-major) :; return ;;
     check:--pg-minor) :; return ;;
     check:--pg-patch) :; return ;;
+    gate:--order) _lavkheto_words 'given name'; return ;;
+    gate:--include) _lavkheto_rules; return ;;
+    gate:--non-volatile) :; return ;;
+    gate:--pg-major) :; return ;;
+    gate:--pg-minor) :; return ;;
+    gate:--pg-patch) :; return ;;
     server:--only) _lavkheto_rules; return ;;
     server:--include) _lavkheto_rules; return ;;
     server:--exclude) _lavkheto_rules; return ;;
@@ -54,8 +60,12 @@ _lavkheto() {
     server:--pg-patch) :; return ;;
     esac
     case $command:$cur in
-    check:-*) _lavkheto_words '--format --color --quiet --statistics --stdin-filename --config --fail-on --baseline --write-baseline -- --only --include --exclude --non-volatile --assume-in-transaction --pg-major --pg-minor --pg-patch --help --version' ;;
+    check:-*) _lavkheto_words '--format --color --quiet --statistics --stdin-filename --config --fail-on --baseline --write-baseline --strict -- --only --include --exclude --no-hazards --non-volatile --assume-in-transaction --pg-major --pg-minor --pg-patch --help --version' ;;
     check:*) _lavkheto_files '*.sql' ;;
+    fix:-*) _lavkheto_words '' ;;
+    fix:*) _lavkheto_files '*.sql' ;;
+    gate:-*) _lavkheto_words '--order --works --one-session -- --include --non-volatile --assume-in-transaction --pg-major --pg-minor --pg-patch --help' ;;
+    gate:*) _lavkheto_files '*.sql' ;;
     explain:-*) _lavkheto_words '--help' ;;
     explain:*) _lavkheto_rules ;;
     server:-*) _lavkheto_words '--only --include --exclude --non-volatile --assume-in-transaction --pg-major --pg-minor --pg-patch --help' ;;
@@ -141,5 +151,12 @@ require-table-schema
 identifier-too-long
 ban-duplicate-column-assignments
 require-timeout-settings
+statement-in-transaction
+table-rewrite
+column-with-check
+build-under-timeout
+invalid-index-kept
+refresh-blocks-reads
+json-column
 '
 complete -F _lavkheto lavkheto

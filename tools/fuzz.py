@@ -303,8 +303,8 @@ EDGES = [b"'", b'"', b"$", b"-", b"/", b"*", b";", b"(", b")", b"[", b"]", b"\\"
 
 
 def rule_names():
-    """The rules of the tables of docs/RULES.md that can be named, and those among them that are off by default."""
-    found = re.findall(r"^\| \[`([a-z-]+)`\]\(#[a-z-]+\) \| (on|off) \|", (TOP / "docs" / "RULES.md").read_text("utf-8"), re.M)
+    """The rules of the tables of docs/RULES.md that can be named, and those among them that are off by default. Hazards have no fix."""
+    found = re.findall(r"^\| \[`([a-z-]+)`\]\(#[a-z-]+\) \| (on|off) \|.*\|.*\|$", (TOP / "docs" / "RULES.md").read_text("utf-8"), re.M)
     rules = [name for name, _ in found if name != "unused-ignore"]
     return rules, [name for name, default in found if default == "off"]
 

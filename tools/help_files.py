@@ -10,7 +10,8 @@ command that it names. The rules' names are those of docs/RULES.md. What the man
 What a help text must look like: usage lines `lavkheto COMMAND [OPTIONS] [FILES]..`, the first one after `Usage: `; or, under a line
 `Commands:`, a line for each command. Each option has a line `  --option VALUE   what it means`, indented by two blanks, and more lines
 indented by more. An option whose text has `(default)` takes one of the values that its text names; RULES are names of rules, a FILE is a
-file. A paragraph that begins with `Status: ` says the statuses, the lines under `Examples:` are commands; all others are prose.
+file. A VALUE in small letters is itself the value, and the option has a line for each. A paragraph that begins with `Status: ` says the
+statuses, the lines under `Examples:` are commands; all others are prose.
 """
 import pathlib
 import re
@@ -25,13 +26,16 @@ WRITTEN = 'Written by tools/help_files.py from the help texts; an edit here is l
 
 @dataclass
 class Option:
-    """An option: its names, the name of its value where it has one, and what it means."""
+    """An option: its names, the name of its value where it has one, what it means, and the values that its lines name."""
     names: list
     value: str
     text: str
+    values: list = field(default_factory=list)
 
     def choices(self):
-        """The values that its text names, or none where it takes others."""
+        """The values that its lines or its text name, or none where it takes others."""
+        if self.values:
+            return self.values
         if '(default)' not in self.text:
             return []
         parts = self.text.split('; ' if '; ' in self.text else ', ')
@@ -48,6 +52,16 @@ class Help:
     options: list = field(default_factory=list)
     status: str = ''
     examples: list = field(default_factory=list)
+
+    def completed(self):
+        """The options, each once: one that has a line for each of its values has these values, and what all lines say."""
+        found = {}
+        for one in self.options:
+            before = found.get(one.names[0])
+            text = f'{before.text}; {one.text}' if before else one.text
+            values = (before.values if before else []) + [one.value] * one.value.islower()
+            found[one.names[0]] = Option(one.names, one.value, text, values)
+        return list(found.values())
 
 
 def option(head, text):
@@ -171,8 +185,8 @@ def bash(whole, own):
     """The completion for bash."""
     values, rest = [], []
     for command, one in own.items():
-        values += bash_values(command, one.options)
-        rest += bash_command(command, one.options, places(command, whole, one))
+        values += bash_values(command, one.completed())
+        rest += bash_command(command, one.completed(), places(command, whole, one))
     first = ' '.join([*own, '--help', '--version'])
     return (TOP / 'completions/bash.in').read_text().replace('@WRITTEN@', WRITTEN).replace('@RULES@', '\n'.join(rules())) \
         .replace('@FIRST@', first).replace('@VALUES@', '\n'.join(values)).replace('@REST@', '\n'.join(rest))
@@ -202,7 +216,7 @@ def zsh_command(command, options, takes):
 
 def zsh(whole, own):
     """The completion for zsh."""
-    cases = [line for command, one in own.items() for line in zsh_command(command, one.options, places(command, whole, one))]
+    cases = [line for command, one in own.items() for line in zsh_command(command, one.completed(), places(command, whole, one))]
     first = [f"'{command}:{zsh_quoted(whole.commands[command])}'" for command in own] + ["'--help:the help'", "'--version:the version'"]
     return (TOP / 'completions/zsh.in').read_text().replace('@WRITTEN@', WRITTEN).replace('@RULES@', '\n'.join(rules())) \
         .replace('@FIRST@', ' '.join(first)).replace('@CASES@', '\n'.join(cases))
@@ -236,7 +250,7 @@ def fish(whole, own):
         takes = places(command, whole, one)
         given = "'(__fish_complete_suffix .sql)'" if takes & {'FILE', 'FILES'} else f'"$__{NAME}_rules"' if takes & {'RULE', 'RULES'} else ''
         lines += [f"complete -c {NAME} -n '__fish_seen_subcommand_from {command}' -k -a {given}"] * bool(given)
-        lines += [line for it in one.options for line in fish_option(command, it)]
+        lines += [line for it in one.completed() for line in fish_option(command, it)]
     return '\n'.join(lines) + '\n'
 
 

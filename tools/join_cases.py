@@ -7,12 +7,12 @@
 
 The files are joined in the order of their paths, each under a line `// cases/PATH`. Those of `cases/pending` are left out:
 they are of words and programs that are not built yet. The examples of README.md and docs/RULES.md follow as cases of their own: a
-block that begins with `$ echo 'TEXT' | ./squawk WORDS` or `$ printf 'TEXT' | ./squawk WORDS` is what the program prints. In docs/RULES.md
-there are two kinds more:
+block that begins with `$ echo 'TEXT' | ./squawk WORDS` or `$ printf 'TEXT' | ./squawk WORDS` is what the program prints; so is one with
+`./lavkheto check WORDS` in that place. In docs/RULES.md there are two kinds more:
 
-- of a rule's section, each SQL text under *Write*: neither the rules that are on nor the rule itself report anything of it. The script
-  refuses the page where the SQL under *Instead of* is not the text of an example of the section, or where the rule's row in the tables at
-  the head of the page is not what the section says;
+- of the section of a rule or a hazard, each SQL text under *Write*: neither the rules that are on nor the rule itself report anything of
+  it; of a hazard's section, no hazard either. The script refuses the page where the SQL under *Instead of* is not the text of an example of
+  the section, or where the row in the tables at the head of the page is not what the section says;
 - each statement of the table of what a clean answer does not see: no rule that is on reports it, but for those that ask for a transaction
   or for timeouts.
 
@@ -30,6 +30,9 @@ RULES = 'docs/RULES.md'
 PAGES = ['README.md', RULES]
 RUNNER = TOP / 'crates' / 'case_runner'
 
+# The line that says that nothing is found.
+NOTHING = {'squawk': 'violations: 0', 'lavkheto': 'Found 0 issues in 1 file'}
+
 # The first line of a rule's section: whether it is on, its fix, its lock.
 HEAD = re.compile(r'\*\*(On|Off)\*\* · (?:no fix|fix: ([a-z ]+?)(?: \(.*?\))?) · lock: (.*?)(?: · manual: .*)?$')
 
@@ -42,10 +45,10 @@ def sources():
 def example(page, number, block):
     """The lines of a case: the example that begins on this line of a page."""
     command, *printed = block
-    before, _, words = command[2:].partition('| ./squawk')
+    before, program, words = re.split(r'\| \./(squawk|lavkheto)', command[2:], maxsplit=1)
     kind, *parts = shlex.split(before)
     text = parts[-1].replace('\\n', '\n') if kind == 'printf' else parts[-1] + '\n'
-    status = 0 if printed[-1] == 'violations: 0' else 1
+    status = 0 if printed[-1] == NOTHING[program] else 1
     lines = [f'# an example of {page}'] + [f'$ {words.strip()}'] * bool(words.strip())
     lines += text.split('\n') + ['---'] + printed + [f'status {status}', '']
     return [(line, page, number) for line in lines]
@@ -60,34 +63,43 @@ def examples(page):
     return lines
 
 
-def clean(page, number, words, sql):
+def clean(page, number, program, words, sql):
     """The lines of a case: a text of which nothing is reported."""
-    lines = [f'# what to write, of {page}'] + [f'$ {words}'] * bool(words) + sql.split('\n') + ['---', 'violations: 0', 'status 0', '']
+    lines = [f'# what to write, of {page}'] + [f'$ {words}'] * bool(words) + sql.split('\n') + ['---', NOTHING[program], 'status 0', '']
     return [(line, page, number) for line in lines]
 
 
-def row_of(rule, head):
-    """The row of a rule in the tables at the head of the page, by the first line of its section."""
+def row_of(program, name, head):
+    """The row of a rule or a hazard in the tables at the head of the page, by the first line of its section."""
     default, fix, lock = HEAD.match(head).groups()
-    return f'| [`{rule}`](#{rule}) | {default.lower()} | {fix or "none"} | {lock} |'
+    told = f' {fix or "none"} |' if program == 'squawk' else ''
+    return f'| [`{name}`](#{name}) | {default.lower()} |{told} {lock} |'
+
+
+def words_for(program, name, default, shown):
+    """The words under which nothing may be reported of what a section says to write."""
+    if program == 'lavkheto':
+        return ['check']
+    return [f'--include {name}'] * (default == 'Off') + re.findall(r'--pg-major \d+', shown)
 
 
 def written(page):
-    """The texts of a page's rules under *Write*, as cases."""
+    """The texts of a page's rules and hazards under *Write*, as cases."""
     text = (TOP / page).read_text(encoding='utf-8')
     lines = []
     for part in re.finditer(r'^### `([a-z-]+)`\n\n\*\*(On|Off)\*\*.*?(?=^##|\Z)', text, re.M | re.S):
-        shown = re.findall(r"^\$ (?:echo|printf(?: --)?) (?:'([^']*)'|\"([^\"]*)\") \| \./squawk(.*)$", part[0], re.M)
+        shown = re.findall(r"^\$ (?:echo|printf(?: --)?) (?:'([^']*)'|\"([^\"]*)\") \| \./(squawk|lavkheto)(.*)$", part[0], re.M)
         bad = re.search(r'^\*\*Instead of\*\*\n\n```sql\n(.*?)\n```', part[0], re.M | re.S)
-        if bad is None or bad[1] not in [(one or other).replace('\\n', '\n').rstrip('\n') for one, other, _ in shown]:
+        if bad is None or bad[1] not in [(one or other).replace('\\n', '\n').rstrip('\n') for one, other, *_ in shown]:
             sys.exit(f'{page}: {part[1]}: its bad example is the text of no run in its details')
-        if row_of(part[1], part[0].split('\n')[2]) not in text:
+        program = shown[0][2]
+        if row_of(program, part[1], part[0].split('\n')[2]) not in text:
             sys.exit(f'{page}: {part[1]}: its row at the head of the page is not what the section says')
-        words = [f'--include {part[1]}'] * (part[2] == 'Off') + re.findall(r'--pg-major \d+', shown[0][2])
+        words = words_for(program, part[1], part[2], shown[0][3])
         write, details = part[0].index('\n**Write**'), part[0].index('\n**Details**')
         for found in re.finditer(r'^```sql\n(.*?)\n```$', part[0][write:details], re.M | re.S):
             number = text.count('\n', 0, part.start() + write + found.start()) + 2
-            lines += clean(page, number, ' '.join(words), found[1])
+            lines += clean(page, number, program, ' '.join(words), found[1])
     return lines
 
 

@@ -1,12 +1,12 @@
 #!/usr/bin/env python3
-"""Writes crates/rule_pages: what docs/RULES.md says of each rule, as plain text of 79 columns that `lavkheto explain` prints.
+"""Writes crates/rule_pages: what docs/RULES.md says of each rule and each hazard, as plain text of 79 columns that `lavkheto explain` prints.
 
     tools/rule_pages.py            writes the sources
     tools/rule_pages.py --check    says whether the sources are those of the page; the exit status is 1 where they are not
 
 A rule's page is its section without Markdown's signs. What it calls "above", the first paragraph of its group, stands before it.
 SQL and other code is indented, and never wrapped; a row of a table is an item of a list. Of a link to another page of docs/ the page's name is kept.
-The list of all rules is the tables at the head of docs/RULES.md.
+The list of all rules and hazards is the tables at the head of docs/RULES.md.
 """
 import argparse
 import re
@@ -31,6 +31,12 @@ def rules():
     names = re.findall(r'\(\s*"([^"]+)"', re.search(r"^static FACTS\b.*?^\];", text, re.M | re.S)[0])
     assert len(variants) == len(names)
     return list(zip(variants, names))
+
+
+def hazards():
+    """The hazards' names as variants of `Hazard`, and as printed, in declaration order."""
+    text = (TOP / "crates/hazard_base/src/hazard.rt").read_text()
+    return re.findall(r'^            Hazard::(\w+) => "([a-z-]+)",$', text, re.M)
 
 
 def plain(text):
@@ -114,20 +120,23 @@ def alias_page(lines):
 
 
 def list_row(row):
-    name, default, fix, lock = (plain(cell) for cell in row.strip("|").split("|"))
+    """The line of a row of a table; hazards have no fix."""
+    name, default, *fix, lock = (plain(cell) for cell in row.strip("|").split("|"))
+    fix = fix[0] if fix else "none"
     return f"{name.strip('`'):<46}{default:<9}{fix:<16}{lock}"
 
 
 def all_rules():
-    """The list of all rules: the tables at the head of the page."""
+    """The list of all rules and hazards: the tables at the head of the page."""
     shown = [f"{'Rule':<46}{'Default':<9}{'Fix':<16}Lock"]
     for lines in blocks(parts()[0][1]):
         if lines[0].startswith("**["):
             shown += ["", plain(lines[0])]
-        elif lines[0].startswith("| Rule"):
+        elif lines[0].startswith(("| Rule", "| Hazard")):
             shown += [list_row(row) for row in lines[2:]]
-    alias = "of `require-lock-timeout` and `require-statement-timeout`"
-    return "\n".join([*shown, "", f"{ALIAS:<46}{'alias':<9}{alias}"]) + "\n"
+        elif lines[0].startswith(f"One rule more, `{ALIAS}`"):
+            shown += ["", f"{ALIAS:<46}{'alias':<9}of `require-lock-timeout` and `require-statement-timeout`"]
+    return "\n".join(shown) + "\n"
 
 
 def constant(name):
@@ -148,7 +157,7 @@ def modules():
             text = page(name, head, section)
             if lines + text.count("\n") > MOST_LINES:
                 module = title.lower().replace(" ", "_") + ("_more" if lines != MOST_LINES else "")
-                found.append((module, f"The rules of the group \"{title}\"", {}))
+                found.append((module, "The hazards" if title == "Hazards" else f"The rules of the group \"{title}\"", {}))
                 lines = 0
             found[-1][2][name] = text
             lines += text.count("\n")
@@ -169,26 +178,31 @@ def module_source(about, pages):
 
 
 def list_source():
-    told = "/// All rules by group, a line each: whether it is on by default, its fix and its lock."
-    return f"//! All rules. {WRITTEN}\n\n{told}\n" + declared("pub const RULE_LIST: &str =", all_rules()) + "\n"
+    told = "/// All rules by group, and then all hazards, a line each: whether it is on by default, its fix and its lock."
+    return f"//! All rules and hazards. {WRITTEN}\n\n{told}\n" + declared("pub const RULE_LIST: &str =", all_rules()) + "\n"
 
 
-def arm(variant, place):
-    """An arm of the function, as `rt fmt` lays it out."""
-    line = f"        Rule::{variant} => {place},"
-    return line if len(line) <= 100 else f"        Rule::{variant} => {{\n            {place}\n        }}"
+def arm(kind, variant, place):
+    """An arm of a function, as `rt fmt` lays it out."""
+    line = f"        {kind}::{variant} => {place},"
+    return line if len(line) <= 100 else f"        {kind}::{variant} => {{\n            {place}\n        }}"
 
 
-def function_source(places, names):
+def arms(kind, places, names):
+    return "\n".join(arm(kind, variant, "::".join(places[name])) for variant, name in names)
+
+
+def functions_source(places):
     modules = ", ".join(sorted({module for module, _ in places.values()})) + ","
     uses = "\n".join(["use crate::{", *textwrap.wrap(modules, 100, initial_indent="    ", subsequent_indent="    "), "};"])
-    arms = "\n".join(arm(variant, "::".join(places[name])) for variant, name in names)
-    return f"""//! The page of a rule. {WRITTEN}
+    return f"""//! The pages of rules and hazards. {WRITTEN}
 ghost use Rattle.std.specs.Prelude.{{◌≡◌}};
-ghost use Rattle.rule_pages.specs.Pages.{{page_of}};
+ghost use Rattle.rule_pages.specs.Pages.{{code_page_of, hazard_page_of, page_of}};
 
 {uses}
+use hazard_base::Hazard;
 use lint_base::Rule;
+use lint_report::Code;
 
 /// What docs/RULES.md says of a rule: plain text of lines that end with a line feed, of 79 columns but for code and addresses.
 #[tactic(auto, unfolding(crate::specs::Pages::page_of))]
@@ -196,39 +210,75 @@ pub fn rule_page(rule: Rule) -> &'static str
     ensures {{ result.now ≡ page_of rule }}
 {{
     match rule {{
-{arms}
+{arms("Rule", places, rules())}
+    }}
+}}
+
+// The same of a hazard.
+#[tactic(auto, unfolding(crate::specs::Pages::hazard_page_of))]
+fn hazard_page(hazard: Hazard) -> &'static str
+    ensures {{ result.now ≡ hazard_page_of hazard }}
+{{
+    match hazard {{
+{arms("Hazard", places, hazards())}
+    }}
+}}
+
+/// What docs/RULES.md says of a rule or a hazard, as [`rule_page`] has it.
+pub fn code_page(code: Code) -> &'static str
+    ensures {{ result.now ≡ code_page_of code }}
+{{
+    match code {{
+        Code::Rule(rule) => rule_page(rule),
+        Code::Hazard(hazard) => hazard_page(hazard),
     }}
 }}
 """
 
 
-def specs_source(places, names):
+def rows(function, kind, places, names):
+    return "\n".join(f"{function} {kind}.{variant} = {places[name][1]}.now" for variant, name in names)
+
+
+def specs_source(places):
     uses = {}
-    for _, name in names:
+    for _, name in rules() + hazards():
         uses.setdefault(places[name][0], []).append(places[name][1])
     lines = "\n".join(f"use Rattle.rule_pages.specs.declared.{module}.TheConstants.{{{', '.join(found)}}}" for module, found in uses.items())
-    rows = "\n".join(f"page_of rule.{variant} = {places[name][1]}.now" for variant, name in names)
-    return f"""-- The page of each rule. {WRITTEN}
+    return f"""-- The page of each rule and each hazard. {WRITTEN}
 use Rattle.std.specs.Prelude.{{ℕ, List}}
+use Rattle.hazard_base.specs.declared.hazard.Hazard.{{Hazard}}
+use Rattle.hazard_base.specs.declared.hazard.Hazard.TheVariants as hazard
 use Rattle.lint_base.specs.declared.rule.Rule.{{Rule}}
 use Rattle.lint_base.specs.declared.rule.Rule.TheVariants as rule
+use Rattle.lint_report.specs.declared.code.Code.{{Code}}
+use Rattle.lint_report.specs.declared.code.Code.TheVariants as code
 {lines}
 
 -- what docs/RULES.md says of a rule
 unfoldable pub page_of : Rule → List ℕ
-{rows}
+{rows("page_of", "rule", places, rules())}
+
+-- what it says of a hazard
+unfoldable pub hazard_page_of : Hazard → List ℕ
+{rows("hazard_page_of", "hazard", places, hazards())}
+
+-- what it says of either
+abbrev pub code_page_of : Code → List ℕ
+code_page_of (code.Rule rule) = page_of rule
+code_page_of (code.Hazard hazard) = hazard_page_of hazard
 """
 
 
 def root_source(found):
     mods = "\n".join(f"mod {module};" for module in sorted([*found, "list", "page"]))
-    return f"""//! What docs/RULES.md says of each rule, as plain text. {WRITTEN}
+    return f"""//! What docs/RULES.md says of each rule and each hazard, as plain text. {WRITTEN}
 #![tactic(auto)]
 
 {mods}
 
 pub use list::RULE_LIST;
-pub use page::rule_page;
+pub use page::{{code_page, rule_page}};
 """
 
 
@@ -236,14 +286,14 @@ def sources():
     """The files of the crate, by their paths in it."""
     found = modules()
     places = {name: (module, constant(name)) for module, _, pages in found for name in pages}
-    names = rules()
-    if set(places) != {name for _, name in names}:
-        sys.exit(f"not the same rules: {set(places) ^ {name for _, name in names}}")
+    names = {name for _, name in rules() + hazards()}
+    if set(places) != names:
+        sys.exit(f"not the same rules and hazards: {set(places) ^ names}")
     files = {f"src/{module}.rt": module_source(about, pages) for module, about, pages in found}
     files["src/list.rt"] = list_source()
-    files["src/page.rt"] = function_source(places, names)
+    files["src/page.rt"] = functions_source(places)
     files["src/lib.rt"] = root_source([module for module, _, _ in found])
-    files["specs/Pages.antt"] = specs_source(places, names)
+    files["specs/Pages.antt"] = specs_source(places)
     files["specs/Lib.antt"] = "pub mod Pages\n"
     return files
 

@@ -1,9 +1,9 @@
 -- What the table of a configuration says, or why it is refused.
-use Rattle.std.specs.Prelude.{◌≡◌, ◌==◌, ℕ, ◌&&◌, ◌||◌, Bool, false, not, if◌then◌else◌, List, [], ◌∷◌, Option, Some, None, Result, Ok, Err, codes, find, is_some, length, nat_le, nat_lt, option_and_then, option_map, ⊤}
+use Rattle.std.specs.Prelude.{◌≡◌, ◌==◌, ℕ, ◌&&◌, ◌||◌, Bool, false, if◌then◌else◌, List, [], ◌∷◌, Option, Some, None, Result, Ok, Err, codes, find, is_none, length, nat_le, nat_lt, option_and_then, option_map, ⊤}
 use Rattle.std.specs.Char.{is_ascii_digit}
 use Rattle.std.specs.List.{list_all, slice_split}
 use Rattle.std.specs.Str.{bytes_eq}
-use Rattle.lint_base.specs.RuleNames.{rule_named}
+use Rattle.lint_report.specs.Codes.{code_named}
 use Rattle.squawk_words.specs.Words.{Text}
 use Rattle.toml.specs.Data.{Data, Items, no_items, item, Members, no_members, member, as_array, as_bool, as_str, get_member}
 use Rattle.check_config.specs.declared.config.Config.{Config}
@@ -60,9 +60,9 @@ abbrev pub texts_at : Text → Members → Result (List Text) ConfigFault
 texts_at key table = texts_by key (get_member key table)
 
 abbrev pub is_unknown_rule : Text → Bool
-is_unknown_rule name = not (is_some (rule_named name))
+is_unknown_rule name = is_none (code_named name)
 
--- names of rules, or the fault of the first that is none
+-- names of rules and hazards, or the fault of the first that is none
 abbrev pub known_by : List Text → Option Text → Result (List Text) ConfigFault
 known_by names None = Ok names
 known_by names (Some name) = Err (fault.UnknownRule name)
@@ -70,7 +70,7 @@ known_by names (Some name) = Err (fault.UnknownRule name)
 abbrev pub known_rules : List Text → Result (List Text) ConfigFault
 known_rules names = known_by names (find is_unknown_rule names)
 
--- the names of rules at a key
+-- the names of rules and hazards at a key
 abbrev pub rules_at : Text → Members → Result (List Text) ConfigFault
 rules_at key table = read_then (texts_at key table) known_rules
 

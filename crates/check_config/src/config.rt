@@ -8,9 +8,9 @@ use std::alloc::Global;
 /// What a configuration says.
 #[derive(Debug, Drop)]
 pub struct Config {
-    /// The rules that are left out, by their names.
+    /// The rules and hazards that are left out, by their names.
     pub excluded_rules: Words,
-    /// The rules that are put in, by their names.
+    /// The rules and hazards that are put in, by their names.
     pub included_rules: Words,
     /// Patterns of the paths that are left out, as `path_pattern` reads them.
     pub excluded_paths: Words,

@@ -12,7 +12,7 @@ pub enum ConfigFault {
     NotToml(usize, Text),
     /// There is no such key.
     UnknownKey(Text),
-    /// There is no such rule.
+    /// There is neither such a rule nor such a hazard.
     UnknownRule(Text),
     /// The value of this key is none that it can have.
     BadValue(Text),

@@ -95,7 +95,7 @@ fn not_toml(alloc: Global, error: &Error) -> ConfigError
 /// Reads the text of a configuration: TOML with the keys `excluded_rules`, `included_rules` and `excluded_paths` (lists of texts),
 /// `pg_version` (a text of one to three numbers with dots between them) and `assume_in_transaction` (true or false), none of which must be
 /// there. The first fault is told in this order: the text is not TOML; a key is unknown, the first in order of its bytes; a value of the
-/// keys in the order above is bad, or names an unknown rule.
+/// keys in the order above is bad, or names neither a rule nor a hazard.
 pub fn read_config(alloc: Global, text: &str) -> Result<Config, ConfigError>
     ensures taken { IfOk result (λ config. IsReading text.now (Ok config)) }
     ensures refused { IfErr result (IsRefusedReading text.now) }

@@ -1,32 +1,26 @@
-//! Lists of rules.
+//! Lists of rules and hazards.
 ghost use Rattle.std.specs.Prelude.{◌≡◌, IfErr, IfOk, Ok, find, is_some, option_map};
-ghost use Rattle.lint_base.specs.RuleNames.{rule_named};
+ghost use Rattle.lint_report.specs.Codes.{code_named};
 ghost use Rattle.toml.specs.View.{table_view};
 ghost use Rattle.check_config.specs.Config as spec;
 ghost use Rattle.check_config.specs.Readings.{IsRefused};
 
 use crate::fault::{ConfigError, ConfigFault};
 use crate::texts::texts_at;
-use lint_base::{Rule, Text};
+use lint_base::Text;
+use lint_report::code_named;
 use squawk_words::Words;
 use std::alloc::Global;
 use toml::Table;
 
-// Whether a text names a rule.
-fn is_rule(name: &str) -> bool
-    ensures { result ≡ is_some (rule_named name.now) }
-{
-    Rule::try_from(name).ok().is_some()
-}
-
-// Whether a text names no rule.
+// Whether a text names neither a rule nor a hazard.
 fn is_unknown_rule(name: &str) -> bool
     ensures { result ≡ spec.is_unknown_rule name.now }
 {
-    !is_rule(name)
+    code_named(name).is_none()
 }
 
-// The first text that names no rule.
+// The first text that names neither.
 fn unknown_rule(names: &Words) -> Option<&str>
     ensures { option_map (λ name. name.now) result ≡ find spec.is_unknown_rule names.now }
 {
@@ -39,7 +33,7 @@ fn unknown_rule(names: &Words) -> Option<&str>
     None
 }
 
-// The error of a text that names no rule.
+// The error of a text that names neither.
 fn unknown_error(alloc: Global, name: &str) -> ConfigError
     ensures { spec.IsUnknownRule name.now result }
 {
@@ -49,7 +43,7 @@ fn unknown_error(alloc: Global, name: &str) -> ConfigError
     }
 }
 
-// Texts that name rules.
+// Texts that name rules and hazards.
 fn known_rules(alloc: Global, names: Words) -> Result<Words, ConfigError>
     ensures taken { IfOk result (λ rules. spec.known_rules names ≡ Ok rules) }
     ensures refused { IfErr result (IsRefused (spec.known_rules names)) }
@@ -60,7 +54,7 @@ fn known_rules(alloc: Global, names: Words) -> Result<Words, ConfigError>
     }
 }
 
-/// The names of rules at a key, none where the key is not there.
+/// The names of rules and hazards at a key, none where the key is not there.
 pub(crate) fn rules_at(
     alloc: Global,
     table: &Table,

@@ -1,5 +1,5 @@
 -- What the words after the program's name ask for.
-use Rattle.std.specs.Prelude.{◌&&◌, Bool, true, false, List, [], ◌∷◌, Option, Some, None, Result, Ok, Err, codes, drop, slice_get, if◌then◌else◌}
+use Rattle.std.specs.Prelude.{◌&&◌, Bool, false, List, [], ◌∷◌, Option, Some, None, Result, Ok, Err, codes, drop, slice_get, if◌then◌else◌}
 use Rattle.std.specs.Str.{bytes_eq}
 use Rattle.squawk_run.specs.ForeignWords.{has_foreign_word}
 use Rattle.squawk_words.specs.Words.{Text}
@@ -30,6 +30,7 @@ start = record {
     quiet = false;
     statistics = false;
     write_baseline = false;
+    strict = false;
     files = [];
     linter = [];
   };

@@ -1,4 +1,3 @@
 pub mod Names
 pub mod Steps
 pub mod Asked
-pub mod Linter

@@ -1,9 +1,11 @@
 -- The names of options, and of their values.
-use Rattle.std.specs.Prelude.{Option, Some, None, codes, if◌then◌else◌}
+use Rattle.std.specs.Prelude.{Bool, List, Option, Some, None, codes, find, if◌then◌else◌}
 use Rattle.std.specs.Str.{bytes_eq}
 use Rattle.squawk_words.specs.Words.{Text}
 use Rattle.check_words.specs.declared.names.Choice.{Choice}
 use Rattle.check_words.specs.declared.names.Choice.TheVariants as choice
+use Rattle.check_words.specs.declared.names.TheConstants.Choice as choices
+use Rattle.check_words.specs.declared.names.TheConstants.Flag as flags
 use Rattle.check_words.specs.declared.names.Flag.{Flag}
 use Rattle.check_words.specs.declared.names.Flag.TheVariants as flag
 use Rattle.check_words.specs.declared.request.Color.{Color}
@@ -13,35 +15,8 @@ use Rattle.check_words.specs.declared.request.FailOn.TheVariants as fail_on
 use Rattle.check_words.specs.declared.request.Format.{Format}
 use Rattle.check_words.specs.declared.request.Format.TheVariants as format
 
--- the options that take a value, those of `check` itself and those that choose the linter
-abbrev pub choice_named : Text → Option Choice
-choice_named name =
-    if bytes_eq name (codes "format") then Some choice.Format
-    else if bytes_eq name (codes "color") then Some choice.Color
-    else if bytes_eq name (codes "stdin-filename") then Some choice.StdinName
-    else if bytes_eq name (codes "config") then Some choice.Config
-    else if bytes_eq name (codes "baseline") then Some choice.Baseline
-    else if bytes_eq name (codes "fail-on") then Some choice.FailOn
-    else if bytes_eq name (codes "only") then Some choice.Only
-    else if bytes_eq name (codes "include") then Some choice.Include
-    else if bytes_eq name (codes "exclude") then Some choice.Exclude
-    else if bytes_eq name (codes "non-volatile") then Some choice.NonVolatile
-    else if bytes_eq name (codes "pg-major") then Some choice.PgMajor
-    else if bytes_eq name (codes "pg-minor") then Some choice.PgMinor
-    else if bytes_eq name (codes "pg-patch") then Some choice.PgPatch
-    else None
-
--- the options that take none
-abbrev pub flag_named : Text → Option Flag
-flag_named name =
-    if bytes_eq name (codes "quiet") then Some flag.Quiet
-    else if bytes_eq name (codes "statistics") then Some flag.Statistics
-    else if bytes_eq name (codes "write-baseline") then Some flag.WriteBaseline
-    else if bytes_eq name (codes "assume-in-transaction") then Some flag.AssumeInTransaction
-    else None
-
 -- the name of an option
-abbrev pub name_of : Choice → Text
+unfoldable pub name_of : Choice → Text
 name_of choice.Format = codes "format"
 name_of choice.Color = codes "color"
 name_of choice.StdinName = codes "stdin-filename"
@@ -56,11 +31,34 @@ name_of choice.PgMajor = codes "pg-major"
 name_of choice.PgMinor = codes "pg-minor"
 name_of choice.PgPatch = codes "pg-patch"
 
-abbrev pub flag_name : Flag → Text
+unfoldable pub flag_name : Flag → Text
 flag_name flag.Quiet = codes "quiet"
 flag_name flag.Statistics = codes "statistics"
 flag_name flag.WriteBaseline = codes "write-baseline"
+flag_name flag.Strict = codes "strict"
 flag_name flag.AssumeInTransaction = codes "assume-in-transaction"
+flag_name flag.NoHazards = codes "no-hazards"
+
+-- every option that takes a value: those of `check` itself, and those that choose the linter
+unfoldable pub all_choices : List Choice
+all_choices = choices.ALL
+
+-- every option that takes none
+unfoldable pub all_flags : List Flag
+all_flags = flags.ALL
+
+abbrev pub is_choice_named : Text → Choice → Bool
+is_choice_named name c = bytes_eq (name_of c) name
+
+abbrev pub is_flag_named : Text → Flag → Bool
+is_flag_named name f = bytes_eq (flag_name f) name
+
+-- the options of a name
+unfoldable pub choice_named : Text → Option Choice
+choice_named name = find (is_choice_named name) all_choices
+
+unfoldable pub flag_named : Text → Option Flag
+flag_named name = find (is_flag_named name) all_flags
 
 -- the values of `--format`
 abbrev pub format_named : Text → Option Format

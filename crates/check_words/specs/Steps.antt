@@ -1,6 +1,7 @@
 -- What one word adds to what the words before it ask for, or what is wrong with it.
 use Rattle.std.specs.Prelude.{◌==◌, ◌++◌, Bool, true, false, List, [], ◌∷◌, Option, Some, None, Result, Ok, Err, codes, is_none, is_some, if◌then◌else◌}
-use Rattle.lint_base.specs.RuleNames.{rule_named}
+use Rattle.code_choice.specs.Choices.{code_choices_of}
+use Rattle.lint_report.specs.Codes.{code_named}
 use Rattle.squawk_run.specs.ForeignWords.{has_foreign_word}
 use Rattle.squawk_words.specs.Choices.{items_of}
 use Rattle.squawk_words.specs.Words.{Text, after_dashes, begins_with_dash, name_in, value_in}
@@ -9,13 +10,17 @@ use Rattle.check_words.specs.declared.fault.WordFault.TheVariants as fault
 use Rattle.check_words.specs.declared.names.Choice.{Choice}
 use Rattle.check_words.specs.declared.names.Choice.TheVariants as choice
 use Rattle.check_words.specs.declared.names.Flag.{Flag}
-use Rattle.check_words.specs.declared.names.Flag.TheVariants.{Quiet, Statistics, WriteBaseline, AssumeInTransaction}
+use Rattle.check_words.specs.declared.names.Flag.TheVariants.{Quiet, Statistics, WriteBaseline, Strict, AssumeInTransaction, NoHazards}
 use Rattle.check_words.specs.declared.request.Request.{Request}
 use Rattle.check_words.specs.declared.step.Next.{Next}
 use Rattle.check_words.specs.declared.step.Next.TheVariants.{Any, Value, File}
 use Rattle.check_words.specs.declared.step.Reader.{Reader}
-use Rattle.check_words.specs.Linter.{linter_choices}
 use Rattle.check_words.specs.Names.{choice_named, color_named, fail_on_named, flag_named, format_named, name_of}
+
+-- what a word leaves where nothing is wrong with it
+abbrev pub after : {X : Type 0} → Option WordFault → X → Result X WordFault
+after None left = Ok left
+after (Some f) left = Err f
 
 -- ---- what is set of `check` itself
 
@@ -55,10 +60,10 @@ with_linter_word word r = record r { linter = r.linter ++ word ∷ [] }
 abbrev pub is_set : List Text → Request → Bool
 is_set names r = has_foreign_word names r.linter
 
--- the first of these that is the name of no rule
+-- the first of these that names neither a rule nor a hazard
 unfoldable pub first_unknown : List Text → Text
 first_unknown [] = []
-first_unknown (item ∷ items) = if is_none (rule_named item) then item else first_unknown items
+first_unknown (item ∷ items) = if is_none (code_named item) then item else first_unknown items
 
 -- what is wrong with a value that the linter does not take
 abbrev pub value_fault : Choice → Text → WordFault
@@ -75,7 +80,7 @@ set_once false true c value r = Ok (with_linter_word (linter_word c value) r)
 set_once false false c value r = Err (value_fault c value)
 
 unfoldable pub with_linter_option : Choice → Text → Request → Result Request WordFault
-with_linter_option c value r = set_once (is_set (name_of c ∷ []) r) (is_some (linter_choices (linter_word c value ∷ []))) c value r
+with_linter_option c value r = set_once (is_set (name_of c ∷ []) r) (is_some (code_choices_of (linter_word c value ∷ []))) c value r
 
 -- ---- options
 
@@ -89,13 +94,18 @@ set choice.Config value r = Ok (with_config value r)
 set choice.Baseline value r = Ok (with_baseline value r)
 set c value r = with_linter_option c value r
 
+-- a word of the linter that takes no value is there once
+abbrev pub with_linter_flag : Text → Text → Request → Request
+with_linter_flag name word r = if is_set (name ∷ []) r then r else with_linter_word word r
+
 -- a request with an option set that takes no value
 abbrev pub with_flag : Flag → Request → Request
 with_flag Quiet r = record r { quiet = true }
 with_flag Statistics r = record r { statistics = true }
 with_flag WriteBaseline r = record r { write_baseline = true }
-with_flag AssumeInTransaction r =
-    if is_set (codes "assume-in-transaction" ∷ []) r then r else with_linter_word (codes "--assume-in-transaction") r
+with_flag Strict r = record r { strict = true }
+with_flag AssumeInTransaction r = with_linter_flag (codes "assume-in-transaction") (codes "--assume-in-transaction") r
+with_flag NoHazards r = with_linter_flag (codes "no-hazards") (codes "--no-hazards") r
 
 -- a request after which any word may follow
 abbrev pub then_any : Result Request WordFault → Result Reader WordFault
@@ -144,9 +154,12 @@ dashed_word word [] r = Ok (record { next = File; request = r })
 dashed_word word (x ∷ rest) r = option_word word (x ∷ rest) r
 
 -- what does not begin with `--` is a file, which `-` is too, and begins with no `-`
+abbrev pub plain_word : Text → Request → Result Reader WordFault
+plain_word word r = if is_option word then Err (fault.UnknownWord word) else Ok (with_file Any word r)
+
 abbrev pub word_by : Option Text → Text → Request → Result Reader WordFault
 word_by (Some rest) word r = dashed_word word rest r
-word_by None word r = if is_option word then Err (fault.UnknownWord word) else Ok (with_file Any word r)
+word_by None word r = plain_word word r
 
 unfoldable pub any_word : Text → Request → Result Reader WordFault
 any_word word r = word_by (after_dashes word) word r

@@ -18,7 +18,7 @@ pub enum WordFault {
     TakesNoValue(Flag),
     /// The option has no such value.
     UnknownValue(Choice, Text),
-    /// The list has this item, which is the name of no rule.
+    /// The list has this item, which names neither a rule nor a hazard.
     UnknownRule(Choice, Text),
     /// The list has an empty item.
     EmptyName(Choice),

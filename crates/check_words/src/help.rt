@@ -7,7 +7,9 @@ pub const VERSION: &str = "lavkheto 0.1.0\n";
 pub const HELP: &str = "Lints migrations of PostgreSQL. Its answers are theorems.
 
 Usage: lavkheto check [OPTIONS] [FILES]..
-       lavkheto explain [RULE]           what a rule reports, why, its lock, and what to write instead
+       lavkheto fix [FILES]              make the fixes
+       lavkheto gate [FILES]             whether the migrations may be run
+       lavkheto explain [RULE]           what a rule or a hazard reports, why, its lock, and what to write instead
        lavkheto server [OPTIONS]         a language server over standard input and output
 
 FILES are files, and folders for all *.sql files in them. Without FILES, or with - alone, standard input is checked.
@@ -21,11 +23,13 @@ FILES are files, and folders for all *.sql files in them. Without FILES, or with
   --fail-on WHEN           warning (default): status 1 where something is found; never: status 0 there
   --baseline FILE          what is found and is in this baseline counts as not found
   --write-baseline         the baseline that has all that is found is written, in place of the findings
+  --strict                 a line for psql, and the data of COPY, are faults
   --                       the words after it are files
 
-  --only RULES             exactly these rules, with commas between them
-  --include RULES          these rules too
-  --exclude RULES          without these rules
+  --only RULES             exactly these rules and hazards, with commas between them
+  --include RULES          these rules and hazards too
+  --exclude RULES          without these rules and hazards
+  --no-hazards             Squawk's rules alone
   --non-volatile NAMES     functions that count as not volatile
   --assume-in-transaction  the migration runs in a transaction that was begun before it
   --pg-major N             the version of PostgreSQL (default: 15)

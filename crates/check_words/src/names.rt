@@ -1,5 +1,5 @@
 //! The names of options, and of their values.
-ghost use Rattle.std.specs.Prelude.{◌≡◌};
+ghost use Rattle.std.specs.Prelude.{◌≡◌, find};
 ghost use Rattle.check_words.specs.Names as spec;
 
 use crate::request::{Color, FailOn, Format};
@@ -44,12 +44,34 @@ pub enum Flag {
     Statistics,
     /// `--write-baseline`.
     WriteBaseline,
+    /// `--strict`.
+    Strict,
     /// `--assume-in-transaction`.
     AssumeInTransaction,
+    /// `--no-hazards`.
+    NoHazards,
 }
 
 impl Choice {
+    /// Every option that takes a value, in declaration order.
+    pub const ALL: [Choice; 13] = [
+        Choice::Format,
+        Choice::Color,
+        Choice::StdinName,
+        Choice::Config,
+        Choice::Baseline,
+        Choice::FailOn,
+        Choice::Only,
+        Choice::Include,
+        Choice::Exclude,
+        Choice::NonVolatile,
+        Choice::PgMajor,
+        Choice::PgMinor,
+        Choice::PgPatch,
+    ];
+
     /// Its name, without the dashes.
+    #[tactic(auto, unfolding(crate::specs::Names::name_of))]
     pub fn name(self) -> &'static str
         ensures { result.now ≡ spec.name_of self }
     {
@@ -72,7 +94,18 @@ impl Choice {
 }
 
 impl Flag {
+    /// Every option that takes no value, in declaration order.
+    pub const ALL: [Flag; 6] = [
+        Flag::Quiet,
+        Flag::Statistics,
+        Flag::WriteBaseline,
+        Flag::Strict,
+        Flag::AssumeInTransaction,
+        Flag::NoHazards,
+    ];
+
     /// Its name, without the dashes.
+    #[tactic(auto, unfolding(crate::specs::Names::flag_name))]
     pub fn name(self) -> &'static str
         ensures { result.now ≡ spec.flag_name self }
     {
@@ -80,61 +113,51 @@ impl Flag {
             Flag::Quiet => "quiet",
             Flag::Statistics => "statistics",
             Flag::WriteBaseline => "write-baseline",
+            Flag::Strict => "strict",
             Flag::AssumeInTransaction => "assume-in-transaction",
+            Flag::NoHazards => "no-hazards",
         }
     }
 }
 
+// The first option of a list that has this name.
+fn first_choice(name: &str, choices: &[Choice]) -> Option<Choice>
+    ensures { result ≡ find (spec.is_choice_named name.now) choices.now }
+{
+    for choice in choices {
+        if choice.name() == name {
+            return Some(*choice);
+        }
+    }
+    None
+}
+
 /// The option with a value of a name.
+#[tactic(auto, unfolding(crate::specs::Names::all_choices, crate::specs::Names::choice_named))]
 pub(crate) fn choice_named(name: &str) -> Option<Choice>
     ensures { result ≡ spec.choice_named name.now }
 {
-    if name == "format" {
-        Some(Choice::Format)
-    } else if name == "color" {
-        Some(Choice::Color)
-    } else if name == "stdin-filename" {
-        Some(Choice::StdinName)
-    } else if name == "config" {
-        Some(Choice::Config)
-    } else if name == "baseline" {
-        Some(Choice::Baseline)
-    } else if name == "fail-on" {
-        Some(Choice::FailOn)
-    } else if name == "only" {
-        Some(Choice::Only)
-    } else if name == "include" {
-        Some(Choice::Include)
-    } else if name == "exclude" {
-        Some(Choice::Exclude)
-    } else if name == "non-volatile" {
-        Some(Choice::NonVolatile)
-    } else if name == "pg-major" {
-        Some(Choice::PgMajor)
-    } else if name == "pg-minor" {
-        Some(Choice::PgMinor)
-    } else if name == "pg-patch" {
-        Some(Choice::PgPatch)
-    } else {
-        None
+    first_choice(name, &Choice::ALL)
+}
+
+// The first option of a list that has this name.
+fn first_flag(name: &str, flags: &[Flag]) -> Option<Flag>
+    ensures { result ≡ find (spec.is_flag_named name.now) flags.now }
+{
+    for flag in flags {
+        if flag.name() == name {
+            return Some(*flag);
+        }
     }
+    None
 }
 
 /// The option without a value of a name.
+#[tactic(auto, unfolding(crate::specs::Names::all_flags, crate::specs::Names::flag_named))]
 pub(crate) fn flag_named(name: &str) -> Option<Flag>
     ensures { result ≡ spec.flag_named name.now }
 {
-    if name == "quiet" {
-        Some(Flag::Quiet)
-    } else if name == "statistics" {
-        Some(Flag::Statistics)
-    } else if name == "write-baseline" {
-        Some(Flag::WriteBaseline)
-    } else if name == "assume-in-transaction" {
-        Some(Flag::AssumeInTransaction)
-    } else {
-        None
-    }
+    first_flag(name, &Flag::ALL)
 }
 
 /// The format of a name.

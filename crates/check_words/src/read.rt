@@ -27,6 +27,7 @@ fn start(alloc: Global) -> Reader
             quiet: false,
             statistics: false,
             write_baseline: false,
+            strict: false,
             files: Words::new(alloc),
             linter: Words::new(alloc),
         },
@@ -73,9 +74,8 @@ pub(crate) fn read_request(
 {
     let mut reader = start(alloc);
     for i in 1..words.len() {
-        match step(alloc, reader, words.get(i))? {
-            Ok(next) => reader = next,
-            Err(fault) => return Ok(Err(fault)),
+        if let Some(fault) = step(alloc, &mut reader, words.get(i))? {
+            return Ok(Err(fault));
         }
     }
     Ok(ended(reader))

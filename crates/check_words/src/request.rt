@@ -63,8 +63,10 @@ pub struct Request {
     pub statistics: bool,
     /// Whether a baseline is written in place of the findings.
     pub write_baseline: bool,
+    /// Whether a line for psql, and the data of COPY, are read as SQL too.
+    pub strict: bool,
     /// The files and folders, in order.
     pub files: Words,
-    /// The words that choose the linter, as `squawk_words` reads them, each value after `=`.
+    /// The words that choose the linter, as `code_choice` reads them, each value after `=`.
     pub linter: Words,
 }

@@ -1,14 +1,13 @@
 //! What options set.
-ghost use Rattle.std.specs.Prelude.{◌≡◌, ◌∷◌, [], IfOk, is_some, string_bytes};
-ghost use Rattle.check_words.specs.Linter.{linter_choices};
-ghost use Rattle.check_words.specs.Names.{name_of};
+ghost use Rattle.std.specs.Prelude.{◌≡◌, ◌∷◌, [], IfOk, Ok, OnOk, is_some, string_bytes};
+ghost use Rattle.code_choice.specs.Choices.{code_choices_of};
 ghost use Rattle.check_words.specs.Steps as spec;
 
 use crate::fault::WordFault;
-use crate::linter::linter_choices;
+use crate::lists::first_unknown;
 use crate::names::{Choice, Flag, color_named, fail_on_named, format_named};
 use crate::request::Request;
-use crate::rules::first_unknown;
+use code_choice::read_code_choices;
 use lint_base::Text;
 use squawk_run::has_foreign_word;
 use squawk_words::Words;
@@ -29,82 +28,91 @@ fn unknown_value(alloc: Global, choice: Choice, value: &str) -> Result<WordFault
     Ok(WordFault::UnknownValue(choice, copied(alloc, value)?))
 }
 
-// A request with a format, where there is one of this name.
-fn with_format(
+// Sets the format, where there is one of this name.
+fn set_format(
     alloc: Global,
-    mut request: Request,
+    request: &mut Request,
     value: &str,
-) -> Result<Result<Request, WordFault>, NoMemory>
-    ensures { IfOk result (λ r. r ≡ spec.with_format value.now request) }
+) -> Result<Option<WordFault>, NoMemory>
+    ensures { IfOk result (λ fault. spec.after fault request.new ≡ spec.with_format value.now request.old) }
 {
     match format_named(value) {
         Some(format) => {
             request.format = format;
-            Ok(Ok(request))
+            Ok(None)
         }
-        None => Ok(Err(unknown_value(alloc, Choice::Format, value)?)),
+        None => Ok(Some(unknown_value(alloc, Choice::Format, value)?)),
     }
 }
 
-// A request with a use of colours, where there is one of this name.
-fn with_color(
+// Sets the use of colours, where there is one of this name.
+fn set_color(
     alloc: Global,
-    mut request: Request,
+    request: &mut Request,
     value: &str,
-) -> Result<Result<Request, WordFault>, NoMemory>
-    ensures { IfOk result (λ r. r ≡ spec.with_color value.now request) }
+) -> Result<Option<WordFault>, NoMemory>
+    ensures { IfOk result (λ fault. spec.after fault request.new ≡ spec.with_color value.now request.old) }
 {
     match color_named(value) {
         Some(color) => {
             request.color = color;
-            Ok(Ok(request))
+            Ok(None)
         }
-        None => Ok(Err(unknown_value(alloc, Choice::Color, value)?)),
+        None => Ok(Some(unknown_value(alloc, Choice::Color, value)?)),
     }
 }
 
-// A request with reports that make the run fail, where these have this name.
-fn with_fail_on(
+// Sets the reports that make the run fail, where these have this name.
+fn set_fail_on(
     alloc: Global,
-    mut request: Request,
+    request: &mut Request,
     value: &str,
-) -> Result<Result<Request, WordFault>, NoMemory>
-    ensures { IfOk result (λ r. r ≡ spec.with_fail_on value.now request) }
+) -> Result<Option<WordFault>, NoMemory>
+    ensures { IfOk result (λ fault. spec.after fault request.new ≡ spec.with_fail_on value.now request.old) }
 {
     match fail_on_named(value) {
         Some(fail_on) => {
             request.fail_on = fail_on;
-            Ok(Ok(request))
+            Ok(None)
         }
-        None => Ok(Err(unknown_value(alloc, Choice::FailOn, value)?)),
+        None => Ok(Some(unknown_value(alloc, Choice::FailOn, value)?)),
     }
 }
 
-// A request with a name of standard input.
-fn with_stdin_name(alloc: Global, mut request: Request, value: &str) -> Result<Request, AllocError>
-    ensures { IfOk result (λ r. r ≡ spec.with_stdin_name value.now request) }
+// Sets the name of standard input.
+fn set_stdin_name(
+    alloc: Global,
+    request: &mut Request,
+    value: &str,
+) -> Result<Option<WordFault>, NoMemory>
+    ensures { IfOk result (λ fault. spec.after fault request.new ≡ Ok (spec.with_stdin_name value.now request.old)) }
 {
-    let name = copied(alloc, value)?;
-    request.stdin_name = name;
-    Ok(request)
+    request.stdin_name = copied(alloc, value)?;
+    Ok(None)
 }
 
-// A request with a configuration file.
-fn with_config(alloc: Global, mut request: Request, value: &str) -> Result<Request, AllocError>
-    ensures { IfOk result (λ r. r ≡ spec.with_config value.now request) }
+// Sets the configuration file.
+fn set_config(
+    alloc: Global,
+    request: &mut Request,
+    value: &str,
+) -> Result<Option<WordFault>, NoMemory>
+    ensures { IfOk result (λ fault. spec.after fault request.new ≡ Ok (spec.with_config value.now request.old)) }
 {
-    let name = copied(alloc, value)?;
-    request.config = Some(name);
-    Ok(request)
+    request.config = Some(copied(alloc, value)?);
+    Ok(None)
 }
 
-// A request with a baseline.
-fn with_baseline(alloc: Global, mut request: Request, value: &str) -> Result<Request, AllocError>
-    ensures { IfOk result (λ r. r ≡ spec.with_baseline value.now request) }
+// Sets the baseline.
+fn set_baseline(
+    alloc: Global,
+    request: &mut Request,
+    value: &str,
+) -> Result<Option<WordFault>, NoMemory>
+    ensures { IfOk result (λ fault. spec.after fault request.new ≡ Ok (spec.with_baseline value.now request.old)) }
 {
-    let name = copied(alloc, value)?;
-    request.baseline = Some(name);
-    Ok(request)
+    request.baseline = Some(copied(alloc, value)?);
+    Ok(None)
 }
 
 // The word of the linter that sets an option.
@@ -120,11 +128,11 @@ fn linter_word(alloc: Global, choice: Choice, value: &str) -> Result<String, NoM
 
 // Whether the linter takes a word alone.
 fn is_taken(alloc: Global, word: &str) -> Result<bool, NoMemory>
-    ensures { IfOk result (λ taken. taken ≡ is_some (linter_choices (word.now ∷ []))) }
+    ensures { IfOk result (λ taken. taken ≡ is_some (code_choices_of (word.now ∷ []))) }
 {
     let mut words = Words::new(alloc);
     words.push(word)?;
-    let choices = linter_choices(alloc, &words)?;
+    let choices = read_code_choices(alloc, &words)?;
     Ok(choices.is_some())
 }
 
@@ -141,68 +149,79 @@ fn value_fault(alloc: Global, choice: Choice, value: &str) -> Result<WordFault, 
     }
 }
 
-// A request with one word more for the linter.
-fn with_linter_word(mut request: Request, word: &str) -> Result<Request, NoMemory>
-    ensures { IfOk result (λ r. r ≡ spec.with_linter_word word.now request) }
+// Adds a word for the linter.
+fn push_linter(request: &mut Request, word: &str) -> Result<(), NoMemory>
+    ensures { OnOk result (request.new ≡ spec.with_linter_word word.now request.old) }
 {
-    request.linter.push(word)?;
-    Ok(request)
+    request.linter.push(word)
 }
 
-// A request with an option for the linter, which is set once, and to a value that the linter takes.
+// Sets an option for the linter, which is set once, and to a value that the linter takes.
 #[tactic(auto, unfolding(crate::specs::Steps::with_linter_option))]
-fn with_linter_option(
+fn set_linter_option(
     alloc: Global,
     choice: Choice,
     value: &str,
-    request: Request,
-) -> Result<Result<Request, WordFault>, NoMemory>
-    ensures { IfOk result (λ r. r ≡ spec.with_linter_option choice value.now request) }
+    request: &mut Request,
+) -> Result<Option<WordFault>, NoMemory>
+    ensures { IfOk result (λ fault. spec.after fault request.new ≡ spec.with_linter_option choice value.now request.old) }
 {
     if has_foreign_word(&request.linter, &[choice.name()]) {
-        return Ok(Err(WordFault::Twice(choice)));
+        return Ok(Some(WordFault::Twice(choice)));
     }
     let word = linter_word(alloc, choice, value)?;
     if is_taken(alloc, word.as_str())? {
-        return Ok(Ok(with_linter_word(request, word.as_str())?));
+        push_linter(request, word.as_str())?;
+        return Ok(None);
     }
-    Ok(Err(value_fault(alloc, choice, value)?))
+    Ok(Some(value_fault(alloc, choice, value)?))
 }
 
-/// A request with an option set that takes no value. The error comes when memory runs out.
-pub(crate) fn with_flag(mut request: Request, flag: Flag) -> Result<Request, NoMemory>
-    ensures { IfOk result (λ r. r ≡ spec.with_flag flag request) }
+// Adds a word for the linter that takes no value, where it is not there.
+fn set_linter_flag(request: &mut Request, name: &str, word: &str) -> Result<(), NoMemory>
+    ensures { OnOk result (request.new ≡ spec.with_linter_flag name.now word.now request.old) }
+{
+    if has_foreign_word(&request.linter, &[name]) {
+        return Ok(());
+    }
+    push_linter(request, word)
+}
+
+/// Sets an option that takes no value. The error comes when memory runs out.
+pub(crate) fn set_flag(request: &mut Request, flag: Flag) -> Result<(), NoMemory>
+    ensures { OnOk result (request.new ≡ spec.with_flag flag request.old) }
 {
     match flag {
         Flag::Quiet => request.quiet = true,
         Flag::Statistics => request.statistics = true,
         Flag::WriteBaseline => request.write_baseline = true,
+        Flag::Strict => request.strict = true,
         Flag::AssumeInTransaction => {
-            if !has_foreign_word(&request.linter, &["assume-in-transaction"]) {
-                request.linter.push("--assume-in-transaction")?;
-            }
+            set_linter_flag(request, "assume-in-transaction", "--assume-in-transaction")?;
         }
+        Flag::NoHazards => set_linter_flag(request, "no-hazards", "--no-hazards")?,
     }
-    Ok(request)
+    Ok(())
 }
 
-/// A request with an option set to a value, or what is wrong with the value. The other error comes when memory runs out.
+/// Sets an option to a value, or says what is wrong with the value; then the request is of no more use. The error comes when memory runs
+/// out.
 #[tactic(auto, unfolding(crate::specs::Steps::set))]
 pub(crate) fn set(
     alloc: Global,
     choice: Choice,
     value: &str,
-    request: Request,
-) -> Result<Result<Request, WordFault>, NoMemory>
-    ensures { IfOk result (λ r. r ≡ spec.set choice value.now request) }
+    request: &mut Request,
+) -> Result<Option<WordFault>, NoMemory>
+    ensures { IfOk result (λ fault. spec.after fault request.new ≡ spec.set choice value.now request.old) }
 {
     match choice {
-        Choice::Format => with_format(alloc, request, value),
-        Choice::Color => with_color(alloc, request, value),
-        Choice::FailOn => with_fail_on(alloc, request, value),
-        Choice::StdinName => Ok(Ok(with_stdin_name(alloc, request, value)?)),
-        Choice::Config => Ok(Ok(with_config(alloc, request, value)?)),
-        Choice::Baseline => Ok(Ok(with_baseline(alloc, request, value)?)),
-        _ => with_linter_option(alloc, choice, value, request),
+        Choice::Format => set_format(alloc, request, value),
+        Choice::Color => set_color(alloc, request, value),
+        Choice::FailOn => set_fail_on(alloc, request, value),
+        Choice::StdinName => set_stdin_name(alloc, request, value),
+        Choice::Config => set_config(alloc, request, value),
+        Choice::Baseline => set_baseline(alloc, request, value),
+        _ => set_linter_option(alloc, choice, value, request),
     }
 }

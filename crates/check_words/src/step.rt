@@ -1,12 +1,12 @@
 //! One word after another.
-ghost use Rattle.std.specs.Prelude.{◌≡◌, [], IfOk, codes, option_map};
+ghost use Rattle.std.specs.Prelude.{◌≡◌, IfOk, Ok, OnOk, option_map};
 ghost use Rattle.squawk_words.specs.Words.{after_dashes, begins_with_dash, name_in, value_in};
 ghost use Rattle.check_words.specs.Steps as spec;
 
 use crate::fault::WordFault;
 use crate::names::{Choice, Flag, choice_named, flag_named};
 use crate::request::Request;
-use crate::set::{copied, set, with_flag};
+use crate::set::{copied, set, set_flag};
 use std::alloc::Global;
 use text_pos::NoMemory;
 
@@ -75,25 +75,12 @@ fn begins_with_dash(word: &str) -> bool
     }
 }
 
-// The same request, after which any word may follow.
-fn then_any(set: Result<Request, WordFault>) -> Result<Reader, WordFault>
-    ensures { result ≡ spec.then_any set }
+// Adds a file, and says what the next word is to be.
+fn push_file(next: Next, reader: &mut Reader, word: &str) -> Result<(), NoMemory>
+    ensures { OnOk result (reader.new ≡ spec.with_file next word.now reader.old.request) }
 {
-    match set {
-        Ok(request) => Ok(Reader {
-            next: Next::Any,
-            request,
-        }),
-        Err(fault) => Err(fault),
-    }
-}
-
-// A request with one more file.
-fn with_file(next: Next, mut request: Request, word: &str) -> Result<Reader, NoMemory>
-    ensures { IfOk result (λ r. r ≡ spec.with_file next word.now request) }
-{
-    request.files.push(word)?;
-    Ok(Reader { next, request })
+    reader.next = next;
+    reader.request.files.push(word)
 }
 
 // The fault of a word that is no option.
@@ -103,21 +90,39 @@ fn unknown_word(alloc: Global, word: &str) -> Result<WordFault, NoMemory>
     Ok(WordFault::UnknownWord(copied(alloc, word)?))
 }
 
+// Sets an option to a value, after which any word may follow.
+fn set_value(
+    alloc: Global,
+    choice: Choice,
+    value: &str,
+    reader: &mut Reader,
+) -> Result<Option<WordFault>, NoMemory>
+    ensures { IfOk result (λ fault. spec.after fault reader.new ≡ spec.then_any (spec.set choice value.now reader.old.request)) }
+{
+    match set(alloc, choice, value, &mut reader.request)? {
+        Some(fault) => Ok(Some(fault)),
+        None => {
+            reader.next = Next::Any;
+            Ok(None)
+        }
+    }
+}
+
 // An option that takes a value, and what follows its `=`, if there is one.
 fn choice_word(
     alloc: Global,
     choice: Choice,
     value: Option<&str>,
-    request: Request,
-) -> Result<Result<Reader, WordFault>, NoMemory>
-    ensures { IfOk result (λ r. r ≡ spec.choice_word choice (option_map (λ s. s.now) value.entry) request) }
+    reader: &mut Reader,
+) -> Result<Option<WordFault>, NoMemory>
+    ensures { IfOk result (λ fault. spec.after fault reader.new ≡ spec.choice_word choice (option_map (λ s. s.now) value.entry) reader.old.request) }
 {
     match value {
-        Some(value) => Ok(then_any(set(alloc, choice, value, request)?)),
-        None => Ok(Ok(Reader {
-            next: Next::Value(choice),
-            request,
-        })),
+        Some(value) => set_value(alloc, choice, value, reader),
+        None => {
+            reader.next = Next::Value(choice);
+            Ok(None)
+        }
     }
 }
 
@@ -127,13 +132,13 @@ fn valued_word(
     alloc: Global,
     word: &str,
     rest: &str,
-    request: Request,
-) -> Result<Result<Reader, WordFault>, NoMemory>
-    ensures { IfOk result (λ r. r ≡ spec.valued_word word.now rest.now request) }
+    reader: &mut Reader,
+) -> Result<Option<WordFault>, NoMemory>
+    ensures { IfOk result (λ fault. spec.after fault reader.new ≡ spec.valued_word word.now rest.now reader.old.request) }
 {
     match choice_named(name_in(rest)) {
-        Some(choice) => choice_word(alloc, choice, value_in(rest), request),
-        None => Ok(Err(unknown_word(alloc, word)?)),
+        Some(choice) => choice_word(alloc, choice, value_in(rest), reader),
+        None => Ok(Some(unknown_word(alloc, word)?)),
     }
 }
 
@@ -141,17 +146,16 @@ fn valued_word(
 fn flag_word(
     flag: Flag,
     value: Option<&str>,
-    request: Request,
-) -> Result<Result<Reader, WordFault>, NoMemory>
-    ensures { IfOk result (λ r. r ≡ spec.flag_word flag (option_map (λ s. s.now) value.entry) request) }
+    reader: &mut Reader,
+) -> Result<Option<WordFault>, NoMemory>
+    ensures { IfOk result (λ fault. spec.after fault reader.new ≡ spec.flag_word flag (option_map (λ s. s.now) value.entry) reader.old.request) }
 {
-    match value {
-        Some(_) => Ok(Err(WordFault::TakesNoValue(flag))),
-        None => Ok(Ok(Reader {
-            next: Next::Any,
-            request: with_flag(request, flag)?,
-        })),
+    if value.is_some() {
+        return Ok(Some(WordFault::TakesNoValue(flag)));
     }
+    set_flag(&mut reader.request, flag)?;
+    reader.next = Next::Any;
+    Ok(None)
 }
 
 // An option, by what follows its dashes.
@@ -160,41 +164,51 @@ fn option_word(
     alloc: Global,
     word: &str,
     rest: &str,
-    request: Request,
-) -> Result<Result<Reader, WordFault>, NoMemory>
-    ensures { IfOk result (λ r. r ≡ spec.option_word word.now rest.now request) }
+    reader: &mut Reader,
+) -> Result<Option<WordFault>, NoMemory>
+    ensures { IfOk result (λ fault. spec.after fault reader.new ≡ spec.option_word word.now rest.now reader.old.request) }
 {
     match flag_named(name_in(rest)) {
-        Some(flag) => flag_word(flag, value_in(rest), request),
-        None => valued_word(alloc, word, rest, request),
+        Some(flag) => flag_word(flag, value_in(rest), reader),
+        None => valued_word(alloc, word, rest, reader),
     }
+}
+
+// A word that begins with `--`.
+fn dashed_word(
+    alloc: Global,
+    word: &str,
+    rest: &str,
+    reader: &mut Reader,
+) -> Result<Option<WordFault>, NoMemory>
+    ensures { IfOk result (λ fault. spec.after fault reader.new ≡ spec.dashed_word word.now rest.now reader.old.request) }
+{
+    if rest.is_empty() {
+        reader.next = Next::File;
+        return Ok(None);
+    }
+    option_word(alloc, word, rest, reader)
+}
+
+// A word that does not.
+fn plain_word(alloc: Global, word: &str, reader: &mut Reader) -> Result<Option<WordFault>, NoMemory>
+    ensures { IfOk result (λ fault. spec.after fault reader.new ≡ spec.plain_word word.now reader.old.request) }
+{
+    if is_option(word) {
+        return Ok(Some(unknown_word(alloc, word)?));
+    }
+    push_file(Next::Any, reader, word)?;
+    Ok(None)
 }
 
 // A word that may be anything.
 #[tactic(auto, unfolding(crate::specs::Steps::any_word))]
-fn any_word(
-    alloc: Global,
-    word: &str,
-    request: Request,
-) -> Result<Result<Reader, WordFault>, NoMemory>
-    ensures { IfOk result (λ r. r ≡ spec.any_word word.now request) }
+fn any_word(alloc: Global, word: &str, reader: &mut Reader) -> Result<Option<WordFault>, NoMemory>
+    ensures { IfOk result (λ fault. spec.after fault reader.new ≡ spec.any_word word.now reader.old.request) }
 {
     match after_dashes(word) {
-        Some(rest) => {
-            if rest.is_empty() {
-                return Ok(Ok(Reader {
-                    next: Next::File,
-                    request,
-                }));
-            }
-            option_word(alloc, word, rest, request)
-        }
-        None => {
-            if is_option(word) {
-                return Ok(Err(unknown_word(alloc, word)?));
-            }
-            Ok(Ok(with_file(Next::Any, request, word)?))
-        }
+        Some(rest) => dashed_word(alloc, word, rest, reader),
+        None => plain_word(alloc, word, reader),
     }
 }
 
@@ -204,29 +218,36 @@ fn value_word(
     alloc: Global,
     choice: Choice,
     word: &str,
-    request: Request,
-) -> Result<Result<Reader, WordFault>, NoMemory>
-    ensures { IfOk result (λ r. r ≡ spec.value_word choice word.now request) }
+    reader: &mut Reader,
+) -> Result<Option<WordFault>, NoMemory>
+    ensures { IfOk result (λ fault. spec.after fault reader.new ≡ spec.value_word choice word.now reader.old.request) }
 {
     if begins_with_dash(word) {
-        return Ok(Err(WordFault::MissingValue(choice)));
+        return Ok(Some(WordFault::MissingValue(choice)));
     }
-    Ok(then_any(set(alloc, choice, word, request)?))
+    set_value(alloc, choice, word, reader)
 }
 
-/// One word more, or why it is refused. The other error comes when memory runs out.
+// A file.
+fn file_word(reader: &mut Reader, word: &str) -> Result<Option<WordFault>, NoMemory>
+    ensures { IfOk result (λ fault. spec.after fault reader.new ≡ Ok (spec.with_file Next.File word.now reader.old.request)) }
+{
+    push_file(Next::File, reader, word)?;
+    Ok(None)
+}
+
+/// Takes one word more, or says why it is refused; then the reader is of no more use. The error comes when memory runs out.
 #[tactic(auto, unfolding(crate::specs::Steps::step))]
 pub(crate) fn step(
     alloc: Global,
-    reader: Reader,
+    reader: &mut Reader,
     word: &str,
-) -> Result<Result<Reader, WordFault>, NoMemory>
-    ensures { IfOk result (λ r. r ≡ spec.step word.now reader) }
+) -> Result<Option<WordFault>, NoMemory>
+    ensures { IfOk result (λ fault. spec.after fault reader.new ≡ spec.step word.now reader.old) }
 {
-    let Reader { next, request } = reader;
-    match next {
-        Next::Any => any_word(alloc, word, request),
-        Next::Value(choice) => value_word(alloc, choice, word, request),
-        Next::File => Ok(Ok(with_file(Next::File, request, word)?)),
+    match reader.next {
+        Next::Any => any_word(alloc, word, reader),
+        Next::Value(choice) => value_word(alloc, choice, word, reader),
+        Next::File => file_word(reader, word),
     }
 }

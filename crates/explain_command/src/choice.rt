@@ -7,19 +7,20 @@ use crate::failure::Failure;
 use crate::help::HELP;
 use crate::unknown::unknown;
 use lint_base::Rule;
-use rule_pages::{RULE_LIST, rule_page};
+use lint_report::{Code, code_named};
+use rule_pages::{RULE_LIST, code_page};
 use squawk_run::{Stop, has_foreign_word};
 use squawk_words::Words;
 use std::alloc::Global;
 
-// The rule of a name, also where ignore comments can't name it.
-fn explained(name: &str) -> Option<Rule>
+// The rule or the hazard of a name, also where ignore comments can't name it.
+fn explained(name: &str) -> Option<Code>
     ensures { result ≡ explained name.now }
 {
     if name == "unused-ignore" {
-        return Some(Rule::UnusedIgnore);
+        return Some(Code::Rule(Rule::UnusedIgnore));
     }
-    Rule::try_from(name).ok()
+    code_named(name)
 }
 
 // The page of a name.
@@ -30,7 +31,7 @@ fn page_named(alloc: Global, name: &str) -> Result<&'static str, Failure>
     ensures none { IfErr result (λ _. page_named name.now ≡ None) }
 {
     match explained(name) {
-        Some(rule) => Ok(rule_page(rule)),
+        Some(code) => Ok(code_page(code)),
         None => Err(unknown(alloc, name)),
     }
 }

@@ -9,7 +9,7 @@ use squawk_run::Stop;
 pub enum Failure {
     /// A stop that every program has.
     Stop(Stop),
-    /// No rule has this name. This line says so, with its line feed.
+    /// No rule and no hazard has this name. This line says so, with its line feed.
     Unknown(Vec<u8>),
 }
 

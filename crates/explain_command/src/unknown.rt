@@ -1,17 +1,17 @@
-//! A name that no rule has.
+//! A name that no rule and no hazard has.
 ghost use Rattle.std.specs.Prelude.{◌≡◌, IfOk};
 ghost use Rattle.explain_command.specs.Unknown.{IsUnknown, IsUnknownLine, unknown_line};
 
 use crate::failure::Failure;
-use lint_base::Rule;
-use nearest_rule::nearest_rule;
+use lint_report::Code;
+use nearest_code::nearest_code;
 use source_file::push_shown;
 use squawk_run::Stop;
 use std::alloc::Global;
 use text_pos::NoMemory;
 
 // The line about a name, with the name that is nearest.
-fn line_with(alloc: Global, name: &str, nearest: Rule) -> Result<Vec<u8>, NoMemory>
+fn line_with(alloc: Global, name: &str, nearest: Code) -> Result<Vec<u8>, NoMemory>
     ensures { IfOk result (λ line. line.items ≡ unknown_line name.now nearest) }
 {
     let mut line = Vec::new(alloc);
@@ -27,7 +27,7 @@ fn line_with(alloc: Global, name: &str, nearest: Rule) -> Result<Vec<u8>, NoMemo
 fn line_about(alloc: Global, name: &str) -> Result<Vec<u8>, NoMemory>
     ensures { IfOk result (λ line. IsUnknownLine name.now line.items) }
 {
-    let nearest = nearest_rule(alloc, name)?;
+    let nearest = nearest_code(alloc, name)?;
     line_with(alloc, name, nearest)
 }
 

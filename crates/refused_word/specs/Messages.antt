@@ -6,9 +6,9 @@ use Rattle.check_words.specs.declared.fault.WordFault.TheVariants.{NoCommand, Un
 use Rattle.check_words.specs.declared.names.Choice.{Choice}
 use Rattle.check_words.specs.declared.names.Choice.TheVariants as choice
 use Rattle.check_words.specs.Names.{flag_name, name_of}
-use Rattle.lint_base.specs.declared.rule.Rule.{Rule}
-use Rattle.lint_base.specs.Rules as rules
-use Rattle.nearest_rule.specs.Nearest.{near_rule}
+use Rattle.lint_report.specs.declared.code.Code.{Code}
+use Rattle.lint_report.specs.Codes as reports
+use Rattle.nearest_code.specs.Nearest.{near_code}
 use Rattle.source_file.specs.Shown.{shown}
 use Rattle.squawk_words.specs.Words.{Text}
 
@@ -33,13 +33,13 @@ values_of choice.Color = codes "; one of auto, always, never"
 values_of choice.FailOn = codes "; one of warning, never"
 values_of c = []
 
--- the name of the rule that may be meant, but for the one that no option can name
+-- the name that may be meant, but for the one that no option can have
 abbrev pub suggestion : Text → Text
 suggestion name = if bytes_eq name (codes "unused-ignore") then [] else codes "; did you mean " ++ name ++ codes "?"
 
-abbrev pub suggestion_by : Option Rule → Text
+abbrev pub suggestion_by : Option Code → Text
 suggestion_by None = []
-suggestion_by (Some rule) = suggestion (rules.name_of rule)
+suggestion_by (Some code) = suggestion (reports.name_of code)
 
 unfoldable pub message_of : WordFault → Text
 message_of NoCommand = unknown_word (codes "no command") []
@@ -48,7 +48,7 @@ message_of (UnknownWord word) = unknown_word (codes "unknown word: ") word
 message_of (MissingValue c) = of_choice c (codes "its value is missing")
 message_of (TakesNoValue flag) = of_flag (flag_name flag) (codes "it takes no value")
 message_of (UnknownValue c value) = of_choice c (codes "unknown value: " ++ value ++ values_of c)
-message_of (UnknownRule c name) = of_choice c (codes "unknown rule: " ++ name ++ suggestion_by (near_rule 3 name))
+message_of (UnknownRule c name) = of_choice c (codes "unknown rule: " ++ name ++ suggestion_by (near_code 3 name))
 message_of (EmptyName c) = of_choice c (codes "an empty name")
 message_of (NotNumber c value) = of_choice c (codes "not a number from 0 to 2147483647: " ++ value)
 message_of (Twice c) = of_choice c (codes "it is given twice")

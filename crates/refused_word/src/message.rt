@@ -3,8 +3,8 @@ ghost use Rattle.std.specs.Prelude.{◌≡◌, ◌++◌, IfOk, string_bytes};
 ghost use Rattle.refused_word.specs.Messages.{message_of, of_choice, of_flag, suggestion, suggestion_by, unknown_word, values_of};
 
 use check_words::{Choice, Flag, WordFault};
-use lint_base::Rule;
-use nearest_rule::near_rule;
+use lint_report::Code;
+use nearest_code::near_code;
 use std::alloc::{AllocError, Global};
 use text_pos::NoMemory;
 
@@ -65,7 +65,7 @@ fn values_of(choice: Choice) -> &'static str
     }
 }
 
-// The name of the rule that may be meant, but for the one that no option can name.
+// The name that may be meant, but for the one that no option can have.
 fn suggestion(alloc: Global, name: &str) -> Result<String, AllocError>
     ensures { IfOk result (λ text. string_bytes text ≡ suggestion name.now) }
 {
@@ -76,22 +76,22 @@ fn suggestion(alloc: Global, name: &str) -> Result<String, AllocError>
 }
 
 // The same, where there is one.
-fn suggestion_by(alloc: Global, rule: Option<Rule>) -> Result<String, AllocError>
-    ensures { IfOk result (λ text. string_bytes text ≡ suggestion_by rule) }
+fn suggestion_by(alloc: Global, code: Option<Code>) -> Result<String, AllocError>
+    ensures { IfOk result (λ text. string_bytes text ≡ suggestion_by code) }
 {
-    match rule {
-        Some(rule) => suggestion(alloc, rule.name()),
+    match code {
+        Some(code) => suggestion(alloc, code.name()),
         None => String::from_str(alloc, ""),
     }
 }
 
-// What is wrong with the name of a rule that there isn't.
+// What is wrong with the name of a rule or a hazard that there isn't.
 #[tactic(auto, unfolding(crate::specs::Messages::message_of))]
 fn unknown_rule(alloc: Global, choice: Choice, name: &str) -> Result<String, NoMemory>
     ensures { IfOk result (λ text. string_bytes text ≡ message_of (WordFault.UnknownRule choice name.now)) }
 {
-    let rule = near_rule(alloc, name, 3)?;
-    let rest = suggestion_by(alloc, rule)?;
+    let code = near_code(alloc, name, 3)?;
+    let rest = suggestion_by(alloc, code)?;
     let text = of_value(alloc, choice, "unknown rule: ", name, rest.as_str())?;
     Ok(text)
 }

@@ -1,7 +1,11 @@
--- The page of each rule. Written by tools/rule_pages.py.
+-- The page of each rule and each hazard. Written by tools/rule_pages.py.
 use Rattle.std.specs.Prelude.{ℕ, List}
+use Rattle.hazard_base.specs.declared.hazard.Hazard.{Hazard}
+use Rattle.hazard_base.specs.declared.hazard.Hazard.TheVariants as hazard
 use Rattle.lint_base.specs.declared.rule.Rule.{Rule}
 use Rattle.lint_base.specs.declared.rule.Rule.TheVariants as rule
+use Rattle.lint_report.specs.declared.code.Code.{Code}
+use Rattle.lint_report.specs.declared.code.Code.TheVariants as code
 use Rattle.rule_pages.specs.declared.indexes.TheConstants.{REQUIRE_CONCURRENT_INDEX_CREATION, REQUIRE_CONCURRENT_INDEX_DELETION, BAN_CONCURRENT_INDEX_CREATION_IN_TRANSACTION, REQUIRE_CONCURRENT_REINDEX, BAN_DROP_INDEX}
 use Rattle.rule_pages.specs.declared.constraints.TheConstants.{CONSTRAINT_MISSING_NOT_VALID, ADDING_FOREIGN_KEY_CONSTRAINT, ADDING_NOT_NULLABLE_FIELD, ADDING_SERIAL_PRIMARY_KEY_FIELD, DISALLOWED_UNIQUE_CONSTRAINT, BAN_DROP_NOT_NULL, BAN_CREATE_DOMAIN_WITH_CONSTRAINT, BAN_ALTER_DOMAIN_WITH_ADD_CONSTRAINT, BAN_DROP_CONSTRAINT, BAN_NEW_WRITE_RESTRICTION}
 use Rattle.rule_pages.specs.declared.columns_and_types.TheConstants.{ADDING_FIELD_WITH_DEFAULT, CHANGING_COLUMN_TYPE, PREFER_BIGINT_OVER_INT, PREFER_BIGINT_OVER_SMALLINT, PREFER_IDENTITY, PREFER_TEXT_FIELD, BAN_DROP_COLUMN, ADDING_REQUIRED_FIELD, BAN_DROP_DEFAULT, BAN_DROP_GENERATED_EXPRESSION, BAN_ALTER_IDENTITY, BAN_ALTER_GENERATED_EXPRESSION, BAN_SET_DEFAULT, BAN_ADD_COLUMN}
@@ -15,6 +19,7 @@ use Rattle.rule_pages.specs.declared.names.TheConstants.{REQUIRE_TABLE_SCHEMA, I
 use Rattle.rule_pages.specs.declared.behavior_and_replication.TheConstants.{BAN_DISABLE_TRIGGER, BAN_REPLICA_IDENTITY, BAN_REPLACE_VIEW_FUNCTION}
 use Rattle.rule_pages.specs.declared.access_and_security.TheConstants.{BAN_DROP_POLICY, BAN_REVOKE, BAN_ALTER_POLICY_CONDITION, BAN_ALTER_POLICY_ROLES, BAN_CREATE_POLICY, BAN_ALTER_ROLE_OPTIONS, BAN_ALTER_ROW_LEVEL_SECURITY}
 use Rattle.rule_pages.specs.declared.settings_and_options.TheConstants.{BAN_ALTER_FUNCTION_OPTIONS, BAN_ALTER_VIEW_OPTIONS, BAN_ALTER_DATABASE_OPTIONS, BAN_ALTER_SEQUENCE_VALUES, BAN_ALTER_SYSTEM_OPTIONS, BAN_ALTER_EXTENSION}
+use Rattle.rule_pages.specs.declared.hazards.TheConstants.{STATEMENT_IN_TRANSACTION, TABLE_REWRITE, COLUMN_WITH_CHECK, BUILD_UNDER_TIMEOUT, INVALID_INDEX_KEPT, REFRESH_BLOCKS_READS, JSON_COLUMN}
 
 -- what docs/RULES.md says of a rule
 unfoldable pub page_of : Rule → List ℕ
@@ -96,3 +101,18 @@ page_of rule.BanDetachInheritance = BAN_DETACH_INHERITANCE.now
 page_of rule.BanAlterSequenceValues = BAN_ALTER_SEQUENCE_VALUES.now
 page_of rule.BanAlterSystemOptions = BAN_ALTER_SYSTEM_OPTIONS.now
 page_of rule.BanAlterExtension = BAN_ALTER_EXTENSION.now
+
+-- what it says of a hazard
+unfoldable pub hazard_page_of : Hazard → List ℕ
+hazard_page_of hazard.StatementInTransaction = STATEMENT_IN_TRANSACTION.now
+hazard_page_of hazard.TableRewrite = TABLE_REWRITE.now
+hazard_page_of hazard.ColumnWithCheck = COLUMN_WITH_CHECK.now
+hazard_page_of hazard.BuildUnderTimeout = BUILD_UNDER_TIMEOUT.now
+hazard_page_of hazard.InvalidIndexKept = INVALID_INDEX_KEPT.now
+hazard_page_of hazard.RefreshBlocksReads = REFRESH_BLOCKS_READS.now
+hazard_page_of hazard.JsonColumn = JSON_COLUMN.now
+
+-- what it says of either
+abbrev pub code_page_of : Code → List ℕ
+code_page_of (code.Rule rule) = page_of rule
+code_page_of (code.Hazard hazard) = hazard_page_of hazard

@@ -27,7 +27,8 @@ It does not see names of rules that are off, which may be on elsewhere.
 Details
 
 - Reported: in an ignore comment, each name that is no rule's; and each rule's
-  name that leaves out no report, where that rule is enabled.
+  name that leaves out no report, where that rule is enabled. In `lavkheto
+  check` a hazard counts as a rule.
 - Not reported: a rule's name where the rule is not enabled: it may be enabled
   elsewhere.
 - On or off: it is printed, and cannot be named, so no word turns it off. A

@@ -1,4 +1,4 @@
-//! What docs/RULES.md says of each rule, as plain text. Written by tools/rule_pages.py.
+//! What docs/RULES.md says of each rule and each hazard, as plain text. Written by tools/rule_pages.py.
 #![tactic(auto)]
 
 mod access_and_security;
@@ -8,6 +8,7 @@ mod columns_and_types;
 mod columns_and_types_more;
 mod constraints;
 mod drops;
+mod hazards;
 mod ignore_comments;
 mod indexes;
 mod list;
@@ -18,4 +19,4 @@ mod settings_and_options;
 mod transactions_and_timeouts;
 
 pub use list::RULE_LIST;
-pub use page::rule_page;
+pub use page::{code_page, rule_page};

@@ -1,6 +1,6 @@
-//! All rules. Written by tools/rule_pages.py.
+//! All rules and hazards. Written by tools/rule_pages.py.
 
-/// All rules by group, a line each: whether it is on by default, its fix and its lock.
+/// All rules by group, and then all hazards, a line each: whether it is on by default, its fix and its lock.
 pub const RULE_LIST: &str =
     "Rule                                          Default  Fix             Lock
 
@@ -104,4 +104,13 @@ Ignore comments
 unused-ignore                                 on       none            none
 
 require-timeout-settings                      alias    of `require-lock-timeout` and `require-statement-timeout`
+
+Hazards
+statement-in-transaction                      on       none            none, it fails
+table-rewrite                                 on       none            ACCESS EXCLUSIVE, until the table and its indexes are written anew
+column-with-check                             on       none            ACCESS EXCLUSIVE, until every row is read
+build-under-timeout                           on       none            SHARE UPDATE EXCLUSIVE, until the build ends or is cancelled
+invalid-index-kept                            on       none            none, nothing is built
+refresh-blocks-reads                          on       none            ACCESS EXCLUSIVE on the view, until its query has run
+json-column                                   on       none            ACCESS EXCLUSIVE, for a moment
 ";

@@ -1,13 +1,15 @@
-//! The page of a rule. Written by tools/rule_pages.py.
+//! The pages of rules and hazards. Written by tools/rule_pages.py.
 ghost use Rattle.std.specs.Prelude.{◌≡◌};
-ghost use Rattle.rule_pages.specs.Pages.{page_of};
+ghost use Rattle.rule_pages.specs.Pages.{code_page_of, hazard_page_of, page_of};
 
 use crate::{
     access_and_security, aliases, behavior_and_replication, columns_and_types,
-    columns_and_types_more, constraints, drops, ignore_comments, indexes, names, renames_and_moves,
-    settings_and_options, transactions_and_timeouts,
+    columns_and_types_more, constraints, drops, hazards, ignore_comments, indexes, names,
+    renames_and_moves, settings_and_options, transactions_and_timeouts,
 };
+use hazard_base::Hazard;
 use lint_base::Rule;
+use lint_report::Code;
 
 /// What docs/RULES.md says of a rule: plain text of lines that end with a line feed, of 79 columns but for code and addresses.
 #[tactic(auto, unfolding(crate::specs::Pages::page_of))]
@@ -95,5 +97,31 @@ pub fn rule_page(rule: Rule) -> &'static str
         Rule::BanAlterSequenceValues => settings_and_options::BAN_ALTER_SEQUENCE_VALUES,
         Rule::BanAlterSystemOptions => settings_and_options::BAN_ALTER_SYSTEM_OPTIONS,
         Rule::BanAlterExtension => settings_and_options::BAN_ALTER_EXTENSION,
+    }
+}
+
+// The same of a hazard.
+#[tactic(auto, unfolding(crate::specs::Pages::hazard_page_of))]
+fn hazard_page(hazard: Hazard) -> &'static str
+    ensures { result.now ≡ hazard_page_of hazard }
+{
+    match hazard {
+        Hazard::StatementInTransaction => hazards::STATEMENT_IN_TRANSACTION,
+        Hazard::TableRewrite => hazards::TABLE_REWRITE,
+        Hazard::ColumnWithCheck => hazards::COLUMN_WITH_CHECK,
+        Hazard::BuildUnderTimeout => hazards::BUILD_UNDER_TIMEOUT,
+        Hazard::InvalidIndexKept => hazards::INVALID_INDEX_KEPT,
+        Hazard::RefreshBlocksReads => hazards::REFRESH_BLOCKS_READS,
+        Hazard::JsonColumn => hazards::JSON_COLUMN,
+    }
+}
+
+/// What docs/RULES.md says of a rule or a hazard, as [`rule_page`] has it.
+pub fn code_page(code: Code) -> &'static str
+    ensures { result.now ≡ code_page_of code }
+{
+    match code {
+        Code::Rule(rule) => rule_page(rule),
+        Code::Hazard(hazard) => hazard_page(hazard),
     }
 }

@@ -1,6 +1,6 @@
 use Rattle.std.proofs.Common.{◌≡◌, drop, map}
 use Rattle.check_words.specs.Steps.{first_unknown}
-use Rattle.check_words.proofs.rules.first_unnamed.Given as goal
+use Rattle.check_words.proofs.lists.first_unnamed.Given as goal
 
 -- what is found among the items that are left is found among all
 abbrev pub invariant-loop-item : goal.invariant-loop-item

@@ -1,10 +1,11 @@
-//! Names of rules in a list.
+//! Names in a list.
 ghost use Rattle.std.specs.Prelude.{◌≡◌, IfOk, is_none, map};
-ghost use Rattle.lint_base.specs.RuleNames.{rule_named};
+ghost use Rattle.lint_report.specs.Codes.{code_named};
 ghost use Rattle.squawk_words.specs.Choices.{items_of};
 ghost use Rattle.check_words.specs.Steps as spec;
 
-use lint_base::{Rule, Text};
+use lint_base::Text;
+use lint_report::code_named;
 use std::alloc::{AllocError, Global};
 use text_pos::NoMemory;
 
@@ -15,26 +16,26 @@ fn items_of(alloc: Global, list: &str) -> Result<Vec<&str>, AllocError>
     list.split(',').collect(alloc)
 }
 
-// Whether a text is the name of no rule.
-fn names_no_rule(text: &str) -> bool
-    ensures { result ≡ is_none (rule_named text.now) }
+// Whether a text names nothing.
+fn names_nothing(text: &str) -> bool
+    ensures { result ≡ is_none (code_named text.now) }
 {
-    Rule::try_from(text).is_err()
+    code_named(text).is_none()
 }
 
-// The first of these that is the name of no rule, or an empty text.
+// The first of these that names neither a rule nor a hazard, or an empty text.
 fn first_unnamed<'a>(items: &[&'a str]) -> &'a str
     ensures { result.now ≡ spec.first_unknown (map (λ s. s.now) items.now) }
 {
     for item in items {
-        if names_no_rule(item) {
+        if names_nothing(item) {
             return item;
         }
     }
     ""
 }
 
-/// The first item of a list that is the name of no rule, or an empty text. The error comes when memory runs out.
+/// The first item of a list that names neither a rule nor a hazard, or an empty text. The error comes when memory runs out.
 pub(crate) fn first_unknown(alloc: Global, list: &str) -> Result<Text, NoMemory>
     ensures { IfOk result (λ item. item ≡ spec.first_unknown (items_of list.now)) }
 {
