@@ -1,0 +1,4 @@
+pub mod Lining
+pub mod Sides
+pub mod Contexts
+pub mod Patching

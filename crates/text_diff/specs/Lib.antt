@@ -1,0 +1,5 @@
+pub mod Lines
+pub mod Script
+pub mod Context
+pub mod Unified
+pub mod Patch
