@@ -20,7 +20,8 @@ use Rattle.check_words.specs.declared.request.Color.TheVariants.{Auto, Always, N
 use Rattle.check_words.specs.declared.request.FailOn.{FailOn}
 use Rattle.check_words.specs.declared.request.FailOn.TheVariants as fail_on
 use Rattle.check_words.specs.declared.request.Request.{Request}
-use Rattle.check_words.specs.Linter.{linter_choices}
+use Rattle.code_choice.specs.Choices.{code_choices_of}
+use Rattle.code_choice.specs.declared.choices.CodeChoices.{CodeChoices}
 use Rattle.checked_file.specs.declared.checked.Checked.{Checked}
 use Rattle.checked_file.specs.declared.status.Status.{Status}
 use Rattle.checked_file.specs.declared.status.Status.TheVariants as status
@@ -30,9 +31,8 @@ use Rattle.squawk_run.specs.declared.stop.Stop.{Stop}
 use Rattle.squawk_run.specs.declared.stop.Stop.TheVariants.{BadArguments, NotUtf8, TooLong, ReadFault, WriteFault, NoMemory}
 use Rattle.squawk_stream.specs.Faults.{Rose}
 use Rattle.squawk_stream.specs.Parts.{AppendsPart}
-use Rattle.squawk_words.specs.declared.choices.Choices.{Choices}
 use Rattle.file_answer.specs.declared.linter.FileLinter.{FileLinter}
-use Rattle.file_answer.specs.Answers.{IsAnswerOf}
+use Rattle.file_answer.specs.Answers.{IsJudgedAs}
 
 abbrev pub is_painted_by : Color → Bool → Bool
 is_painted_by Auto painted = painted
@@ -56,13 +56,16 @@ printed_by false style files = printed style files
 abbrev pub printed_for : Request → Bool → List Checked → List ℕ
 printed_for request painted files = printed_by request.write_baseline (style_of request painted) files
 
--- the linter with what is chosen
-abbrev pub judge_by : Choices → FileLinter
-judge_by choices = record { linter = record { rules = choices.rules; settings = choices.settings } }
+-- the linter with what is chosen, by whether each line is read as SQL
+abbrev pub judge_by : CodeChoices → Bool → FileLinter
+judge_by chosen is_strict = record {
+  linter = record { linter = record { rules = chosen.choices.rules; settings = chosen.choices.settings }; hazards = chosen.hazards };
+  is_strict = is_strict;
+}
 
 -- the answers that it has
-abbrev pub answers_by : Choices → Answers
-answers_by choices bytes answer = IsAnswerOf bytes choices.rules choices.settings answer
+abbrev pub answers_by : CodeChoices → Bool → Answers
+answers_by chosen is_strict bytes judged = IsJudgedAs is_strict (judge_by chosen is_strict).linter bytes judged
 
 -- which reports make a run fail: none where they are written to a baseline
 abbrev pub fails_on : Request → FailOn
@@ -79,16 +82,16 @@ ended_by fails (Ok greatest) = Ok (status_by fails greatest)
 ended_by fails (Err stop) = Err (failure.Stop stop)
 
 -- what is left of the answers of a run, under these choices and after this setup
-abbrev pub AreLeftAnswers : Choices → Setup → Devices → Request → List Checked → Type 0
+abbrev pub AreLeftAnswers : CodeChoices → Setup → Devices → Request → List Checked → Type 0
 AreLeftAnswers choices setup d request files =
-    AreLeft (AreAnswers (answers_by choices) d setup.config.excluded_paths request) (Leaves setup.sieve.baseline) files
+    AreLeft (AreAnswers (answers_by choices request.strict) d setup.config.excluded_paths request) (Leaves setup.sieve.baseline) files
 
--- The configuration and the words for the linter choose rules and settings. Under these each file has its answer that the configuration
+-- The configuration and the words for the linter choose rules, hazards and settings. Under these each file has its answer that the configuration
 -- does not leave out; without the reports that the baseline knows all of them were written, and the status is by the greatest of theirs.
 pub record HasChecked (request : Request) (painted : Bool) (d : Devices) (old new : Option (List ℕ)) (result : Status) : Type 0 where
   pub setup : Setup
   pub set_up : IsSetUp d.content request setup
-  pub choices : Choices
+  pub choices : CodeChoices
   pub chosen : IsChosenBy setup.config request.linter choices
   pub greatest : Status
   pub run : HasRun (AreLeftAnswers choices setup d request) (printed_for request painted) old new greatest
@@ -98,7 +101,7 @@ pub record HasChecked (request : Request) (painted : Bool) (d : Devices) (old ne
 pub record HasCheckedPart (request : Request) (painted : Bool) (d : Devices) (old new : Option (List ℕ)) (before now : ℕ) : Type 0 where
   pub setup : Setup
   pub set_up : IsSetUp d.content request setup
-  pub choices : Choices
+  pub choices : CodeChoices
   pub chosen : IsChosenBy setup.config request.linter choices
   pub part : HasWrittenPart (AreLeftAnswers choices setup d request) (printed_for request painted) old new before now
 
@@ -111,7 +114,7 @@ DoneFor (Refused fault) help version painted d old new result = ⊥
 
 -- words that the linter refuses beside the configuration
 abbrev pub AreRefused : Asked → Devices → Type 0
-AreRefused (Check request) d = (setup : Setup) × IsSetUp d.content request setup × (linter_choices (linter_words setup.config request.linter) ≡ None)
+AreRefused (Check request) d = (setup : Setup) × IsSetUp d.content request setup × (code_choices_of (linter_words setup.config request.linter) ≡ None)
 AreRefused Help d = ⊥
 AreRefused Version d = ⊥
 AreRefused (Refused fault) d = ⊥

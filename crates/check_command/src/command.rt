@@ -16,16 +16,18 @@ use check_config::{Config, linter_words};
 use check_print::Style;
 use check_run::{Progress, check};
 use check_setup::load_setup;
-use check_words::{Asked, Color, FailOn, HELP, Request, VERSION, linter_choices, read_asked};
+use check_words::{Asked, Color, FailOn, HELP, Request, VERSION, read_asked};
 use checked_file::Status;
+use code_choice::{CodeChoices, read_code_choices};
 use file_answer::FileLinter;
 use file_store::FileStore;
 use squawk_linter::Linter;
 use squawk_run::Stop;
 use squawk_stream::{Sink, Source, write_all};
-use squawk_words::{Choices, Words};
+use squawk_words::Words;
 use std::alloc::Global;
 use text_pos::NoMemory;
+use text_reports::TextLinter;
 
 // The style that a request asks for, by whether colours are expected where it does not say.
 fn style_of(request: &Request, is_painted: bool) -> Style
@@ -44,15 +46,20 @@ fn style_of(request: &Request, is_painted: bool) -> Style
     }
 }
 
-// The linter with what is chosen.
-fn judge_by(choices: Choices) -> FileLinter
-    ensures { result ≡ judge_by choices }
+// The linter with what is chosen, by whether each line is read as SQL.
+fn judge_by(chosen: CodeChoices, is_strict: bool) -> FileLinter
+    ensures { result ≡ judge_by chosen is_strict }
 {
+    let linter = Linter {
+        rules: chosen.choices.rules,
+        settings: chosen.choices.settings,
+    };
     FileLinter {
-        linter: Linter {
-            rules: choices.rules,
-            settings: choices.settings,
+        linter: TextLinter {
+            linter,
+            hazards: chosen.hazards,
         },
+        is_strict,
     }
 }
 
@@ -87,7 +94,7 @@ fn ended_by(fail_on: FailOn, done: Result<Status, Stop>) -> Result<Status, Failu
 }
 
 // What the words of the line and the configuration choose together.
-fn chosen(alloc: Global, config: &Config, line: &Words) -> Result<Choices, Stop>
+fn chosen(alloc: Global, config: &Config, line: &Words) -> Result<CodeChoices, Stop>
     ensures chosen { IfOk result (IsChosenBy config.now line.now) }
     ensures unchosen { IfErr result (IsUnchosen config.now line.now) }
 {
@@ -95,7 +102,7 @@ fn chosen(alloc: Global, config: &Config, line: &Words) -> Result<Choices, Stop>
         Ok(words) => words,
         Err(NoMemory) => return Err(Stop::NoMemory),
     };
-    match linter_choices(alloc, &words) {
+    match read_code_choices(alloc, &words) {
         Ok(Some(choices)) => Ok(choices),
         Ok(None) => Err(Stop::BadArguments),
         Err(NoMemory) => Err(Stop::NoMemory),
@@ -155,7 +162,7 @@ fn check_request<F: FileStore, S: Source, K: Sink, G: Progress>(
         Ok(choices) => choices,
         Err(stop) => return Err(Failure::Stop(stop)),
     };
-    let mut judge = judge_by(choices);
+    let mut judge = judge_by(choices, request.strict);
     let printer = RunPrinter {
         style: style_of(request, is_painted),
         writes_baseline: request.write_baseline,

@@ -7,13 +7,15 @@ use Rattle.file_store.specs.declared.store.FileError.TheVariants as error
 use Rattle.checked_file.specs.declared.answer.Answer.{Answer}
 use Rattle.checked_file.specs.declared.answer.Answer.TheVariants.{Reports, Refused}
 use Rattle.checked_file.specs.declared.checked.Checked.{Checked}
+use Rattle.checked_file.specs.declared.checked.Judged.{Judged}
+use Rattle.checked_file.specs.Files.{judged_of}
 use Rattle.source_file.specs.declared.refusal.Refusal.TheVariants as refusal
 use Rattle.squawk_stream.specs.Faults.{Rose}
 use Rattle.squawk_words.specs.Words.{Text}
 
 -- which answers there are for which bytes
 abbrev pub Answers : Type 1
-Answers = List ℕ → Answer → Type 0
+Answers = List ℕ → Judged → Type 0
 
 -- why a file was not read: it is not there; or a call failed, which shows in the count of failures; or it has 2^32 bytes or more
 abbrev pub IsUnread : Content → ℕ → ℕ → Answer → Type 0
@@ -32,10 +34,11 @@ IsUnreadBy error.Fault answer = answer ≡ Refused refusal.Unreadable
 IsUnreadBy error.TooLong answer = answer ≡ Refused refusal.TooLong
 IsUnreadBy error.NoMemory answer = ⊥
 
--- the bytes of the file, and an answer for them
+-- the bytes of the file, and what came of them
 pub record IsAnswered (answers : Answers) (content : Content) (file : Checked) : Type 0 where
-  pub bytes : IsBytes content file.bytes.items
-  pub answer : answers file.bytes.items file.answer
+  pub bytes : List ℕ
+  pub held : IsBytes content bytes
+  pub answer : answers bytes (judged_of file)
 
 -- this came of a name that holds this content: it was read and answered, or it was not read
 pub record IsChecked (answers : Answers) (content : Content) (before now : ℕ) (name : Text) (file : Checked) : Type 0 where

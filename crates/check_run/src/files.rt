@@ -1,14 +1,15 @@
 //! Files, one by one.
-ghost use Rattle.std.specs.Prelude.{◌≡◌, ◌<◌, ◌≤◌, ◌^◌, ℕ, All, IfOk, List, length};
+ghost use Rattle.std.specs.Prelude.{◌≡◌, [], ◌<◌, ◌≤◌, ◌^◌, ℕ, All, IfOk, List, length};
 ghost use Rattle.std.specs.Str.{IsUtf8};
+ghost use Rattle.checked_file.specs.Files.{judged_of};
 ghost use Rattle.checked_file.specs.Sound.{IsSound};
-ghost use Rattle.checked_file.specs.declared.answer.Answer.{Answer};
+ghost use Rattle.checked_file.specs.declared.checked.Judged.{Judged};
 ghost use Rattle.file_store.specs.Contents.{KeepsContents};
 ghost use Rattle.check_run.specs.Checks.{AreChecked, IsChecked, IsUnreadBy};
 
 use crate::judge::Judge;
 use crate::progress::Progress;
-use checked_file::{Answer, Checked};
+use checked_file::{Answer, Checked, Judged};
 use file_store::{FileError, FileStore};
 use lint_base::Text;
 use source_file::Refusal;
@@ -17,23 +18,29 @@ use std::alloc::Global;
 use text_pos::NoMemory;
 
 /// A file of a name, and what came of it. The error comes when memory runs out.
-pub(crate) fn named(
-    alloc: Global,
-    name: &str,
-    bytes: Vec<u8>,
-    answer: Answer,
-) -> Result<Checked, NoMemory>
+pub(crate) fn named(alloc: Global, name: &str, judged: Judged) -> Result<Checked, NoMemory>
     ensures name { IfOk result (λ file. file.name ≡ name.now) }
-    ensures utf8 { IfOk result (λ file. IsUtf8 file.name) }
-    ensures bytes { IfOk result (λ file. file.bytes ≡ bytes) }
-    ensures answer { IfOk result (λ file. file.answer ≡ answer) }
+    ensures judged { IfOk result (λ file. judged_of file ≡ judged) }
 {
     let name = Text::made(String::from_str(alloc, name)?);
     Ok(Checked {
         name,
-        bytes,
-        answer,
+        bytes: judged.bytes,
+        passed: judged.passed,
+        answer: judged.answer,
     })
+}
+
+/// What comes of a file of which nothing was read.
+pub(crate) fn unread_by(alloc: Global, refusal: Refusal) -> Judged
+    ensures answer { result.answer ≡ Answer.Refused refusal }
+    ensures bytes { result.bytes.items ≡ [] }
+{
+    Judged {
+        bytes: Vec::new(alloc),
+        passed: None,
+        answer: Answer::Refused(refusal),
+    }
 }
 
 // A file of a name that was not read, by the error. The error `NoMemory` ends the run.
@@ -48,7 +55,7 @@ fn unread(alloc: Global, name: &str, error: FileError) -> Result<Checked, NoMemo
         FileError::Fault => Refusal::Unreadable,
         FileError::TooLong => Refusal::TooLong,
     };
-    let file = named(alloc, name, Vec::new(alloc), Answer::Refused(refusal))?;
+    let file = named(alloc, name, unread_by(alloc, refusal))?;
     Ok(file)
 }
 
@@ -61,13 +68,12 @@ pub(crate) fn answered<J: Judge>(
 ) -> Result<Checked, NoMemory>
     requires { length bytes.items < 2 ^ 32 }
     ensures name { IfOk result (λ file. file.name ≡ name.now) }
-    ensures bytes { IfOk result (λ file. file.bytes.items ≡ bytes.items) }
-    ensures answer { IfOk result (λ file. J.answers judge.old bytes.items file.answer) }
+    ensures answer { IfOk result (λ file. J.answers judge.old bytes.items (judged_of file)) }
     ensures sound { IfOk result IsSound }
-    ensures same { (bytes : List ℕ) (answer : Answer) → J.answers judge.new bytes answer → J.answers judge.old bytes answer }
+    ensures same { (bytes : List ℕ) (judged : Judged) → J.answers judge.new bytes judged → J.answers judge.old bytes judged }
 {
-    let answer = judge.judge(alloc, bytes.as_slice())?;
-    let file = named(alloc, name, bytes, answer)?;
+    let judged = judge.judge(alloc, bytes)?;
+    let file = named(alloc, name, judged)?;
     Ok(file)
 }
 
@@ -82,7 +88,7 @@ fn check_file<F: FileStore, J: Judge>(
     ensures sound { IfOk result IsSound }
     ensures kept { KeepsContents (F.content files.old) (F.content files.new) }
     ensures later { F.faults files.old ≤ F.faults files.new }
-    ensures same { (bytes : List ℕ) (answer : Answer) → J.answers judge.new bytes answer → J.answers judge.old bytes answer }
+    ensures same { (bytes : List ℕ) (judged : Judged) → J.answers judge.new bytes judged → J.answers judge.old bytes judged }
 {
     match files.read(alloc, name) {
         Ok(bytes) => {

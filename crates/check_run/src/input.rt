@@ -5,9 +5,9 @@ ghost use Rattle.check_run.specs.Checks.{IsChecked};
 ghost use Rattle.squawk_run.specs.Stops.{IsReadStop};
 ghost use Rattle.check_run.specs.Inputs.{IsStoppedBy, input_content, reads_input};
 
-use crate::files::{answered, named};
+use crate::files::{answered, named, unread_by};
 use crate::judge::Judge;
-use checked_file::{Answer, Checked};
+use checked_file::Checked;
 use source_file::Refusal;
 use squawk_run::{Stop, read_input};
 use squawk_stream::Source;
@@ -39,7 +39,7 @@ fn stopped(alloc: Global, name: &str, stop: Stop) -> Result<Checked, NoMemory>
         Stop::NoMemory => return Err(NoMemory),
         Stop::BadArguments | Stop::NotUtf8 | Stop::WriteFault => unreachable!(),
     };
-    let file = named(alloc, name, Vec::new(alloc), Answer::Refused(refusal))?;
+    let file = named(alloc, name, unread_by(alloc, refusal))?;
     Ok(file)
 }
 

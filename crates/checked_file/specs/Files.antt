@@ -2,6 +2,7 @@
 use Rattle.std.specs.Prelude.{ℕ, List, fold, take}
 use Rattle.std.specs.Str.Lossy.{utf8_valid_len}
 use Rattle.checked_file.specs.declared.checked.Checked.{Checked}
+use Rattle.checked_file.specs.declared.checked.Judged.{Judged}
 use Rattle.checked_file.specs.declared.status.Status.{Status}
 use Rattle.checked_file.specs.declared.status.Status.TheVariants.{Clean}
 use Rattle.checked_file.specs.Answers.{status_of}
@@ -14,3 +15,7 @@ readable_of bytes = take (utf8_valid_len bytes) bytes
 -- the greatest status of the files
 abbrev pub worst : List Checked → Status
 worst files = fold (λ s file. worse s (status_of file.answer)) Clean files
+
+-- what came of the bytes of a file
+abbrev pub judged_of : Checked → Judged
+judged_of file = record { bytes = file.bytes; passed = file.passed; answer = file.answer }

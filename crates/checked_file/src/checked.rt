@@ -6,14 +6,39 @@ use crate::answer::Answer;
 use crate::status::Status;
 use lint_base::Text;
 use simdutf8::compat::from_utf8;
+use text_pos::TextSize;
+
+/// The lines of a file that are for psql and no SQL: they were read as blanks.
+#[derive(Clone, Copy, Debug, PartialEq, Eq)]
+pub struct Passed {
+    /// Where the first of them begins, in bytes of the file.
+    pub first: TextSize,
+    /// How many are commands of psql itself.
+    pub commands: usize,
+    /// How many are data of a COPY .. FROM STDIN, with the lines `\.` that end them.
+    pub data_lines: usize,
+}
+
+/// What came of the bytes of a file.
+#[derive(Drop)]
+pub struct Judged {
+    /// The bytes as they were read: those of the file, in which the lines that were passed over are blank.
+    pub bytes: Vec<u8>,
+    /// What was passed over, if anything was.
+    pub passed: Option<Passed>,
+    /// What came of them.
+    pub answer: Answer,
+}
 
 /// A file, and what came of it.
 #[derive(Drop)]
 pub struct Checked {
     /// The name of the file.
     pub name: Text,
-    /// Its bytes: none where they could not be read.
+    /// Its bytes as they were read: none where they could not be.
     pub bytes: Vec<u8>,
+    /// What was passed over, if anything was.
+    pub passed: Option<Passed>,
     /// What came of it.
     pub answer: Answer,
 }

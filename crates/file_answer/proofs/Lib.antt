@@ -1,2 +1,2 @@
-mod Settings
-mod Placing
+pub mod Placing
+pub mod Reading

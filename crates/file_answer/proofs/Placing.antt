@@ -1,5 +1,5 @@
 -- Where the findings of a text are.
-use Rattle.std.proofs.Common.{◌≡◌, ◌∙◌, ap, arith, subst, sym, ℕ, List, All, length, take}
+use Rattle.std.proofs.Common.{◌≡◌, ◌∙◌, ap, arith, subst, sym, ℕ, List, All, IfSome, Option, Some, None, length, take}
 use Rattle.std.proofs.lemmas.List.{length-take-le, take_all}
 use Rattle.std.proofs.lemmas.List.Elements.{All-weaker}
 use Rattle.std.proofs.lemmas.Str.{IsCharBoundary-end, utf8_valid_len-IsUtf8, utf8_valid_len_le}
@@ -7,19 +7,34 @@ use Rattle.std.specs.Str.{IsCharBoundary, IsUtf8}
 use Rattle.std.specs.Str.Lossy.{utf8_valid_len}
 use Rattle.checked_file.specs.declared.answer.Answer.{Answer}
 use Rattle.checked_file.specs.Files.{readable_of}
-use Rattle.checked_file.specs.Sound.{IsIn}
+use Rattle.checked_file.specs.Sound.{AreEditsIn, IsIn, IsReportIn}
 use Rattle.law_fault_places.proofs.Places.{open_between, syntax_between}
-use Rattle.lint_base.specs.declared.violation.Violation.{Violation}
+use Rattle.lint_ignore.specs.Places.{IsPlace}
+use Rattle.lint_pass.specs.Laws.{AreEdits}
+use Rattle.lint_report.specs.declared.report.Report.{Report}
+use Rattle.lint_report.specs.declared.report.ReportFix.{ReportFix}
 use Rattle.source_file.specs.File.{IsRangeIn}
 use Rattle.sql_token.specs.Token.{OpenAt, Text}
 use Rattle.sql_tree.specs.Statement.{IsSyntaxAt}
-use Rattle.squawk_linter.specs.Placed.{IsPlaced}
+use Rattle.text_pos.specs.Range.{Range}
+use Rattle.text_reports.specs.Placed.{IsReportPlaced}
 
-report_in : (t : Text) (v : Violation) → IsPlaced t v → IsRangeIn t v.text_range
-report_in t v placed = record { ordered = placed.range.ordered; start = placed.range.start; end = placed.range.end }
+place_in : (t : Text) (r : Range) → IsPlace t r → IsRangeIn t r
+place_in t r place = record { ordered = place.ordered; start = place.start; end = place.end }
 
-pub reports_in : (t : Text) (reports : List Violation) → All (IsPlaced t) reports → All (λ v. IsRangeIn t v.text_range) reports
-reports_in t reports placed = All-weaker (IsPlaced t) (λ v. IsRangeIn t v.text_range) (report_in t) reports placed
+edits_in : (t : Text) (fix : Option ReportFix) → IfSome fix (λ f. AreEdits t f.fix.edits) → IfSome fix (λ f. AreEditsIn t f.fix.edits)
+edits_in t None h = tt
+edits_in t (Some f) h = All-weaker (λ e. IsPlace t e.text_range) (λ e. IsRangeIn t e.text_range) (λ e place. place_in t e.text_range place) f.fix.edits h.places
+
+report_in : (t : Text) (v : Report) → IsReportPlaced t v → IsReportIn t v
+report_in t v placed = record {
+  range = place_in t v.text_range placed.range;
+  statement = place_in t v.statement placed.statement;
+  edits = edits_in t v.fix placed.edits;
+}
+
+pub reports_in : (t : Text) (reports : List Report) → All (IsReportPlaced t) reports → All (IsReportIn t) reports
+reports_in t reports placed = All-weaker (IsReportPlaced t) (IsReportIn t) (report_in t) reports placed
 
 pub open_in : (t : Text) (at : ℕ) → OpenAt t at → IsCharBoundary t at
 open_in t at h = open_between t at h

@@ -1,26 +1,35 @@
 -- What comes of the bytes of a file.
-use Rattle.std.specs.Prelude.{◌≡◌}
+use Rattle.std.specs.Prelude.{◌≡◌, Bool, List}
 use Rattle.std.specs.Str.{IsUtf8}
 use Rattle.std.specs.Str.Lossy.{utf8_valid_len}
 use Rattle.checked_file.specs.declared.answer.Answer.{Answer}
 use Rattle.checked_file.specs.declared.answer.Answer.TheVariants.{Reports, Refused}
-use Rattle.lint_base.specs.RuleSets.{Rules}
-use Rattle.lint_base.specs.declared.settings.LinterSettings.{LinterSettings}
+use Rattle.checked_file.specs.declared.checked.Judged.{Judged}
+use Rattle.lint_report.specs.declared.report.Report.{Report}
 use Rattle.source_file.specs.declared.refusal.Refusal.TheVariants as refusal
 use Rattle.sql_token.specs.Token.{Text, OpenAt}
-use Rattle.sql_tree.specs.Statement.{IsSyntaxAt}
-use Rattle.squawk_linter.specs.Answers.{IsAnswer}
+use Rattle.sql_tree.specs.Statement.{IsSyntaxAt, IsTreeOf, Tree}
+use Rattle.text_reports.specs.declared.find.TextLinter.{TextLinter}
+use Rattle.text_reports.specs.Reports.{all_reports}
+use Rattle.file_answer.specs.Reading.{IsReadBy}
 
--- this comes of these bytes: the reports of the linter, or why there are none
-abbrev pub IsAnswerOf : Text → Rules → LinterSettings → Answer → Type 0
-IsAnswerOf t rules settings (Reports reports) = IsUtf8 t × IsAnswer t rules settings reports.items
-IsAnswerOf t rules settings (Refused refusal.Missing) = ⊥
-IsAnswerOf t rules settings (Refused refusal.Unreadable) = ⊥
-IsAnswerOf t rules settings (Refused (refusal.NotUtf8 at)) = (¬ (IsUtf8 t)) × (at ≡ utf8_valid_len t)
-IsAnswerOf t rules settings (Refused refusal.TooLong) = ⊥
-IsAnswerOf t rules settings (Refused (refusal.Unterminated at)) = IsUtf8 t × OpenAt t at
-IsAnswerOf t rules settings (Refused (refusal.Syntax at)) = IsUtf8 t × IsSyntaxAt t at
+-- all that is reported of a text, which has one tree
+pub record AreReportsOf (l : TextLinter) (t : Text) (reports : List Report) : Type 0 where
+  pub tree : Tree
+  pub of_text : IsTreeOf t tree
+  pub are : reports ≡ all_reports tree l.linter.rules l.hazards l.linter.settings
 
--- the settings are as before, but for the flag
-abbrev pub SameButFlag : LinterSettings → LinterSettings → Type 0
-SameButFlag old new = record new { assume_in_transaction = old.assume_in_transaction } ≡ old
+-- this comes of these bytes: what is reported, or why nothing can be
+abbrev pub IsAnswerOf : TextLinter → Text → Answer → Type 0
+IsAnswerOf l t (Reports reports) = IsUtf8 t × AreReportsOf l t reports.items
+IsAnswerOf l t (Refused refusal.Missing) = ⊥
+IsAnswerOf l t (Refused refusal.Unreadable) = ⊥
+IsAnswerOf l t (Refused (refusal.NotUtf8 at)) = (¬ (IsUtf8 t)) × (at ≡ utf8_valid_len t)
+IsAnswerOf l t (Refused refusal.TooLong) = ⊥
+IsAnswerOf l t (Refused (refusal.Unterminated at)) = IsUtf8 t × OpenAt t at
+IsAnswerOf l t (Refused (refusal.Syntax at)) = IsUtf8 t × IsSyntaxAt t at
+
+-- this comes of the bytes of a file: what is read of them, and what comes of that
+pub record IsJudgedAs (is_strict : Bool) (l : TextLinter) (t : Text) (j : Judged) : Type 0 where
+  pub read : IsReadBy is_strict t j.bytes.items j.passed
+  pub answer : IsAnswerOf l j.bytes.items j.answer

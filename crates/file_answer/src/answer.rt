@@ -1,27 +1,31 @@
 //! What comes of the bytes of a file.
 ghost use Rattle.std.specs.Prelude.{◌≡◌, ◌<◌, ◌^◌, IfOk, length};
 ghost use Rattle.checked_file.specs.Files.{readable_of};
-ghost use Rattle.checked_file.specs.Sound.{IsIn};
-ghost use Rattle.file_answer.specs.Answers.{IsAnswerOf, SameButFlag};
+ghost use Rattle.checked_file.specs.Sound.{IsIn, IsSoundAnswer};
+ghost use Rattle.file_answer.specs.Answers.{IsAnswerOf, IsJudgedAs};
 
-use checked_file::Answer;
+use crate::read::read_bytes;
+use checked_file::{Answer, Judged};
 use simdutf8::compat::from_utf8;
 use source_file::Refusal;
-use squawk_linter::{LintError, Linter, lint_text};
+use sql_read::{LintError, parse};
 use std::alloc::Global;
 use text_pos::{NoMemory, TextSize};
+use text_reports::{TextLinter, find_reports};
 
-// Lints a text. The flag of the linter may be cleared.
-#[tactic(auto, using(crate::proofs::Placing::reports_in, crate::proofs::Placing::open_in, crate::proofs::Placing::syntax_in, crate::proofs::Settings::same_kept, crate::proofs::Settings::same_answered, crate::proofs::Settings::same_stopped))]
-fn lint_str(alloc: Global, linter: &mut Linter, text: &str) -> Result<Answer, NoMemory>
+// Lints a text.
+#[tactic(auto, using(crate::proofs::Placing::reports_in, crate::proofs::Placing::open_in, crate::proofs::Placing::syntax_in))]
+fn lint_str(alloc: Global, linter: &mut TextLinter, text: &str) -> Result<Answer, NoMemory>
     requires { length text.now < 2 ^ 32 }
-    ensures answer { IfOk result (IsAnswerOf text.now linter.old.rules linter.old.settings) }
+    ensures answer { IfOk result (IsAnswerOf linter.old text.now) }
     ensures placed { IfOk result (IsIn text.now) }
-    ensures rules { linter.new.rules ≡ linter.old.rules }
-    ensures settings { SameButFlag linter.old.settings linter.new.settings }
+    ensures same { linter.new ≡ linter.old }
 {
-    match lint_text(linter, alloc, text) {
-        Ok(reports) => Ok(Answer::Reports(reports)),
+    match parse(alloc, text) {
+        Ok(file) => {
+            let reports = find_reports(alloc, linter, &file)?;
+            Ok(Answer::Reports(reports))
+        }
         Err(LintError::TooLong) => unreachable!(),
         Err(LintError::Unterminated { at }) => Ok(Answer::Refused(Refusal::Unterminated {
             at: TextSize::new(at),
@@ -33,14 +37,13 @@ fn lint_str(alloc: Global, linter: &mut Linter, text: &str) -> Result<Answer, No
     }
 }
 
-// Lints bytes. The flag of the linter may be cleared.
+// Lints bytes as they were read.
 #[tactic(auto, using(crate::proofs::Placing::end_in, crate::proofs::Placing::all_in))]
-fn lint_any(alloc: Global, linter: &mut Linter, bytes: &[u8]) -> Result<Answer, NoMemory>
+fn lint_read(alloc: Global, linter: &mut TextLinter, bytes: &[u8]) -> Result<Answer, NoMemory>
     requires { length bytes.now < 2 ^ 32 }
-    ensures answer { IfOk result (IsAnswerOf bytes.now linter.old.rules linter.old.settings) }
+    ensures answer { IfOk result (IsAnswerOf linter.old bytes.now) }
     ensures placed { IfOk result (IsIn (readable_of bytes.now)) }
-    ensures rules { linter.new.rules ≡ linter.old.rules }
-    ensures settings { SameButFlag linter.old.settings linter.new.settings }
+    ensures same { linter.new ≡ linter.old }
 {
     match from_utf8(bytes) {
         Ok(text) => lint_str(alloc, linter, text),
@@ -51,16 +54,24 @@ fn lint_any(alloc: Global, linter: &mut Linter, bytes: &[u8]) -> Result<Answer, 
     }
 }
 
-/// Lints the bytes of a file as `lint_text` does, and leaves the linter as it was. The findings are in the front of the bytes that is
-/// UTF-8. The error comes when memory runs out.
-pub fn lint_bytes(alloc: Global, linter: &mut Linter, bytes: &[u8]) -> Result<Answer, NoMemory>
-    requires { length bytes.now < 2 ^ 32 }
-    ensures answer { IfOk result (IsAnswerOf bytes.now linter.old.rules linter.old.settings) }
-    ensures placed { IfOk result (IsIn (readable_of bytes.now)) }
-    ensures linter { linter.new ≡ linter.old }
+/// Lints the bytes of a file, and leaves the linter as it was. What is for psql and no SQL is read as blanks, unless it is to be read as SQL
+/// too. The findings are in the front of the bytes as they were read that is UTF-8. The error comes when memory runs out.
+pub fn lint_bytes(
+    alloc: Global,
+    linter: &mut TextLinter,
+    is_strict: bool,
+    bytes: Vec<u8>,
+) -> Result<Judged, NoMemory>
+    requires { length bytes.items < 2 ^ 32 }
+    ensures judged { IfOk result (IsJudgedAs is_strict linter.old bytes.items) }
+    ensures sound { IfOk result IsSoundAnswer }
+    ensures same { linter.new ≡ linter.old }
 {
-    let assumed = linter.settings.assume_in_transaction;
-    let answer = lint_any(alloc, linter, bytes);
-    linter.settings.assume_in_transaction = assumed;
-    answer
+    let read = read_bytes(alloc, is_strict, bytes)?;
+    let answer = lint_read(alloc, linter, read.bytes.as_slice())?;
+    Ok(Judged {
+        bytes: read.bytes,
+        passed: read.passed,
+        answer,
+    })
 }

@@ -1,6 +1,6 @@
 //! The text in which all that is no SQL to psql is blank.
 
-ghost use Rattle.std.specs.Prelude.{◌≡◌, ◌<◌, ◌≤◌, ◌+◌, ◌-◌, ◌^◌, List, length, vec_len, IfOk};
+ghost use Rattle.std.specs.Prelude.{◌≡◌, ◌<◌, ◌≤◌, ◌+◌, ◌-◌, ◌^◌, List, length, vec_len, IfOk, IfSome};
 ghost use Rattle.std.specs.Str.{IsUtf8};
 ghost use Rattle.psql_text.specs.Psql as spec;
 ghost use Rattle.psql_text.specs.Psql.{Passes};
@@ -105,7 +105,8 @@ fn blank_parts(bytes: &[u8], text: &mut Vec<u8>, first: Found) -> Counts
 fn blank_from(alloc: Global, source: &str, first: Found) -> Result<Blanked, NoMemory>
     requires goes { GoesPast source.now (spec.start source.now) first }
     requires ahead { (r : Reading) × IsAhead source.now r first }
-    ensures { IfOk result (λ b. (ps : List Part) × Passes source.now ps × IsTold source.now ps b) }
+    ensures told { IfOk result (λ b. (ps : List Part) × Passes source.now ps × IsTold source.now ps b) }
+    ensures within { IfOk result (λ b. b.first < length source.now) }
 {
     let mut bytes = Vec::from_slice(alloc, source.as_bytes())?;
     let counts = blank_parts(source.as_bytes(), &mut bytes, first);
@@ -128,6 +129,7 @@ pub fn without_psql(alloc: Global, text: &str) -> Result<Option<Blanked>, NoMemo
     ensures some { IfOk result (λ answer. (ps : List Part) × Passes text.now ps × IsAnswer text.now ps answer) }
     // There are no other parts than these.
     ensures all { (ps : List Part) → Passes text.now ps → IfOk result (IsAnswer text.now ps) }
+    ensures within { IfOk result (λ answer. IfSome answer (λ b. b.first < length text.now)) }
 {
     let bytes = text.as_bytes();
     match next_part(bytes, start()) {

@@ -1,5 +1,5 @@
 use Rattle.std.proofs.Common.{◌≤◌, ℕ, All, List, take}
-use Rattle.checked_file.specs.declared.answer.Answer.{Answer}
+use Rattle.checked_file.specs.declared.checked.Judged.{Judged}
 use Rattle.checked_file.specs.Sound.{IsSound}
 use Rattle.file_store.specs.Contents.{KeepsContents}
 use Rattle.check_run.specs.Checks.{AreChecked}
@@ -12,5 +12,5 @@ invariant-loop-i g l = record {
   sound : All IsSound l.all.items;
   kept : KeepsContents (g.F.FileStore.content l.fn.files) (g.F.FileStore.content l.files);
   later : g.F.FileStore.faults l.fn.files ≤ g.F.FileStore.faults l.files;
-  same : (bytes : List ℕ) (answer : Answer) → g.J.Judge.answers l.judge bytes answer → g.J.Judge.answers l.fn.judge bytes answer;
+  same : (bytes : List ℕ) (judged : Judged) → g.J.Judge.answers l.judge bytes judged → g.J.Judge.answers l.fn.judge bytes judged;
 }

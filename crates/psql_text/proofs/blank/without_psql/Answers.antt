@@ -17,6 +17,6 @@ returns-in-None-clause-all c = λ ps p.
 
 pub returns-in_ok-blank_from-in-Some-clause-all : goal.returns-in_ok-blank_from-in-Some-clause-all
 returns-in_ok-blank_from-in-Some-clause-all c = λ ps p.
-    let had = c.in_ok-blank_from-in-Some.ensures.0 in
-    let same = reads_one (start c.args.text.now) had ps c.in_ok-blank_from-in-Some.ensures.1 p in
-    subst (λ (x : List Part). IsTold c.args.text.now x c.in_ok-blank_from-in-Some.field-0) same c.in_ok-blank_from-in-Some.ensures.2
+    let had = c.in_ok-blank_from-in-Some.ensures.told.0 in
+    let same = reads_one (start c.args.text.now) had ps c.in_ok-blank_from-in-Some.ensures.told.1 p in
+    subst (λ (x : List Part). IsTold c.args.text.now x c.in_ok-blank_from-in-Some.field-0) same c.in_ok-blank_from-in-Some.ensures.told.2
