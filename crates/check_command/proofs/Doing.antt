@@ -22,17 +22,17 @@ use Rattle.checked_file.specs.declared.status.Status.{Status}
 use Rattle.config_file.specs.declared.error.LoadError.{LoadError}
 use Rattle.config_file.specs.declared.error.LoadError.TheVariants as load
 use Rattle.file_answer.specs.declared.linter.FileLinter.{FileLinter}
-use Rattle.file_answer.specs.Answers.{IsAnswerOf}
+use Rattle.file_answer.specs.Answers.{IsJudgedAs}
 use Rattle.file_store.specs.Contents.{Content, KeepsContents}
 use Rattle.squawk_run.specs.declared.stop.Stop.{Stop}
 use Rattle.squawk_run.specs.declared.stop.Stop.TheVariants.{BadArguments, NotUtf8, TooLong, ReadFault, WriteFault, NoMemory}
-use Rattle.squawk_words.specs.declared.choices.Choices.{Choices}
+use Rattle.code_choice.specs.declared.choices.CodeChoices.{CodeChoices}
 use Rattle.squawk_words.specs.Words.{Text}
 use Rattle.std.specs.Io.KnownBytes.{Keeps}
 
 -- the answers of a linter
 abbrev pub answers_of : FileLinter → Answers
-answers_of judge bytes answer = IsAnswerOf bytes judge.linter.rules judge.linter.settings answer
+answers_of judge bytes judged = IsJudgedAs judge.is_strict judge.linter bytes judged
 
 -- what a run reads
 abbrev pub devices : (Text → Content) → ℕ → ℕ → Option (List ℕ) → ℕ → ℕ → Devices
@@ -58,19 +58,19 @@ left_weaker : (Are Be : List Checked → Type 0) (leaves : List Checked → List
 left_weaker Are Be leaves left f h = record { files = h.files; are = f h.files h.are; sifted = h.sifted }
 
 -- what is left of answers over files that hold what they held earlier
-left_moved : (choices : Choices) (setup : Setup) (content now : Text → Content) (before first last : ℕ) (left : Option (List ℕ)) (input input_now : ℕ) (request : Request) (files : List Checked)
+left_moved : (choices : CodeChoices) (setup : Setup) (content now : Text → Content) (before first last : ℕ) (left : Option (List ℕ)) (input input_now : ℕ) (request : Request) (files : List Checked)
     → KeepsContents content now → before ≤ first → AreLeftAnswers choices setup (devices now first last left input input_now) request files
     → AreLeftAnswers choices setup (devices content before last left input input_now) request files
 left_moved choices setup content now before first last left input input_now request files kept later h =
     let patterns = setup.config.excluded_paths in
-    left_weaker (AreAnswers (answers_by choices) (devices now first last left input input_now) patterns request)
-    (AreAnswers (answers_by choices) (devices content before last left input input_now) patterns request) (Leaves setup.sieve.baseline) files
-    (λ fs are. answers_moved (answers_by choices) content now before first last left input input_now patterns request fs kept later are) h
+    left_weaker (AreAnswers (answers_by choices request.strict) (devices now first last left input input_now) patterns request)
+    (AreAnswers (answers_by choices request.strict) (devices content before last left input input_now) patterns request) (Leaves setup.sieve.baseline) files
+    (λ fs are. answers_moved (answers_by choices request.strict) content now before first last left input input_now patterns request fs kept later are) h
 
 -- A run over files, after the configuration and the baseline were read from them.
 pub has_checked : (request : Request) (painted : Bool) (content now : Text → Content) (before first last : ℕ) (left : Option (List ℕ)) (input input_now : ℕ) (old new : Option (List ℕ)) (greatest : Status)
-    (setup : Setup) (choices : Choices) (judge : FileLinter) (style : Style) (fails : FailOn) → IsSetUp content request setup → KeepsContents content now → before ≤ first
-    → IsChosenBy setup.config request.linter choices → judge ≡ judge_by choices → style ≡ style_of request painted → fails ≡ fails_on request
+    (setup : Setup) (choices : CodeChoices) (judge : FileLinter) (style : Style) (fails : FailOn) → IsSetUp content request setup → KeepsContents content now → before ≤ first
+    → IsChosenBy setup.config request.linter choices → judge ≡ judge_by choices request.strict → style ≡ style_of request painted → fails ≡ fails_on request
     → HasRun (AreLeft (AreAnswers (answers_of judge) (devices now first last left input input_now) setup.config.excluded_paths request) (Leaves setup.sieve.baseline))
     (printed_by request.write_baseline style) old new greatest
     → HasChecked request painted (devices content before last left input input_now) old new (status_by fails greatest)
@@ -78,7 +78,7 @@ has_checked request painted content now before first last left input input_now o
     let d = devices now first last left input input_now in
     let patterns = setup.config.excluded_paths in
     let leaves = Leaves setup.sieve.baseline in
-    let run = subst (λ (s : Style). HasRun (AreLeft (AreAnswers (answers_by choices) d patterns request) leaves) (printed_by request.write_baseline s) old new greatest) in_style
+    let run = subst (λ (s : Style). HasRun (AreLeft (AreAnswers (answers_by choices request.strict) d patterns request) leaves) (printed_by request.write_baseline s) old new greatest) in_style
     (subst (λ (j : FileLinter). HasRun (AreLeft (AreAnswers (answers_of j) d patterns request) leaves) (printed_by request.write_baseline style) old new greatest) by ran) in
     record {
       setup = setup;
@@ -103,8 +103,8 @@ ended_err fails (Ok s) result P Q e f h = rw e h
 ended_err fails (Err stop) result P Q e f h = rw e (f stop h)
 
 pub has_stopped : (request : Request) (help version : List ℕ) (painted : Bool) (content now : Text → Content) (before first last : ℕ) (left : Option (List ℕ)) (input input_now : ℕ) (old new : Option (List ℕ))
-    (out_before out_now : ℕ) (stop : Stop) (setup : Setup) (choices : Choices) (judge : FileLinter) (style : Style) → IsSetUp content request setup → KeepsContents content now → before ≤ first
-    → IsChosenBy setup.config request.linter choices → judge ≡ judge_by choices → style ≡ style_of request painted
+    (out_before out_now : ℕ) (stop : Stop) (setup : Setup) (choices : CodeChoices) (judge : FileLinter) (style : Style) → IsSetUp content request setup → KeepsContents content now → before ≤ first
+    → IsChosenBy setup.config request.linter choices → judge ≡ judge_by choices request.strict → style ≡ style_of request painted
     → HasStopped (AreLeft (AreAnswers (answers_of judge) (devices now first last left input input_now) setup.config.excluded_paths request) (Leaves setup.sieve.baseline))
     (printed_by request.write_baseline style) old new out_before out_now stop
     → StoppedFor (Check request) help version painted (devices content before last left input input_now) old new out_before out_now (failure.Stop stop)
@@ -117,7 +117,7 @@ has_stopped request help version painted content now before first last left inpu
     let d = devices now first last left input input_now in
     let patterns = setup.config.excluded_paths in
     let leaves = Leaves setup.sieve.baseline in
-    let part = subst (λ (s : Style). HasStopped (AreLeft (AreAnswers (answers_by choices) d patterns request) leaves) (printed_by request.write_baseline s) old new out_before out_now WriteFault) in_style
+    let part = subst (λ (s : Style). HasStopped (AreLeft (AreAnswers (answers_by choices request.strict) d patterns request) leaves) (printed_by request.write_baseline s) old new out_before out_now WriteFault) in_style
     (subst (λ (j : FileLinter). HasStopped (AreLeft (AreAnswers (answers_of j) d patterns request) leaves) (printed_by request.write_baseline style) old new out_before out_now WriteFault) by h) in
     record {
       setup = setup;
