@@ -7,7 +7,7 @@ use Rattle.checked_file.specs.declared.answer.Answer.{Answer}
 use Rattle.checked_file.specs.declared.answer.Answer.TheVariants.{Reports, Refused}
 use Rattle.checked_file.specs.declared.checked.Checked.{Checked}
 use Rattle.checked_file.specs.Files.{readable_of}
-use Rattle.lint_base.specs.declared.violation.Violation.{Violation}
+use Rattle.lint_report.specs.declared.report.Report.{Report}
 use Rattle.report_gitlab.specs.Issues.{report_fingerprint}
 use Rattle.check_baseline.specs.declared.baseline.Baseline.{Baseline}
 use Rattle.check_baseline.specs.declared.baseline.BaselineError.{BaselineError}
@@ -68,11 +68,11 @@ IsNoBaseline text NoMemory = ⊤
 -- ---- reports
 
 -- a baseline has the fingerprint of a report
-abbrev pub is_known : Baseline → Text → Text → Violation → Bool
+abbrev pub is_known : Baseline → Text → Text → Report → Bool
 is_known baseline name text v = knows baseline (report_fingerprint name text v)
 
 -- the reports that a baseline does not know, in their order
-abbrev pub unknown_reports : Baseline → Text → Text → List Violation → List Violation
+abbrev pub unknown_reports : Baseline → Text → Text → List Report → List Report
 unknown_reports baseline name text reports = filter (λ v. not (is_known baseline name text v)) reports
 
 -- ---- files

@@ -5,8 +5,8 @@ use Rattle.checked_file.specs.declared.answer.Answer.{Answer}
 use Rattle.checked_file.specs.declared.answer.Answer.TheVariants.{Reports, Refused}
 use Rattle.checked_file.specs.declared.checked.Checked.{Checked}
 use Rattle.checked_file.specs.Files.{readable_of}
-use Rattle.lint_base.specs.declared.violation.Violation.{Violation}
-use Rattle.lint_base.specs.Rules.{name_of}
+use Rattle.lint_report.specs.declared.report.Report.{Report}
+use Rattle.lint_report.specs.Codes.{name_of}
 use Rattle.source_file.specs.declared.refusal.Refusal.{Refusal}
 use Rattle.source_file.specs.Refusals.{message_of}
 use Rattle.source_file.specs.Shown.{shown}
@@ -18,7 +18,7 @@ abbrev pub heading : Text
 heading = codes "# Reports that lavkheto lets pass: fingerprint, rule, file. Written by --write-baseline.\n"
 
 -- the line of a report: its fingerprint, and for people the rule and the file, as it is shown on a terminal
-unfoldable pub report_line : Text → Text → Violation → Text
+unfoldable pub report_line : Text → Text → Report → Text
 report_line name text v = report_fingerprint name text v ++ codes " " ++ name_of v.code ++ codes " " ++ shown name ++ codes "\n"
 
 unfoldable pub refusal_mark : Text

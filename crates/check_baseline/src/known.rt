@@ -1,14 +1,14 @@
 //! Files without the reports that a baseline knows.
 ghost use Rattle.std.specs.Prelude.{◌≡◌, All, IfOk, string_bytes};
 ghost use Rattle.std.specs.List.{AllZip};
-ghost use Rattle.checked_file.specs.Sound.{IsIn, IsSound};
+ghost use Rattle.checked_file.specs.Sound.{IsIn, IsReportIn, IsSound};
 ghost use Rattle.source_file.specs.File.{IsRangeIn};
 ghost use Rattle.report_gitlab.specs.Issues.{report_fingerprint};
 ghost use Rattle.check_baseline.specs.Known.{IsLeft, IsLeftOf, is_known, unknown_reports};
 
 use crate::baseline::Baseline;
 use checked_file::{Answer, Checked, readable};
-use lint_base::Violation;
+use lint_report::Report;
 use report_gitlab::report_fingerprint;
 use std::alloc::Global;
 use text_pos::NoMemory;
@@ -18,9 +18,9 @@ pub(crate) fn print_of(
     alloc: Global,
     name: &str,
     text: &str,
-    report: &Violation,
+    report: &Report,
 ) -> Result<String, NoMemory>
-    requires { IsRangeIn text.now report.now.text_range }
+    requires { IsRangeIn text.now report.now.statement }
     ensures { IfOk result (λ print. string_bytes print ≡ report_fingerprint name.now text.now report.now) }
 {
     let print = report_fingerprint(alloc, name, text, report)?;
@@ -33,9 +33,9 @@ fn is_known(
     baseline: &Baseline,
     name: &str,
     text: &str,
-    report: &Violation,
+    report: &Report,
 ) -> Result<bool, NoMemory>
-    requires { IsRangeIn text.now report.now.text_range }
+    requires { IsReportIn text.now report.now }
     ensures { IfOk result (λ known. known ≡ is_known baseline.now name.now text.now report.now) }
 {
     let print = print_of(alloc, name, text, report)?;
@@ -48,9 +48,9 @@ fn unknown_reports(
     baseline: &Baseline,
     name: &str,
     text: &str,
-    reports: Vec<Violation>,
-) -> Result<Vec<Violation>, NoMemory>
-    requires { All (λ v. IsRangeIn text.now v.text_range) reports.items }
+    reports: Vec<Report>,
+) -> Result<Vec<Report>, NoMemory>
+    requires { All (IsReportIn text.now) reports.items }
     ensures { IfOk result (λ kept. kept.items ≡ unknown_reports baseline.now name.now text.now reports.items) }
 {
     let mut kept = Vec::new(alloc);

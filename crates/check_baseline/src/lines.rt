@@ -1,13 +1,12 @@
 //! The text of a baseline.
 ghost use Rattle.std.specs.Prelude.{◌≡◌, ◌++◌, All, IfOk, OnOk, [], string_bytes};
 ghost use Rattle.std.specs.List.{flat_map};
-ghost use Rattle.checked_file.specs.Sound.{IsIn, IsSound};
-ghost use Rattle.source_file.specs.File.{IsRangeIn};
+ghost use Rattle.checked_file.specs.Sound.{IsIn, IsReportIn, IsSound};
 ghost use Rattle.check_baseline.specs.Written.{answer_lines, file_lines, heading, refusal_line, refusal_mark, report_line, written};
 
 use crate::known::print_of;
 use checked_file::{Answer, Checked, readable};
-use lint_base::Violation;
+use lint_report::Report;
 use source_file::{Refusal, push_shown};
 use std::alloc::Global;
 use text_pos::NoMemory;
@@ -23,9 +22,9 @@ fn push_line(
     alloc: Global,
     name: &str,
     text: &str,
-    report: &Violation,
+    report: &Report,
 ) -> Result<(), NoMemory>
-    requires { IsRangeIn text.now report.now.text_range }
+    requires { IsReportIn text.now report.now }
     ensures { OnOk result (to.new.items ≡ to.old.items ++ report_line name.now text.now report.now) }
 {
     let print = print_of(alloc, name, text, report)?;
@@ -44,9 +43,9 @@ fn push_lines(
     alloc: Global,
     name: &str,
     text: &str,
-    reports: &[Violation],
+    reports: &[Report],
 ) -> Result<(), NoMemory>
-    requires { All (λ v. IsRangeIn text.now v.text_range) reports.now }
+    requires { All (IsReportIn text.now) reports.now }
     ensures { OnOk result (to.new.items ≡ to.old.items ++ flat_map (report_line name.now text.now) reports.now) }
 {
     for report in reports {

@@ -3,20 +3,20 @@ use Rattle.std.proofs.Common.{◌≡◌, ◌∙◌, ◌+◌, ◌++◌, ◌<◌, 
 use Rattle.std.proofs.lemmas.List.{drop_all, drop_more}
 use Rattle.checked_file.specs.declared.checked.Checked.{Checked}
 use Rattle.checked_file.specs.Answers.{has_findings}
-use Rattle.lint_base.specs.declared.violation.Violation.{Violation}
+use Rattle.lint_report.specs.declared.report.Report.{Report}
 use Rattle.source_file.specs.File.{FileValue}
 use Rattle.check_print.specs.declared.style.Style.{Style}
 use Rattle.check_print.specs.Printed.{printed_file, printed_files, printed_reports, separated}
 
 -- one report more
-pub report_pushed : (style : Style) (file : FileValue) (xs : List Violation) (i : ℕ) (behind : Bool) (x : Violation) (to new all : List ℕ) → i < length xs → x ≡ get_or xs i x
+pub report_pushed : (style : Style) (file : FileValue) (xs : List Report) (i : ℕ) (behind : Bool) (x : Report) (to new all : List ℕ) → i < length xs → x ≡ get_or xs i x
     → to ++ printed_reports style behind file (drop i xs) ≡ all → new ≡ to ++ separated style behind file x → new ++ printed_reports style true file (drop (i + 1) xs) ≡ all
 report_pushed style file xs i behind x to new all h e p q =
     let front : drop i xs ≡ x ∷ drop (i + 1) xs = drop_more xs i x h ∙ ap (λ y. y ∷ drop (i + 1) xs) (sym e) in
     let before : to ++ (separated style behind file x ++ printed_reports style true file (drop (i + 1) xs)) ≡ all = rw front at p in
     rw q (append_assoc to (separated style behind file x) (printed_reports style true file (drop (i + 1) xs)) ∙ before)
 
-pub reports_end : (style : Style) (file : FileValue) (xs : List Violation) (i : ℕ) (behind : Bool) (to all : List ℕ) → length xs ≤ i
+pub reports_end : (style : Style) (file : FileValue) (xs : List Report) (i : ℕ) (behind : Bool) (to all : List ℕ) → length xs ≤ i
     → to ++ printed_reports style behind file (drop i xs) ≡ all → to ≡ all
 reports_end style file xs i behind to all h p =
     let none : drop i xs ≡ [] = drop_all i xs h in

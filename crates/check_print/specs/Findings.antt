@@ -2,8 +2,8 @@
 use Rattle.std.specs.Prelude.{ℕ, Bool, List, [], ◌++◌, codes, if◌then◌else◌}
 use Rattle.check_words.specs.declared.request.Format.{Format}
 use Rattle.check_words.specs.declared.request.Format.TheVariants as format
-use Rattle.lint_base.specs.declared.violation.Violation.{Violation}
-use Rattle.lint_base.specs.Rules.{name_of}
+use Rattle.lint_report.specs.declared.report.Report.{Report}
+use Rattle.lint_report.specs.Codes.{name_of}
 use Rattle.report_gitlab.specs.Issues as gitlab
 use Rattle.report_json.specs.Objects as json
 use Rattle.report_lines.specs.declared.concise.Order.{Order}
@@ -19,16 +19,16 @@ use Rattle.source_file.specs.File.{FileValue}
 use Rattle.source_file.specs.Refusals as refusals
 
 -- a report on a line
-abbrev pub report_line : Order → FileValue → Violation → List ℕ
+abbrev pub report_line : Order → FileValue → Report → List ℕ
 report_line order file v = concise order file v.text_range.start Warning (name_of v.code) v.message
 
 -- a report as a workflow command
-abbrev pub report_command : FileValue → Violation → List ℕ
+abbrev pub report_command : FileValue → Report → List ℕ
 report_command file v =
     command file v.text_range Warning (name_of v.code) v.message ++ detail (codes "note") v.note ++ detail (codes "help") v.help ++ codes "\n"
 
 -- a report
-unfoldable pub printed_report : Format → Bool → FileValue → Violation → List ℕ
+unfoldable pub printed_report : Format → Bool → FileValue → Report → List ℕ
 printed_report format.Text color file v = text.printed_report color file v
 printed_report format.Concise color file v = report_line RuleFirst file v
 printed_report format.Gcc color file v = report_line RuleLast file v

@@ -7,14 +7,14 @@ use Rattle.checked_file.specs.declared.answer.Answer.TheVariants.{Reports, Refus
 use Rattle.checked_file.specs.declared.checked.Checked.{Checked}
 use Rattle.checked_file.specs.Answers.{has_findings}
 use Rattle.checked_file.specs.Files.{readable_of}
-use Rattle.lint_base.specs.declared.violation.Violation.{Violation}
+use Rattle.lint_report.specs.declared.report.Report.{Report}
 use Rattle.report_sarif.specs.Log as sarif
 use Rattle.report_text.specs.Closing as text
 use Rattle.source_file.specs.File.{FileValue}
 use Rattle.check_print.specs.declared.style.Style.{Style}
 use Rattle.check_print.specs.Counted.{counts_of}
 use Rattle.check_print.specs.Findings.{printed_refusal, printed_report, separator}
-use Rattle.check_print.specs.Statistics.{rule_lines}
+use Rattle.check_print.specs.Statistics.{code_lines}
 
 -- ---- one file
 
@@ -23,11 +23,11 @@ abbrev pub source_of : Checked → FileValue
 source_of file = record { name = file.name; text = readable_of file.bytes.items }
 
 -- a report with what is before it
-abbrev pub separated : Style → Bool → FileValue → Violation → List ℕ
+abbrev pub separated : Style → Bool → FileValue → Report → List ℕ
 separated style follows file v = separator style.format follows ++ printed_report style.format style.color file v
 
 -- reports, the first of them by whether a finding was before it
-abbrev pub printed_reports : Style → Bool → FileValue → List Violation → List ℕ
+abbrev pub printed_reports : Style → Bool → FileValue → List Report → List ℕ
 printed_reports style follows file [] = []
 printed_reports style follows file (v ∷ vs) = separated style follows file v ++ printed_reports style true file vs
 
@@ -55,9 +55,9 @@ opening format.Json = codes "["
 opening format.Sarif = sarif.opening
 opening format.Gitlab = codes "["
 
--- the lines that count the reports of each rule, where these are asked for
+-- the lines that count the reports of each rule and hazard, where these are asked for
 unfoldable pub statistics : Style → List Checked → List ℕ
-statistics style files = if style.statistics then rule_lines files else []
+statistics style files = if style.statistics then code_lines files else []
 
 -- the line that counts all, where nothing but the findings is not asked for
 unfoldable pub last_line : Style → List Checked → List ℕ

@@ -1,13 +1,12 @@
 //! What came of one file.
 ghost use Rattle.std.specs.Prelude.{◌≡◌, ◌++◌, All, OnOk};
-ghost use Rattle.source_file.specs.File.{IsRangeIn};
-ghost use Rattle.checked_file.specs.Sound.{IsIn, IsSound};
+ghost use Rattle.checked_file.specs.Sound.{IsIn, IsReportIn, IsSound};
 ghost use Rattle.check_print.specs.Printed.{printed_answer, printed_file, printed_reports, separated};
 
 use crate::finding::{push_refusal, push_report, push_separator};
 use crate::style::Style;
 use checked_file::{Answer, Checked, readable};
-use lint_base::Violation;
+use lint_report::Report;
 use source_file::SourceFile;
 use std::alloc::Global;
 use text_pos::NoMemory;
@@ -20,9 +19,9 @@ fn push_separated(
     style: Style,
     follows: bool,
     file: &SourceFile<'_>,
-    report: &Violation,
+    report: &Report,
 ) -> Result<(), NoMemory>
-    requires { IsRangeIn file.now.text report.now.text_range }
+    requires { IsReportIn file.now.text report.now }
     ensures { OnOk result (to.new.items ≡ to.old.items ++ separated style follows file.now report.now) }
 {
     push_separator(to, style.format, follows)?;
@@ -36,9 +35,9 @@ fn push_reports(
     style: Style,
     follows: bool,
     file: &SourceFile<'_>,
-    reports: &[Violation],
+    reports: &[Report],
 ) -> Result<(), NoMemory>
-    requires { All (λ v. IsRangeIn file.now.text v.text_range) reports.now }
+    requires { All (IsReportIn file.now.text) reports.now }
     ensures { OnOk result (to.new.items ≡ to.old.items ++ printed_reports style follows file.now reports.now) }
 {
     let mut behind = follows;

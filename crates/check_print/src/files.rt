@@ -6,7 +6,7 @@ ghost use Rattle.report_sarif.specs.Log as sarif;
 
 use crate::answer::push_file;
 use crate::counts::counts_of;
-use crate::statistics::push_rule_lines;
+use crate::statistics::push_code_lines;
 use crate::style::Style;
 use check_words::Format;
 use checked_file::Checked;
@@ -51,13 +51,13 @@ fn push_opening(to: &mut Vec<u8>, format: Format) -> Result<(), NoMemory>
     }
 }
 
-// Adds the lines that count the reports of each rule, where these are asked for.
+// Adds the lines that count the reports of each rule and hazard, where these are asked for.
 #[tactic(auto, unfolding(crate::specs::Printed::statistics))]
 fn push_statistics(to: &mut Vec<u8>, style: Style, files: &[Checked]) -> Result<(), NoMemory>
     ensures { OnOk result (to.new.items ≡ to.old.items ++ statistics style files.now) }
 {
     if style.statistics {
-        push_rule_lines(to, files)
+        push_code_lines(to, files)
     } else {
         push(to, b"")
     }

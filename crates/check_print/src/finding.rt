@@ -1,13 +1,13 @@
 //! One finding in each format.
 ghost use Rattle.std.specs.Prelude.{◌≡◌, ◌++◌, OnOk};
 ghost use Rattle.std.specs.Str.{IsCharBoundary};
-ghost use Rattle.source_file.specs.File.{IsRangeIn};
+ghost use Rattle.checked_file.specs.Sound.{IsReportIn};
 ghost use Rattle.source_file.specs.Refusals.{place_of};
 ghost use Rattle.check_print.specs.Findings.{array_separator, printed_refusal, printed_report, refusal_command, refusal_line, report_command, report_line, separator};
 
 use crate::style::Style;
 use check_words::Format;
-use lint_base::Violation;
+use lint_report::Report;
 use report_lines::{Order, push, push_command, push_concise, push_detail};
 use source_file::{Level, Refusal, SourceFile};
 use std::alloc::Global;
@@ -18,9 +18,9 @@ fn push_report_line(
     to: &mut Vec<u8>,
     order: Order,
     file: &SourceFile<'_>,
-    report: &Violation,
+    report: &Report,
 ) -> Result<(), NoMemory>
-    requires { IsRangeIn file.now.text report.now.text_range }
+    requires { IsReportIn file.now.text report.now }
     ensures { OnOk result (to.new.items ≡ to.old.items ++ report_line order file.now report.now) }
 {
     let name = report.code.name().as_bytes();
@@ -35,9 +35,9 @@ fn push_report_command(
     to: &mut Vec<u8>,
     alloc: Global,
     file: &SourceFile<'_>,
-    report: &Violation,
+    report: &Report,
 ) -> Result<(), NoMemory>
-    requires { IsRangeIn file.now.text report.now.text_range }
+    requires { IsReportIn file.now.text report.now }
     ensures { OnOk result (to.new.items ≡ to.old.items ++ report_command file.now report.now) }
 {
     let name = report.code.name().as_bytes();
@@ -63,9 +63,9 @@ pub(crate) fn push_report(
     alloc: Global,
     style: Style,
     file: &SourceFile<'_>,
-    report: &Violation,
+    report: &Report,
 ) -> Result<(), NoMemory>
-    requires { IsRangeIn file.now.text report.now.text_range }
+    requires { IsReportIn file.now.text report.now }
     ensures { OnOk result (to.new.items ≡ to.old.items ++ printed_report style.format style.color file.now report.now) }
 {
     match style.format {

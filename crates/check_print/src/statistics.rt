@@ -1,71 +1,123 @@
-//! How many reports each rule has.
+//! How many reports each rule and each hazard has.
 ghost use Rattle.std.specs.Prelude.{◌≡◌, ◌++◌, OnOk, flat_map};
-ghost use Rattle.lint_base.specs.RuleNames.{same_rule};
-ghost use Rattle.check_print.specs.Statistics.{count_in, count_of, rule_line, rule_lines};
+ghost use Rattle.hazard_base.specs.Hazards.{all_hazards};
+ghost use Rattle.lint_base.specs.Rules.{all_rules};
+ghost use Rattle.check_print.specs.Statistics.{code_line, code_lines, count_in, count_of, hazard_line, rule_line, same_code};
 
 use checked_file::{Answer, Checked};
-use lint_base::{Rule, Violation};
+use hazard_base::Hazard;
+use lint_base::Rule;
+use lint_report::{Code, Report};
 use report_lines::{push, push_number};
 use text_pos::NoMemory;
 
-// Whether a report is of a rule.
+// Whether two codes are one.
 #[tactic(auto, unfolding(lint_base::specs::RuleNames::same_rule))]
-fn is_of(report: &Violation, rule: Rule) -> bool
-    ensures { result ≡ same_rule report.now.code rule }
+fn same_code(code: Code, other: Code) -> bool
+    ensures { result ≡ same_code code other }
 {
-    report.code == rule
+    match code {
+        Code::Rule(rule) => match other {
+            Code::Rule(second) => rule == second,
+            Code::Hazard(_) => false,
+        },
+        Code::Hazard(hazard) => match other {
+            Code::Rule(_) => false,
+            Code::Hazard(second) => hazard.is(second),
+        },
+    }
 }
 
-// How many reports a rule has for one file.
-fn count_in(rule: Rule, answer: &Answer) -> usize
-    ensures { result ≡ count_in rule answer.now }
+// Whether a report goes by a code.
+fn is_of(report: &Report, code: Code) -> bool
+    ensures { result ≡ same_code report.now.code code }
+{
+    same_code(report.code, code)
+}
+
+// How many reports a code has for one file.
+fn count_in(code: Code, answer: &Answer) -> usize
+    ensures { result ≡ count_in code answer.now }
 {
     match answer {
-        Answer::Reports(reports) => reports.iter().filter(|report| is_of(report, rule)).count(),
+        Answer::Reports(reports) => reports.iter().filter(|report| is_of(report, code)).count(),
         Answer::Refused(_) => 0,
     }
 }
 
-// How many reports a rule has for all files. A number past 2^64 - 1 is given as that.
-fn count_of(rule: Rule, files: &[Checked]) -> usize
-    ensures { result ≡ count_of rule files.now }
+// How many reports a code has for all files. A number past 2^64 - 1 is given as that.
+fn count_of(code: Code, files: &[Checked]) -> usize
+    ensures { result ≡ count_of code files.now }
 {
     let mut count: usize = 0;
     for file in files {
-        count = count.saturating_add(count_in(rule, &file.answer));
+        count = count.saturating_add(count_in(code, &file.answer));
     }
     count
 }
 
-// Adds the line of a rule, where it has reports.
-#[tactic(auto, unfolding(crate::specs::Statistics::rule_line))]
-fn push_rule_line(to: &mut Vec<u8>, rule: Rule, count: usize) -> Result<(), NoMemory>
-    ensures { OnOk result (to.new.items ≡ to.old.items ++ rule_line rule count) }
+// Adds the line of a code, where it has reports.
+#[tactic(auto, unfolding(crate::specs::Statistics::code_line))]
+fn push_code_line(to: &mut Vec<u8>, code: Code, count: usize) -> Result<(), NoMemory>
+    ensures { OnOk result (to.new.items ≡ to.old.items ++ code_line code count) }
 {
     if count == 0 {
         return Ok(());
     }
-    push(to, rule.name().as_bytes())?;
+    push(to, code.name().as_bytes())?;
     push(to, b": ")?;
     push_number(to, count)?;
     push(to, b"\n")
 }
 
 // Adds the lines of rules, in order.
-fn push_lines(to: &mut Vec<u8>, rules: &[Rule], files: &[Checked]) -> Result<(), NoMemory>
-    ensures { OnOk result (to.new.items ≡ to.old.items ++ flat_map (λ rule. rule_line rule (count_of rule files.now)) rules.now) }
+fn push_rule_lines(to: &mut Vec<u8>, rules: &[Rule], files: &[Checked]) -> Result<(), NoMemory>
+    ensures { OnOk result (to.new.items ≡ to.old.items ++ flat_map (rule_line files.now) rules.now) }
 {
     for rule in rules {
-        let count = count_of(*rule, files);
-        push_rule_line(to, *rule, count)?;
+        let code = Code::Rule(*rule);
+        push_code_line(to, code, count_of(code, files))?;
     }
     Ok(())
 }
 
-/// Adds a line for each rule that has reports, in the order in which rules are declared. The error comes when memory runs out.
-#[tactic(auto, unfolding(crate::specs::Statistics::rule_lines, lint_base::specs::Rules::all_rules))]
-pub(crate) fn push_rule_lines(to: &mut Vec<u8>, files: &[Checked]) -> Result<(), NoMemory>
-    ensures { OnOk result (to.new.items ≡ to.old.items ++ rule_lines files.now) }
+// Adds the lines of hazards, in order.
+fn push_hazard_lines(
+    to: &mut Vec<u8>,
+    hazards: &[Hazard],
+    files: &[Checked],
+) -> Result<(), NoMemory>
+    ensures { OnOk result (to.new.items ≡ to.old.items ++ flat_map (hazard_line files.now) hazards.now) }
 {
-    push_lines(to, &Rule::ALL, files)
+    for hazard in hazards {
+        let code = Code::Hazard(*hazard);
+        push_code_line(to, code, count_of(code, files))?;
+    }
+    Ok(())
+}
+
+// Adds the lines of all rules.
+#[tactic(auto, unfolding(lint_base::specs::Rules::all_rules))]
+fn push_all_rules(to: &mut Vec<u8>, files: &[Checked]) -> Result<(), NoMemory>
+    ensures { OnOk result (to.new.items ≡ to.old.items ++ flat_map (rule_line files.now) all_rules) }
+{
+    push_rule_lines(to, &Rule::ALL, files)
+}
+
+// Adds the lines of all hazards.
+#[tactic(auto, unfolding(hazard_base::specs::Hazards::all_hazards))]
+fn push_all_hazards(to: &mut Vec<u8>, files: &[Checked]) -> Result<(), NoMemory>
+    ensures { OnOk result (to.new.items ≡ to.old.items ++ flat_map (hazard_line files.now) all_hazards) }
+{
+    push_hazard_lines(to, &Hazard::ALL, files)
+}
+
+/// Adds a line for each rule that has reports, and then for each hazard that has some, both in the order in which they are declared. The
+/// error comes when memory runs out.
+#[tactic(auto, unfolding(crate::specs::Statistics::code_lines), using(std::proofs::lemmas::List::append_assoc))]
+pub(crate) fn push_code_lines(to: &mut Vec<u8>, files: &[Checked]) -> Result<(), NoMemory>
+    ensures { OnOk result (to.new.items ≡ to.old.items ++ code_lines files.now) }
+{
+    push_all_rules(to, files)?;
+    push_all_hazards(to, files)
 }

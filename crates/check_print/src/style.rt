@@ -11,6 +11,6 @@ pub struct Style {
     pub color: bool,
     /// Whether the findings are all that is written: no line that counts them all.
     pub quiet: bool,
-    /// Whether the reports of each rule are counted, in the formats that are lines for people: not in `json`, `sarif` and `gitlab`.
+    /// Whether the reports of each rule and hazard are counted, in the formats that are lines for people: not in `json`, `sarif` and `gitlab`.
     pub statistics: bool,
 }

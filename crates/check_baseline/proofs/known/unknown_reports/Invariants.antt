@@ -1,6 +1,6 @@
 use Rattle.std.proofs.Common.{◌≡◌, ◌++◌, All}
 use Rattle.std.specs.Vec.Iter.{into_iter_items}
-use Rattle.source_file.specs.File.{IsRangeIn}
+use Rattle.checked_file.specs.Sound.{IsReportIn}
 use Rattle.check_baseline.specs.Known.{unknown_reports}
 use Rattle.check_baseline.proofs.known.unknown_reports.Given as goal
 
@@ -8,5 +8,5 @@ use Rattle.check_baseline.proofs.known.unknown_reports.Given as goal
 abbrev pub invariant-loop-report : goal.invariant-loop-report
 invariant-loop-report l = record {
   kept : l.kept.items ++ unknown_reports l.baseline l.name l.text (into_iter_items l.report-iterator) ≡ unknown_reports l.baseline l.name l.text l.fn.reports.items;
-  placed : All (λ v. IsRangeIn l.text v.text_range) (into_iter_items l.report-iterator);
+  placed : All (IsReportIn l.text) (into_iter_items l.report-iterator);
 }

@@ -6,6 +6,16 @@ use Rattle.check_baseline.specs.Known.{IsLeft}
 use Rattle.check_baseline.proofs.Steps.{all_after, zip_snoc}
 use Rattle.check_baseline.proofs.known.without_known.Goals as goal
 
+pub loop-file-init : goal.loop-file-init
+loop-file-init c =
+    let given = c.into_iter-file-iterator.ensures.into_iter_gives.0 in
+    record {
+      others = sym given;
+      left = subst (λ ys. AllZip (IsLeft c.args.baseline.now) [] ys) (sym c.new-all.ensures.items) tt;
+      sound = subst (λ ys. All IsSound ys) (sym c.new-all.ensures.items) (All-nil IsSound);
+      sound_others = subst (λ xs. All IsSound xs) (sym given) c.requires;
+    }
+
 pub loop-file-preserved : goal.loop-file-preserved
 loop-file-preserved c =
     let step = c.in-Some.ensures.steps.0 in

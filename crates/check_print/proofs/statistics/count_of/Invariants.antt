@@ -5,4 +5,4 @@ use Rattle.check_print.proofs.statistics.count_of.Given as goal
 
 -- the count so far, and then those of the files that are left
 abbrev pub invariant-loop-file : goal.invariant-loop-file
-invariant-loop-file l = fold (λ n file. capped (n + count_in l.rule file.answer)) l.count (drop l.file-index l.files) ≡ count_of l.rule l.files
+invariant-loop-file l = fold (λ n file. capped (n + count_in l.code file.answer)) l.count (drop l.file-index l.files) ≡ count_of l.code l.files
