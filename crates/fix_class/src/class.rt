@@ -1,0 +1,148 @@
+//! The classes.
+ghost use Rattle.std.specs.Prelude.{◌≡◌, IfOk};
+ghost use Rattle.lint_base.specs.declared.settings.LinterSettings.{LinterSettings};
+ghost use Rattle.fix_class.specs.Classes as spec;
+ghost use Rattle.fix_class.specs.Known.{AreKnown};
+
+use crate::known::{Known, each_known};
+use crate::number::number_of;
+use crate::word::says;
+use lint_base::{LinterSettings, Rule, Violation};
+use lint_report::FixClass;
+use sql_tree::{Body, Parse, Stmt};
+use std::alloc::Global;
+use std::marker::Model;
+use text_pos::NoMemory;
+
+fn safe_unless(doubt: bool) -> FixClass
+    ensures { result ≡ spec.safe_unless doubt }
+{
+    if doubt {
+        FixClass::Unsafe
+    } else {
+        FixClass::Safe
+    }
+}
+
+// The class of a fix that puts CONCURRENTLY into a statement.
+fn concurrent(known: Known, doubt: bool) -> Option<FixClass>
+    ensures { result ≡ spec.concurrent known doubt }
+{
+    if known.is_inside {
+        return None;
+    }
+    Some(safe_unless(doubt || known.is_limited))
+}
+
+// Whether the index is built unless it is there.
+fn is_guarded(s: &Stmt) -> bool
+    ensures { result ≡ spec.is_guarded_by s.now.body }
+{
+    match s.body {
+        Body::Index { guarded, .. } => guarded,
+        _ => false,
+    }
+}
+
+// Whether more than one index is dropped.
+fn drops_many(s: &Stmt) -> bool
+    ensures { result ≡ spec.drops_many_by s.now.body }
+{
+    match &s.body {
+        Body::Drop { paths, .. } => paths.as_slice().len() > 1,
+        _ => false,
+    }
+}
+
+fn is_too_much(p: &Parse<'_>, s: &Stmt) -> bool
+    ensures { result ≡ spec.is_too_much p.now s.now }
+{
+    drops_many(s) || says(p, "cascade", s)
+}
+
+fn is_table(s: &Stmt) -> bool
+    ensures { result ≡ spec.is_table_by s.now.body }
+{
+    matches!(s.body, Body::Table { .. })
+}
+
+// Whether a statement makes a table whose columns are its own.
+fn is_new_table(p: &Parse<'_>, s: &Stmt) -> bool
+    ensures { result ≡ spec.is_new_table p.now s.now }
+{
+    is_table(s) && !says(p, "inherits", s)
+}
+
+// The class of a fix of a rule in a statement.
+#[tactic(auto, unfolding(crate::specs::Classes::class_by))]
+fn class_by(rule: Rule, known: Known, p: &Parse<'_>, s: &Stmt) -> Option<FixClass>
+    ensures { result ≡ spec.class_by rule known p.now s.now }
+{
+    match rule {
+        Rule::RequireConcurrentIndexCreation => concurrent(known, is_guarded(s)),
+        Rule::RequireConcurrentIndexDeletion => {
+            if is_too_much(p, s) {
+                return None;
+            }
+            concurrent(known, false)
+        }
+        Rule::RequireConcurrentReindex => concurrent(known, false),
+        Rule::RequireConcurrentPartitionDetach | Rule::PreferRepack => concurrent(known, true),
+        Rule::RequireLockTimeout | Rule::RequireStatementTimeout => {
+            Some(safe_unless(known.has_builds))
+        }
+        Rule::PreferBigintOverInt | Rule::PreferBigintOverSmallint | Rule::PreferIdentity => {
+            Some(safe_unless(!is_new_table(p, s)))
+        }
+        Rule::IdentifierTooLong => Some(FixClass::Safe),
+        Rule::RequireEnumValueOrdering => Some(FixClass::Template),
+        _ => Some(FixClass::Unsafe),
+    }
+}
+
+/// The classes of the fixes of a text. They hold what is known of each statement, and no text.
+#[derive(Drop)]
+pub struct FixClasses {
+    known: Vec<Known>,
+}
+
+impl Model for FixClasses {
+    ghost use Rattle.std.specs.Prelude.{List};
+    ghost use Rattle.fix_class.specs.declared.known.Known.{Known};
+
+    ghost Value = { List Known };
+
+    ghost view = { λ c. c.known.items };
+}
+
+impl FixClasses {
+    /// What is known of each statement of a text. The error comes when memory runs out.
+    pub fn new(
+        alloc: Global,
+        p: &Parse<'_>,
+        settings: &LinterSettings,
+    ) -> Result<FixClasses, NoMemory>
+        ensures { IfOk result (λ classes. AreKnown settings.now p.now classes) }
+    {
+        Ok(FixClasses {
+            known: each_known(alloc, p, settings)?,
+        })
+    }
+
+    /// The class of the fix of a report, or `None` where it has no fix, or one that always fails where it is made, so that it is not
+    /// offered. It takes time in proportion to the number of the statement.
+    #[tactic(auto, unfolding(crate::specs::Classes::class_of))]
+    pub fn class_of(&self, p: &Parse<'_>, v: &Violation) -> Option<FixClass>
+        ensures { (settings : LinterSettings) → AreKnown settings p.now self.now → result ≡ spec.class_of settings p.now v.now }
+    {
+        if v.fix.is_none() {
+            return None;
+        }
+        let stmts = p.tree().stmts.as_slice();
+        let i = number_of(p, v.text_range.start());
+        if i < stmts.len() && i < self.known.len() {
+            return class_by(v.code, self.known[i], p, &stmts[i]);
+        }
+        None
+    }
+}

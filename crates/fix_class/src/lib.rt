@@ -1,0 +1,13 @@
+//! How far the fix of a report can be trusted.
+//!
+//! `specs/Classes.antt` has the classes by rule; `Known` has what is known of a statement by the text around it, and `Words` the words of a
+//! statement that its tree does not keep.
+#![tactic(auto)]
+
+mod class;
+mod known;
+mod number;
+mod word;
+
+pub use class::FixClasses;
+pub use known::Known;

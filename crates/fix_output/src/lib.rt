@@ -1,0 +1,12 @@
+//! What becomes of files in which fixes were made: their differences are printed, or they are written.
+//!
+//! `specs/Differences.antt` says what is printed, and `Writing` what is written.
+#![tactic(auto)]
+
+mod diffs;
+mod file;
+mod write;
+
+pub use diffs::push_diffs;
+pub use file::MendedFile;
+pub use write::write_changed;
