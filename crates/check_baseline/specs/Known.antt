@@ -84,8 +84,9 @@ IsLeftOf baseline name text (Reports old) (Refused r) = ⊥
 IsLeftOf baseline name text (Refused r) (Reports new) = ⊥
 IsLeftOf baseline name text (Refused r) (Refused s) = s ≡ r
 
--- what is left of a file: its name and bytes stay
+-- what is left of a file: all but its answer stays
 pub record IsLeft (baseline : Baseline) (old new : Checked) : Type 0 where
   pub name : new.name ≡ old.name
   pub bytes : new.bytes ≡ old.bytes
+  pub passed : new.passed ≡ old.passed
   pub answer : IsLeftOf baseline old.name (readable_of old.bytes.items) old.answer new.answer

@@ -92,6 +92,7 @@ fn left(alloc: Global, baseline: &Baseline, file: Checked) -> Result<Checked, No
     let Checked {
         name,
         bytes,
+        passed,
         answer,
     } = file;
     let text = readable(bytes.as_slice());
@@ -99,6 +100,7 @@ fn left(alloc: Global, baseline: &Baseline, file: Checked) -> Result<Checked, No
     Ok(Checked {
         name,
         bytes,
+        passed,
         answer,
     })
 }

@@ -1,4 +1,5 @@
 pub mod Counted
 pub mod Statistics
 pub mod Findings
+pub mod Passed
 pub mod Printed

@@ -1,5 +1,5 @@
 -- What is written of the files of a run.
-use Rattle.std.specs.Prelude.{ℕ, ◌||◌, Bool, true, false, List, [], ◌∷◌, ◌++◌, codes, if◌then◌else◌}
+use Rattle.std.specs.Prelude.{ℕ, ◌||◌, Bool, true, false, List, [], ◌∷◌, ◌++◌, codes, if◌then◌else◌, flat_map}
 use Rattle.check_words.specs.declared.request.Format.{Format}
 use Rattle.check_words.specs.declared.request.Format.TheVariants as format
 use Rattle.checked_file.specs.declared.answer.Answer.{Answer}
@@ -14,6 +14,7 @@ use Rattle.source_file.specs.File.{FileValue}
 use Rattle.check_print.specs.declared.style.Style.{Style}
 use Rattle.check_print.specs.Counted.{counts_of}
 use Rattle.check_print.specs.Findings.{printed_refusal, printed_report, separator}
+use Rattle.check_print.specs.Passed.{passed_in}
 use Rattle.check_print.specs.Statistics.{code_lines}
 
 -- ---- one file
@@ -63,9 +64,13 @@ statistics style files = if style.statistics then code_lines files else []
 unfoldable pub last_line : Style → List Checked → List ℕ
 last_line style files = if style.quiet then [] else text.closing (counts_of files)
 
+-- the lines on what of files was passed over, where nothing but the findings is not asked for
+unfoldable pub passed_lines : Style → List Checked → List ℕ
+passed_lines style files = if style.quiet then [] else flat_map passed_in files
+
 -- what is after the last file: the formats for programs have their own end, and count nothing
 abbrev pub closing_by : Format → Style → List Checked → List ℕ
-closing_by format.Text style files = statistics style files ++ last_line style files
+closing_by format.Text style files = passed_lines style files ++ statistics style files ++ last_line style files
 closing_by format.Concise style files = statistics style files
 closing_by format.Gcc style files = statistics style files
 closing_by format.Github style files = statistics style files

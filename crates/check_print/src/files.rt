@@ -1,11 +1,12 @@
 //! What came of all files.
 ghost use Rattle.std.specs.Prelude.{◌≡◌, ◌++◌, ◌||◌, All, IfOk, OnOk, codes, false};
 ghost use Rattle.checked_file.specs.Sound.{IsSound};
-ghost use Rattle.check_print.specs.Printed.{closing, last_line, opening, printed, printed_files, statistics};
+ghost use Rattle.check_print.specs.Printed.{closing, last_line, opening, passed_lines, printed, printed_files, statistics};
 ghost use Rattle.report_sarif.specs.Log as sarif;
 
 use crate::answer::push_file;
 use crate::counts::counts_of;
+use crate::passed::push_passed_lines;
 use crate::statistics::push_code_lines;
 use crate::style::Style;
 use check_words::Format;
@@ -84,10 +85,33 @@ fn push_log_end(to: &mut Vec<u8>, alloc: Global) -> Result<(), NoMemory>
     push(to, b"\n")
 }
 
-// Adds both kinds of lines that count.
-fn push_counting_lines(to: &mut Vec<u8>, style: Style, files: &[Checked]) -> Result<(), NoMemory>
-    ensures { OnOk result (to.new.items ≡ to.old.items ++ statistics style files.now ++ last_line style files.now) }
+// Adds the lines on what was passed over, where they are asked for.
+#[tactic(auto, unfolding(crate::specs::Printed::passed_lines))]
+fn push_passed(
+    to: &mut Vec<u8>,
+    alloc: Global,
+    style: Style,
+    files: &[Checked],
+) -> Result<(), NoMemory>
+    ensures { OnOk result (to.new.items ≡ to.old.items ++ passed_lines style files.now) }
 {
+    if style.quiet {
+        push(to, b"")
+    } else {
+        push_passed_lines(to, alloc, files)
+    }
+}
+
+// Adds these, and both kinds of lines that count.
+fn push_last_lines(
+    to: &mut Vec<u8>,
+    alloc: Global,
+    style: Style,
+    files: &[Checked],
+) -> Result<(), NoMemory>
+    ensures { OnOk result (to.new.items ≡ to.old.items ++ passed_lines style files.now ++ statistics style files.now ++ last_line style files.now) }
+{
+    push_passed(to, alloc, style, files)?;
     push_statistics(to, style, files)?;
     push_last_line(to, style, files)
 }
@@ -102,7 +126,7 @@ fn push_end(
     ensures { OnOk result (to.new.items ≡ to.old.items ++ closing style files.now) }
 {
     match style.format {
-        Format::Text => push_counting_lines(to, style, files),
+        Format::Text => push_last_lines(to, alloc, style, files),
         Format::Concise | Format::Gcc | Format::Github => push_statistics(to, style, files),
         Format::Json | Format::Gitlab => push(to, b"\n]\n"),
         Format::Sarif => push_log_end(to, alloc),

@@ -8,6 +8,7 @@ mod answer;
 mod counts;
 mod files;
 mod finding;
+mod passed;
 mod statistics;
 mod style;
 

@@ -1,0 +1,21 @@
+-- What of a file was passed over, since it is for psql and no SQL.
+use Rattle.std.specs.Prelude.{ℕ, List, [], ◌++◌, Option, Some, None, codes, decimal}
+use Rattle.checked_file.specs.declared.checked.Checked.{Checked}
+use Rattle.checked_file.specs.declared.checked.Passed.{Passed}
+use Rattle.checked_file.specs.Files.{readable_of}
+use Rattle.source_file.specs.File.{FileValue, line_number}
+use Rattle.source_file.specs.Shown.{shown}
+
+-- `note: dump.sql:5: commands of psql: 2, lines of COPY data: 40; they are read as blanks`
+unfoldable pub passed_line : FileValue → Passed → List ℕ
+passed_line file p =
+    codes "note: " ++ shown file.name ++ codes ":" ++ decimal (line_number file.text p.first) ++ codes ": commands of psql: " ++ decimal p.commands
+    ++ codes ", lines of COPY data: " ++ decimal p.data_lines ++ codes "; they are read as blanks\n"
+
+abbrev pub passed_by : FileValue → Option Passed → List ℕ
+passed_by file None = []
+passed_by file (Some p) = passed_line file p
+
+-- the line of a file, where anything of it was passed over
+abbrev pub passed_in : Checked → List ℕ
+passed_in file = passed_by (record { name = file.name; text = readable_of file.bytes.items }) file.passed
