@@ -9,7 +9,7 @@ use Rattle.checked_file.specs.declared.answer.Answer.{Answer}
 use Rattle.checked_file.specs.declared.answer.Answer.TheVariants.{Reports, Refused}
 use Rattle.checked_file.specs.declared.checked.Checked.{Checked}
 use Rattle.checked_file.specs.Answers.{has_findings}
-use Rattle.lint_base.specs.declared.violation.Violation.{Violation}
+use Rattle.lint_report.specs.declared.report.Report.{Report}
 use Rattle.serde_json.specs.Data.{Data, Members, array, boolean, no_members, null, number, object, string}
 use Rattle.serde_json.specs.Written.{compact_text}
 use Rattle.source_file.specs.declared.refusal.Refusal.{Refusal}
@@ -53,7 +53,7 @@ chunks_append b (ms ∷ mss) more =
 -- a style in which each finding is an object on a line of its own
 abbrev pub Prints : Style → (Found → Members) → Type 0
 Prints style members =
-    ((b : Bool) (file : FileValue) (v : Violation) → separated style b file v ≡ array_separator b ++ compact_text (object (members (found_report file v))))
+    ((b : Bool) (file : FileValue) (v : Report) → separated style b file v ≡ array_separator b ++ compact_text (object (members (found_report file v))))
     × ((b : Bool) (file : FileValue) (r : Refusal) → separator style.format b ++ printed_refusal style.format style.color file r ≡ array_separator b ++ compact_text (object (members (found_refusal file r))))
 
 pub json_prints : (color quiet statistics : Bool) → Prints (style_in format.Json color quiet statistics) (members_by object_of)
@@ -68,7 +68,7 @@ pub gitlab_prints : (color quiet statistics : Bool) → Prints (style_in format.
 unfolding printed_report printed_refusal
 gitlab_prints color quiet statistics = ((λ b file v. refl), (λ b file r. refl))
 
-reports_chunks : (style : Style) (members : Found → Members) → Prints style members → (b : Bool) (file : FileValue) (vs : List Violation)
+reports_chunks : (style : Style) (members : Found → Members) → Prints style members → (b : Bool) (file : FileValue) (vs : List Report)
     → printed_reports style b file vs ≡ chunks b (map members (map (found_report file) vs))
 reports_chunks style members prints b file [] = refl
 reports_chunks style members prints b file (v ∷ vs) =
@@ -89,7 +89,7 @@ or_true true = refl
 or_true false = refl
 
 -- where there are findings, something is before what comes after them
-reports_after : (members : Found → Members) (b : Bool) (file : FileValue) (vs : List Violation) → (b || not (length vs == 0)) ≡ after b (map members (map (found_report file) vs))
+reports_after : (members : Found → Members) (b : Bool) (file : FileValue) (vs : List Report) → (b || not (length vs == 0)) ≡ after b (map members (map (found_report file) vs))
 reports_after members b file [] = or_false b
 reports_after members b file (v ∷ vs) =
     let more : (length (v ∷ vs) == 0) ≡ false = grind arith in

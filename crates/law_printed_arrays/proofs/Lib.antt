@@ -1,5 +1,9 @@
+mod Short
+mod Places
+mod Names
 mod Chunks
 mod Spaced
 mod Shapes
+mod Sound
 mod Told
 mod Uniqueness

@@ -10,7 +10,7 @@ use Rattle.serde_json.specs.Data.{Data, Items, Members, array, boolean, item, me
 use Rattle.serde_json.specs.View.{items_of}
 use Rattle.serde_json.specs.Written.{items_outline, members_outline, outline}
 use Rattle.law_printed_arrays.specs.Found.{Found}
-use Rattle.law_printed_arrays.specs.Unique.{AreShortItems, AreShortMembers, IsShort}
+use Rattle.law_printed_arrays.proofs.Short.{AreShortItems, AreShortMembers, IsShort}
 use Rattle.law_printed_arrays.proofs.Spaced.{array_of}
 
 -- ---- numbers

@@ -14,6 +14,7 @@ use Rattle.law_printed_arrays.specs.Found.{Found, all_found, issue_of, object_of
 use Rattle.law_printed_arrays.specs.Unique.{UniqueArrays, UniqueIssues, UniqueLogs, style_in}
 use Rattle.law_printed_arrays.proofs.Chunks.{Prints, chunks, files_chunks, gitlab_prints, json_prints, members_by, sarif_prints}
 use Rattle.law_printed_arrays.proofs.Shapes.{LeadsBack, Short, has_numbers, same_findings, same_value}
+use Rattle.law_printed_arrays.proofs.Sound.{issues_short, names_short, objects_short, results_short}
 use Rattle.law_printed_arrays.proofs.Spaced.{array_tokens, whole, whole_print}
 use Rattle.law_printed_arrays.proofs.Told.{issue_told, object_told, result_told}
 
@@ -31,19 +32,20 @@ same_files style members G tell prints leads files others short others_short p q
     (sym (array_tokens mss (has_numbers members (all_found files) short)) ∙ ap tokens texts ∙ array_tokens nss (has_numbers members (all_found others) others_short)))
 
 pub unique_arrays : UniqueArrays
-unique_arrays color quiet statistics files others short others_short e =
+unique_arrays color quiet statistics files others sound others_sound e =
     let style = style_in format.Json color quiet statistics in
-    same_files style (members_by object_of) (λ f. ⊤) told (json_prints color quiet statistics) object_told files others short others_short (λ k d w. tt) (λ k d w. tt)
-    (append_cancel_right _ _ (codes "\n]\n") (append_cancel_left (codes "[") _ _ e))
+    same_files style (members_by object_of) (λ f. ⊤) told (json_prints color quiet statistics) object_told files others (objects_short files sound) (objects_short others others_sound)
+    (λ k d w. tt) (λ k d w. tt) (append_cancel_right _ _ (codes "\n]\n") (append_cancel_left (codes "[") _ _ e))
 
 pub unique_logs : UniqueLogs
-unique_logs color quiet statistics files others short others_short named others_named e =
+unique_logs color quiet statistics files others sound others_sound e =
     let style = style_in format.Sarif color quiet statistics in
-    same_files style (members_by result_of) (λ f. All (λ b. b < 256) f.file.name) told (sarif_prints color quiet statistics) result_told files others short others_short named others_named
+    same_files style (members_by result_of) (λ f. All (λ b. b < 256) f.file.name) told (sarif_prints color quiet statistics) result_told files others (results_short files sound)
+    (results_short others others_sound) (names_short files sound) (names_short others others_sound)
     (append_cancel_right _ _ (codes "\n" ++ sarif.closing ++ codes "\n") (append_cancel_left sarif.opening _ _ e))
 
 pub unique_issues : UniqueIssues
-unique_issues color quiet statistics files others short others_short e =
+unique_issues color quiet statistics files others sound others_sound e =
     let style = style_in format.Gitlab color quiet statistics in
-    same_files style (members_by issue_of) (λ f. ⊤) told_issue (gitlab_prints color quiet statistics) issue_told files others short others_short (λ k d w. tt) (λ k d w. tt)
-    (append_cancel_right _ _ (codes "\n]\n") (append_cancel_left (codes "[") _ _ e))
+    same_files style (members_by issue_of) (λ f. ⊤) told_issue (gitlab_prints color quiet statistics) issue_told files others (issues_short files sound) (issues_short others others_sound)
+    (λ k d w. tt) (λ k d w. tt) (append_cancel_right _ _ (codes "\n]\n") (append_cancel_left (codes "[") _ _ e))

@@ -4,10 +4,9 @@ use Rattle.checked_file.specs.declared.answer.Answer.{Answer}
 use Rattle.checked_file.specs.declared.answer.Answer.TheVariants.{Reports, Refused}
 use Rattle.checked_file.specs.declared.checked.Checked.{Checked}
 use Rattle.check_print.specs.Printed.{source_of}
-use Rattle.lint_base.specs.declared.violation.Violation.{Violation}
-use Rattle.lint_base.specs.Rules.{name_of}
-use Rattle.report_gitlab.specs.Issues.{issue_object, severity_of}
-use Rattle.report_gitlab.specs.Statement.{statement_around}
+use Rattle.lint_report.specs.declared.report.Report.{Report}
+use Rattle.lint_report.specs.Codes.{name_of}
+use Rattle.report_gitlab.specs.Issues.{issue_object, severity_of, statement_text}
 use Rattle.report_json.specs.Objects.{finding_object, fix_data, hint_data, text_data}
 use Rattle.report_sarif.specs.Results as sarif
 use Rattle.serde_json.specs.Data.{Data, array, no_items, null}
@@ -20,8 +19,8 @@ use Rattle.source_file.specs.Levels.{word_of}
 use Rattle.source_file.specs.Refusals as refusals
 use Rattle.text_pos.specs.Range.{Range}
 
--- a finding: its file, its range, its level, the name of its rule and its message; its note, help and fix as JSON has them; its fixes as
--- SARIF has them; and the text of its statement, of which GitLab has a fingerprint
+-- a finding: its file, its range, its level, the name of its rule or hazard and its message; its note, its help and its fix with the fix's
+-- class as JSON has them; its fixes as SARIF has them; and the text of its statement, of which GitLab has a fingerprint
 pub record Found : Type 0 where
   pub file : FileValue
   pub range : Range
@@ -35,7 +34,7 @@ pub record Found : Type 0 where
   pub statement : List ℕ
 
 -- a report
-abbrev pub found_report : FileValue → Violation → Found
+abbrev pub found_report : FileValue → Report → Found
 found_report file v = record {
   file = file;
   range = v.text_range;
@@ -46,7 +45,7 @@ found_report file v = record {
   help = text_data v.help;
   fix = fix_data v.fix;
   fixes = sarif.fixes file v.fix;
-  statement = statement_around file.text v.text_range.start v.text_range.end;
+  statement = statement_text file.text v;
 }
 
 -- why a file could not be linted
@@ -88,7 +87,7 @@ result_of f = sarif.result_object f.file f.range (word_of f.level) f.rule f.mess
 abbrev pub issue_of : Found → Data
 issue_of f = issue_object f.file (line_number f.file.text f.range.start) f.level f.rule f.message f.statement
 
--- what a reader has of a finding: the file's name, both places, the level, the rule and the message
+-- what a reader has of a finding: the file's name, both places, the level, the rule or hazard and the message
 pub record Told : Type 0 where
   pub name : List ℕ
   pub line : ℕ
@@ -114,7 +113,7 @@ told f =
       message = f.message;
     }
 
--- what GitLab's format keeps of it: the file's name, the line, the severity, the rule and the message
+-- what GitLab's format keeps of it: the file's name, the line, the severity, the rule or hazard and the message
 pub record ToldIssue : Type 0 where
   pub name : List ℕ
   pub line : ℕ

@@ -4,17 +4,17 @@
 
 ghost use Rattle.law_printed_arrays.specs.Unique.{UniqueArrays, UniqueIssues, UniqueLogs};
 
-/// Two lists of files of which the same JSON is printed have the same findings, at the same places, in the same order.
+/// Two lists of sound files of which the same JSON is printed have the same findings, at the same places, in the same order.
 pub fn unique_arrays()
     ensures { UniqueArrays }
 {}
 
-/// Two lists of files of which the same SARIF is printed have the same findings, at the same places, in the same order.
+/// Two lists of sound files of which the same SARIF is printed have the same findings, at the same places, in the same order.
 pub fn unique_logs()
     ensures { UniqueLogs }
 {}
 
-/// Two lists of files of which the same is printed for GitLab have the same findings on the same lines, in the same order.
+/// Two lists of sound files of which the same is printed for GitLab have the same findings on the same lines, in the same order.
 pub fn unique_issues()
     ensures { UniqueIssues }
 {}
