@@ -4,6 +4,7 @@ use Rattle.std.proofs.lemmas.Bool.{cases_Bool}
 use Rattle.std.proofs.lemmas.List.Elements.{All-append, All-filter, All-head, All-map, All-nil, All-tail, All-weaker}
 use Rattle.std.specs.Prelude.{◌&&◌, cond, flat_map, is_none, not, option_map}
 use Rattle.std.specs.Str.{IsUtf8}
+use Rattle.fix_class.specs.Classes.{class_of}
 use Rattle.hazard_base.specs.declared.finding.Finding.{Finding}
 use Rattle.hazard_base.specs.declared.hazard.Hazard.{Hazard}
 use Rattle.hazard_base.specs.declared.hazard_set.HazardSet.{HazardSet}
@@ -17,7 +18,6 @@ use Rattle.hazard_find.specs.Rewrites.{action_rewrites, rewrites}
 use Rattle.hazard_ignore.specs.Covered as covered
 use Rattle.hazard_ignore.specs.declared.covered.Named.{Named}
 use Rattle.hazard_ignore.specs.HazardNames.{hazard_of, without_hazard_names}
-use Rattle.lint_base.specs.declared.rule.Rule.{Rule}
 use Rattle.lint_base.specs.declared.rule.Rule.TheVariants as rule
 use Rattle.lint_base.specs.declared.settings.LinterSettings.{LinterSettings}
 use Rattle.lint_base.specs.declared.violation.Violation.{Violation}
@@ -33,6 +33,7 @@ use Rattle.lint_pass.specs.PlaceLaws.{span_place}
 use Rattle.lint_pass.specs.RuleLaws.{flat_all, one_all, pieces_all}
 use Rattle.lint_node.specs.Parts.{new_constraints, table_actions}
 use Rattle.lint_transaction.specs.Transaction.{stmt_at}
+use Rattle.lint_report.specs.declared.fix_class.FixClass.{FixClass}
 use Rattle.lint_report.specs.declared.report.Report.{Report}
 use Rattle.sql_token.specs.declared.token.Span.{Span}
 use Rattle.sql_tree.specs.declared.nodes.Action.{Action}
@@ -46,7 +47,7 @@ use Rattle.squawk_linter.specs.ByStart.{by_key}
 use Rattle.squawk_linter.specs.Placed.{IsPlaced}
 use Rattle.text_pos.specs.Range.{Range}
 use Rattle.text_reports.specs.Placed.{IsReportPlaced}
-use Rattle.text_reports.specs.Reports.{all_reports, by_hazard, by_rule, fix_of, start_of, uncovered, unused, with_hazards}
+use Rattle.text_reports.specs.Reports.{all_reports, by_hazard, by_rule, offered, start_of, uncovered, unused, with_hazards}
 use Rattle.text_reports.specs.Statements.{is_within, part_in, statement_behind, statement_of}
 
 -- ---- lists
@@ -186,16 +187,17 @@ part_placed tree read (Some s) range place =
       | inr e ↦ rw e place
     ]
 
-edits_kept : (text : List ℕ) (code : Rule) (o : Option FixValue) → IfSome o (λ f. AreEdits text f.edits) → IfSome (option_map (fix_of code) o) (λ f. AreEdits text f.fix.edits)
-edits_kept text code None h = tt
-edits_kept text code (Some f) h = h
+edits_kept : (text : List ℕ) (class : Option FixClass) (o : Option FixValue) → IfSome o (λ f. AreEdits text f.edits) → IfSome (offered class o) (λ f. AreEdits text f.fix.edits)
+edits_kept text None o h = tt
+edits_kept text (Some class) None h = tt
+edits_kept text (Some class) (Some f) h = h
 
-rule_placed : (tree : Tree) → IsRead tree → (v : Violation) → IsPlaced tree.text v → IsReportPlaced tree.text (by_rule tree v)
+rule_placed : (settings : LinterSettings) (tree : Tree) → IsRead tree → (v : Violation) → IsPlaced tree.text v → IsReportPlaced tree.text (by_rule settings tree v)
 unfolding by_rule
-rule_placed tree read v placed = record {
+rule_placed settings tree read v placed = record {
   range = placed.range;
   statement = part_placed tree read (statement_behind tree v.text_range.start) v.text_range placed.range;
-  edits = edits_kept tree.text v.code v.fix placed.edits;
+  edits = edits_kept tree.text (class_of settings tree v) v.fix placed.edits;
 }
 
 hazard_placed : (tree : Tree) → IsRead tree → (f : Finding) → OnPlace tree f → IsReportPlaced tree.text (by_hazard tree f)
@@ -206,19 +208,20 @@ hazard_placed tree read f place = record {
   edits = tt;
 }
 
-rules_placed : (tree : Tree) → IsRead tree → (vs : List Violation) → All (IsPlaced tree.text) vs → All (IsReportPlaced tree.text) (map (by_rule tree) vs)
-rules_placed tree read vs placed =
-    All-map (IsReportPlaced tree.text) (by_rule tree) vs (All-weaker (IsPlaced tree.text) (λ v. IsReportPlaced tree.text (by_rule tree v)) (rule_placed tree read) vs placed)
+rules_placed : (settings : LinterSettings) (tree : Tree) → IsRead tree → (vs : List Violation) → All (IsPlaced tree.text) vs → All (IsReportPlaced tree.text) (map (by_rule settings tree) vs)
+rules_placed settings tree read vs placed =
+    All-map (IsReportPlaced tree.text) (by_rule settings tree) vs
+    (All-weaker (IsPlaced tree.text) (λ v. IsReportPlaced tree.text (by_rule settings tree v)) (rule_placed settings tree read) vs placed)
 
 -- all reports before they are sorted
 pub gathered_placed : (tree : Tree) (rules : Rules) (enabled : HazardSet) (settings : LinterSettings) (vs : List Violation) → IsRead tree → All (IsPlaced tree.text) vs
-    → All (IsReportPlaced tree.text) (with_hazards tree rules enabled vs (findings_of enabled settings tree))
+    → All (IsReportPlaced tree.text) (with_hazards settings tree rules enabled vs (findings_of enabled settings tree))
 gathered_placed tree rules enabled settings vs read placed =
     let P : Report → Type 0 = IsReportPlaced tree.text in
     let found : List Finding = findings_of enabled settings tree in
     All-append P _ _ (All-append P _ _
-    (rules_placed tree read (without_hazard_names vs) (All-filter (λ v. is_none (hazard_of v)) (IsPlaced tree.text) vs placed))
-    (rules_placed tree read (unused tree rules enabled found) (unused_placed tree read rules enabled found)))
+    (rules_placed settings tree read (without_hazard_names vs) (All-filter (λ v. is_none (hazard_of v)) (IsPlaced tree.text) vs placed))
+    (rules_placed settings tree read (unused tree rules enabled found) (unused_placed tree read rules enabled found)))
     (All-map P (by_hazard tree) (uncovered tree found)
     (All-weaker (OnPlace tree) (λ f. P (by_hazard tree f)) (hazard_placed tree read) (uncovered tree found)
     (All-filter (λ f. not (covered.is_covered tree f)) (OnPlace tree) found (findings_placed tree read enabled settings))))
@@ -231,16 +234,16 @@ all_start text list placed =
 -- What was found and sorted by start is all that is reported, and it is at places of the text.
 pub sorted_all : (tree : Tree) (rules : Rules) (hazards : HazardSet) (settings : LinterSettings) (found_by_rules : List Violation) (found : List Finding) (list sorted : List Report)
     → IsRead tree → found_by_rules ≡ reports tree rules settings → All (IsPlaced tree.text) found_by_rules → found ≡ findings_of hazards settings tree
-    → list ≡ with_hazards tree rules hazards found_by_rules found
+    → list ≡ with_hazards settings tree rules hazards found_by_rules found
     → ((n : ℕ) → All (λ v. start_of v < n) list → sorted ≡ by_key start_of n list)
     → (sorted ≡ all_reports tree rules hazards settings) × All (IsReportPlaced tree.text) sorted
 sorted_all tree rules hazards settings by_rules found list sorted read is placed finds gathered sorts =
     let P : Report → Type 0 = IsReportPlaced tree.text in
-    let all : List Report = with_hazards tree rules hazards by_rules (findings_of hazards settings tree) in
+    let all : List Report = with_hazards settings tree rules hazards by_rules (findings_of hazards settings tree) in
     let same : list ≡ all = rw finds at gathered in
     let each : All P list = subst (λ xs. All P xs) (sym same) (gathered_placed tree rules hazards settings by_rules read placed) in
     let n : ℕ = length tree.text + 1 in
     let by : sorted ≡ by_key start_of n list = sorts n (all_start tree.text list each) in (
-      by ∙ ap (λ xs. by_key start_of n xs) (same ∙ ap (λ vs. with_hazards tree rules hazards vs (findings_of hazards settings tree)) is),
+      by ∙ ap (λ xs. by_key start_of n xs) (same ∙ ap (λ vs. with_hazards settings tree rules hazards vs (findings_of hazards settings tree)) is),
       subst (λ xs. All P xs) (sym by) (by_key_all P start_of n list each),
     )

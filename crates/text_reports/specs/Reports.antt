@@ -1,11 +1,11 @@
 -- All that is reported of a text.
-use Rattle.std.specs.Prelude.{◌≡◌, ℕ, ◌+◌, List, [], ◌++◌, Option, None, filter, if◌then◌else◌, length, map, not, option_map}
+use Rattle.std.specs.Prelude.{◌≡◌, ℕ, ◌+◌, List, [], ◌++◌, Option, None, filter, if◌then◌else◌, length, map, not, Some}
+use Rattle.fix_class.specs.Classes.{class_of}
 use Rattle.hazard_base.specs.declared.finding.Finding.{Finding}
 use Rattle.hazard_base.specs.declared.hazard_set.HazardSet.{HazardSet}
 use Rattle.hazard_find.specs.Findings.{findings_of}
 use Rattle.hazard_ignore.specs.Covered.{is_covered, unused_names}
 use Rattle.hazard_ignore.specs.HazardNames.{without_hazard_names}
-use Rattle.lint_base.specs.declared.rule.Rule.{Rule}
 use Rattle.lint_base.specs.declared.rule.Rule.TheVariants as rule
 use Rattle.lint_base.specs.declared.settings.LinterSettings.{LinterSettings}
 use Rattle.lint_base.specs.declared.violation.Violation.{Violation}
@@ -13,7 +13,6 @@ use Rattle.lint_base.specs.Fixes.{FixValue}
 use Rattle.lint_base.specs.RuleSets.{Rules, has}
 use Rattle.lint_report.specs.declared.code.Code.TheVariants as code
 use Rattle.lint_report.specs.declared.fix_class.FixClass.{FixClass}
-use Rattle.lint_report.specs.declared.fix_class.FixClass.TheVariants.{Safe, Unsafe, Template}
 use Rattle.lint_report.specs.declared.report.Report.{Report}
 use Rattle.lint_report.specs.declared.report.ReportFix.{ReportFix}
 use Rattle.sql_tree.specs.Statement.{Tree}
@@ -33,24 +32,21 @@ unused tree rules hazards found = if has rules rule.UnusedIgnore then unused_nam
 
 -- ---- as reports
 
--- how far the fix of a rule can be trusted
-abbrev pub class_of : Rule → FixClass
-class_of rule.IdentifierTooLong = Safe
-class_of rule.RequireEnumValueOrdering = Template
-class_of _ = Unsafe
+-- a fix that is offered, with how far it can be trusted
+abbrev pub offered : Option FixClass → Option FixValue → Option ReportFix
+offered None fix = None
+offered (Some class) None = None
+offered (Some class) (Some fix) = Some (record { class = class; fix = fix })
 
-abbrev pub fix_of : Rule → FixValue → ReportFix
-fix_of rule fix = record { class = class_of rule; fix = fix }
-
-unfoldable pub by_rule : Tree → Violation → Report
-by_rule tree v = record {
+unfoldable pub by_rule : LinterSettings → Tree → Violation → Report
+by_rule settings tree v = record {
   code = code.Rule v.code;
   message = v.message;
   text_range = v.text_range;
   statement = statement_of tree v.text_range;
   note = v.note;
   help = v.help;
-  fix = option_map (fix_of v.code) v.fix;
+  fix = offered (class_of settings tree v) v.fix;
 }
 
 unfoldable pub by_hazard : Tree → Finding → Report
@@ -70,14 +66,15 @@ abbrev pub start_of : Report → ℕ
 start_of r = r.text_range.start
 
 -- these reports of rules, then those of names that cover nothing, and then these findings
-abbrev pub with_hazards : Tree → Rules → HazardSet → List Violation → List Finding → List Report
-with_hazards tree rules hazards reports found =
-    map (by_rule tree) (without_hazard_names reports) ++ map (by_rule tree) (unused tree rules hazards found) ++ map (by_hazard tree) (uncovered tree found)
+abbrev pub with_hazards : LinterSettings → Tree → Rules → HazardSet → List Violation → List Finding → List Report
+with_hazards settings tree rules hazards reports found =
+    map (by_rule settings tree) (without_hazard_names reports) ++ map (by_rule settings tree) (unused tree rules hazards found)
+    ++ map (by_hazard tree) (uncovered tree found)
 
 -- all that is reported of a text, by the place where it begins; what begins at one place stays in that order
 abbrev pub all_reports : Tree → Rules → HazardSet → LinterSettings → List Report
 all_reports tree rules hazards settings =
-    by_key start_of (length tree.text + 1) (with_hazards tree rules hazards (reports tree rules settings) (findings_of hazards settings tree))
+    by_key start_of (length tree.text + 1) (with_hazards settings tree rules hazards (reports tree rules settings) (findings_of hazards settings tree))
 
 -- ---- what it leaves
 

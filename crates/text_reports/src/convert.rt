@@ -1,45 +1,38 @@
 //! What is found, as reports.
-ghost use Rattle.std.specs.Prelude.{◌≡◌, ◌++◌, OnOk, map, option_map};
+ghost use Rattle.std.specs.Prelude.{◌≡◌, ◌++◌, OnOk, map};
+ghost use Rattle.fix_class.specs.Known.{AreKnown};
+ghost use Rattle.lint_base.specs.declared.settings.LinterSettings.{LinterSettings};
 ghost use Rattle.text_reports.specs.Reports as spec;
 ghost use Rattle.text_reports.specs.Statements.{IsCursor};
 
 use crate::cursor::{Cursor, start, statement_of};
+use fix_class::FixClasses;
 use hazard_base::Finding;
-use lint_base::{Fix, Rule, Violation};
+use lint_base::{Fix, Violation};
 use lint_report::{Code, FixClass, Report, ReportFix};
 use sql_tree::Parse;
 use text_pos::NoMemory;
 
-// How far the fix of a rule can be trusted.
-fn class_of(rule: Rule) -> FixClass
-    ensures { result ≡ spec.class_of rule }
+fn offered(class: Option<FixClass>, fix: Option<Fix>) -> Option<ReportFix>
+    ensures { result ≡ spec.offered class fix }
 {
-    match rule {
-        Rule::IdentifierTooLong => FixClass::Safe,
-        Rule::RequireEnumValueOrdering => FixClass::Template,
-        _ => FixClass::Unsafe,
-    }
-}
-
-fn fix_of(rule: Rule, fix: Option<Fix>) -> Option<ReportFix>
-    ensures { result ≡ option_map (spec.fix_of rule) fix }
-{
-    match fix {
+    match class {
         None => None,
-        Some(fix) => Some(ReportFix {
-            class: class_of(rule),
-            fix,
-        }),
+        Some(class) => match fix {
+            None => None,
+            Some(fix) => Some(ReportFix { class, fix }),
+        },
     }
 }
 
 #[tactic(auto, unfolding(crate::specs::Reports::by_rule))]
-fn by_rule(file: &Parse<'_>, cursor: &mut Cursor, v: Violation) -> Report
+fn by_rule(file: &Parse<'_>, classes: &FixClasses, cursor: &mut Cursor, v: Violation) -> Report
     requires { IsCursor file.now cursor.old }
     ensures cursor { IsCursor file.now cursor.new }
-    ensures value { result ≡ spec.by_rule file.now v }
+    ensures value { (settings : LinterSettings) → AreKnown settings file.now classes.now → result ≡ spec.by_rule settings file.now v }
 {
     let statement = statement_of(file, cursor, v.text_range);
+    let class = classes.class_of(file, &v);
     Report {
         code: Code::Rule(v.code),
         message: v.message,
@@ -47,7 +40,7 @@ fn by_rule(file: &Parse<'_>, cursor: &mut Cursor, v: Violation) -> Report
         statement,
         note: v.note,
         help: v.help,
-        fix: fix_of(v.code, v.fix),
+        fix: offered(class, v.fix),
     }
 }
 
@@ -73,13 +66,14 @@ fn by_hazard(file: &Parse<'_>, cursor: &mut Cursor, f: Finding) -> Report
 pub(crate) fn push_by_rules(
     list: &mut Vec<Report>,
     file: &Parse<'_>,
+    classes: &FixClasses,
     reports: Vec<Violation>,
 ) -> Result<(), NoMemory>
-    ensures { OnOk result (list.new.items ≡ list.old.items ++ map (spec.by_rule file.now) reports.items) }
+    ensures { OnOk result ((settings : LinterSettings) → AreKnown settings file.now classes.now → list.new.items ≡ list.old.items ++ map (spec.by_rule settings file.now) reports.items) }
 {
     let mut cursor = start();
     for v in reports {
-        list.push(by_rule(file, &mut cursor, v))?;
+        list.push(by_rule(file, classes, &mut cursor, v))?;
     }
     Ok(())
 }

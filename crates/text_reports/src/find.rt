@@ -1,6 +1,8 @@
 //! What is reported of a text.
 ghost use Rattle.std.specs.Prelude.{◌≡◌, ◌<◌, ℕ, All, IfOk};
+ghost use Rattle.fix_class.specs.Known.{AreKnown};
 ghost use Rattle.hazard_ignore.specs.Covered.{AreIgnoresOf};
+ghost use Rattle.lint_base.specs.declared.settings.LinterSettings.{LinterSettings};
 ghost use Rattle.squawk_linter.specs.ByStart.{by_key};
 ghost use Rattle.sql_tree.specs.Statement.{IsTree};
 ghost use Rattle.text_reports.specs.Reports as spec;
@@ -8,6 +10,7 @@ ghost use Rattle.text_reports.specs.Reports.{SameButFlag};
 ghost use Rattle.text_reports.specs.Placed.{IsReportPlaced};
 
 use crate::convert::{push_by_hazards, push_by_rules};
+use fix_class::FixClasses;
 use hazard_base::{Finding, HazardSet};
 use hazard_find::find;
 use hazard_ignore::{HazardIgnores, without_hazard_names};
@@ -79,18 +82,20 @@ fn with_hazards(
     file: &Parse<'_>,
     rules: &RuleSet,
     hazards: &HazardSet,
+    classes: &FixClasses,
     reports: Vec<Violation>,
     found: Vec<Finding>,
 ) -> Result<Vec<Report>, NoMemory>
-    ensures { IfOk result (λ list. list.items ≡ spec.with_hazards file.now rules.now hazards.now reports.items found.items) }
+    ensures { IfOk result (λ list. (settings : LinterSettings) → AreKnown settings file.now classes.now
+        → list.items ≡ spec.with_hazards settings file.now rules.now hazards.now reports.items found.items) }
 {
     let ignores = HazardIgnores::new(alloc, file)?;
     let unused = unused(alloc, file, rules, hazards, &ignores, found.as_slice())?;
     let left = uncovered(alloc, file, &ignores, found)?;
     let kept = without_hazard_names(alloc, reports)?;
     let mut list = Vec::new(alloc);
-    push_by_rules(&mut list, file, kept)?;
-    push_by_rules(&mut list, file, unused)?;
+    push_by_rules(&mut list, file, classes, kept)?;
+    push_by_rules(&mut list, file, classes, unused)?;
     push_by_hazards(&mut list, file, left)?;
     Ok(list)
 }
@@ -111,15 +116,11 @@ fn reports_of(
     ensures settings { SameButFlag linter.old.linter.settings linter.new.linter.settings }
 {
     let found = find(alloc, file, &linter.linter.settings, &linter.hazards)?;
+    let classes = FixClasses::new(alloc, file, &linter.linter.settings)?;
     let reports = linter.linter.lint(alloc, file)?;
-    let list = with_hazards(
-        alloc,
-        file,
-        &linter.linter.rules,
-        &linter.hazards,
-        reports,
-        found,
-    )?;
+    let rules = &linter.linter.rules;
+    let hazards = &linter.hazards;
+    let list = with_hazards(alloc, file, rules, hazards, &classes, reports, found)?;
     let sorted = by_start(list)?;
     Ok(sorted)
 }

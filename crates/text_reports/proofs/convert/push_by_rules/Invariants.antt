@@ -1,5 +1,7 @@
 use Rattle.std.proofs.Common.{◌≡◌, ◌++◌, map}
 use Rattle.std.specs.Vec.Iter.{into_iter_items}
+use Rattle.fix_class.specs.Known.{AreKnown}
+use Rattle.lint_base.specs.declared.settings.LinterSettings.{LinterSettings}
 use Rattle.text_reports.specs.Reports.{by_rule}
 use Rattle.text_reports.specs.Statements.{IsCursor}
 use Rattle.text_reports.proofs.convert.push_by_rules.Given as goal
@@ -8,6 +10,6 @@ use Rattle.text_reports.proofs.convert.push_by_rules.Given as goal
 abbrev pub invariant-loop-v : goal.invariant-loop-v
 invariant-loop-v l = record {
   cursor : IsCursor l.file l.cursor;
-  added : l.list.items ≡ l.fn.list.items ++ map (by_rule l.file) l.yielded;
+  added : (settings : LinterSettings) → AreKnown settings l.file l.classes → l.list.items ≡ l.fn.list.items ++ map (by_rule settings l.file) l.yielded;
   others : l.fn.reports.items ≡ l.yielded ++ into_iter_items l.v-iterator;
 }

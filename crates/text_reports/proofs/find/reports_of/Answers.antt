@@ -11,7 +11,7 @@ returns-clause-reports c =
     let old = c.args.linter.now in
     (sorted_all file old.linter.rules old.hazards old.linter.settings c.in_ok-reports.reports.items c.in_ok-found.found.items c.in_ok-list.list.items c.in_ok-sorted.sorted.items
     (record { read = c.requires.tree; utf8 = subst IsUtf8 c.requires.text c.utf8.text }) c.in_ok-reports.ensures.ok c.in_ok-reports.ensures.places c.in_ok-found.ensures
-    (subst (λ (r : Rules). c.in_ok-list.list.items ≡ with_hazards file r old.hazards c.in_ok-reports.reports.items c.in_ok-found.found.items) c.lint.ensures.rules c.in_ok-list.ensures) c.in_ok-sorted.ensures).0
+    (subst (λ (r : Rules). c.in_ok-list.list.items ≡ with_hazards old.linter.settings file r old.hazards c.in_ok-reports.reports.items c.in_ok-found.found.items) c.lint.ensures.rules (c.in_ok-list.ensures old.linter.settings c.in_ok-classes.ensures)) c.in_ok-sorted.ensures).0
 
 pub returns-clause-placed : goal.returns-clause-placed
 returns-clause-placed c =
@@ -19,4 +19,4 @@ returns-clause-placed c =
     let old = c.args.linter.now in
     (sorted_all file old.linter.rules old.hazards old.linter.settings c.in_ok-reports.reports.items c.in_ok-found.found.items c.in_ok-list.list.items c.in_ok-sorted.sorted.items
     (record { read = c.requires.tree; utf8 = subst IsUtf8 c.requires.text c.utf8.text }) c.in_ok-reports.ensures.ok c.in_ok-reports.ensures.places c.in_ok-found.ensures
-    (subst (λ (r : Rules). c.in_ok-list.list.items ≡ with_hazards file r old.hazards c.in_ok-reports.reports.items c.in_ok-found.found.items) c.lint.ensures.rules c.in_ok-list.ensures) c.in_ok-sorted.ensures).1
+    (subst (λ (r : Rules). c.in_ok-list.list.items ≡ with_hazards old.linter.settings file r old.hazards c.in_ok-reports.reports.items c.in_ok-found.found.items) c.lint.ensures.rules (c.in_ok-list.ensures old.linter.settings c.in_ok-classes.ensures)) c.in_ok-sorted.ensures).1
