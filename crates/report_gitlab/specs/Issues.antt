@@ -1,24 +1,23 @@
 -- Findings as issues of GitLab's Code Quality report format (GitLab's documentation, "Code Quality", "Code Quality report format").
-use Rattle.std.specs.Prelude.{ℕ, List, [], ◌∷◌, ◌++◌, codes}
+use Rattle.std.specs.Prelude.{ℕ, List, [], ◌∷◌, ◌++◌, codes, slice_range}
 use Rattle.hex.specs.Hex.{encode_lower}
 use Rattle.sha2.specs.Sha256.{sha256}
 use Rattle.serde_json.specs.Data.{Data, member, no_members, number, object, string, unsigned}
-use Rattle.lint_base.specs.declared.violation.Violation.{Violation}
-use Rattle.lint_base.specs.Rules.{name_of}
+use Rattle.lint_report.specs.declared.report.Report.{Report}
+use Rattle.lint_report.specs.Codes.{name_of}
 use Rattle.source_file.specs.declared.level.Level.{Level}
 use Rattle.source_file.specs.declared.level.Level.TheVariants as level
 use Rattle.source_file.specs.declared.refusal.Refusal.{Refusal}
 use Rattle.source_file.specs.File.{FileValue, line_number}
 use Rattle.source_file.specs.Line.{Text}
 use Rattle.source_file.specs.Refusals as refusals
-use Rattle.report_gitlab.specs.Statement.{statement_around}
 
 -- of the severities info, minor, major, critical and blocker
 abbrev pub severity_of : Level → List ℕ
 severity_of level.Warning = codes "minor"
 severity_of level.Error = codes "major"
 
--- what the fingerprint is taken of: the file's name, the rule's and the statement, with a byte 0 between two
+-- what the fingerprint is taken of: the file's name, that of the rule or hazard, and the statement, with a byte 0 between two
 abbrev pub fingerprinted : Text → List ℕ → Text → List ℕ
 fingerprinted file name part = file ++ 0 ∷ name ++ 0 ∷ part
 
@@ -26,9 +25,13 @@ fingerprinted file name part = file ++ 0 ∷ name ++ 0 ∷ part
 unfoldable pub fingerprint : Text → List ℕ → Text → List ℕ
 fingerprint file name part = encode_lower (sha256 (fingerprinted file name part))
 
--- the fingerprint of a report of a file, by the text of its statement
-abbrev pub report_fingerprint : Text → Text → Violation → List ℕ
-report_fingerprint file text v = fingerprint file (name_of v.code) (statement_around text v.text_range.start v.text_range.end)
+-- the text of the statement of a report, from its first token to its last
+abbrev pub statement_text : Text → Report → Text
+statement_text text r = slice_range text r.statement.start r.statement.end
+
+-- the fingerprint of a report of a file
+abbrev pub report_fingerprint : Text → Text → Report → List ℕ
+report_fingerprint file text r = fingerprint file (name_of r.code) (statement_text text r)
 
 -- a line of a file; lines begin at 1
 abbrev pub location_object : Text → ℕ → Data
@@ -51,10 +54,9 @@ issue_object file line level name message part =
     described level name message (fingerprint file.name name part) (location_object file.name line)
 
 -- a report
-abbrev pub report_issue : FileValue → Violation → Data
-report_issue file v =
-    issue_object file (line_number file.text v.text_range.start) level.Warning (name_of v.code) v.message
-    (statement_around file.text v.text_range.start v.text_range.end)
+abbrev pub report_issue : FileValue → Report → Data
+report_issue file r =
+    issue_object file (line_number file.text r.text_range.start) level.Warning (name_of r.code) r.message (statement_text file.text r)
 
 -- why a file could not be linted
 abbrev pub refusal_issue : FileValue → Refusal → Data

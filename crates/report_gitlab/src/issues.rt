@@ -2,11 +2,9 @@
 ghost use Rattle.std.specs.Prelude.{◌≡◌, IfOk, string_bytes};
 ghost use Rattle.serde_json.specs.View.{view};
 ghost use Rattle.source_file.specs.File.{IsRangeIn};
-ghost use Rattle.report_gitlab.specs.Issues.{described, fingerprint, fingerprinted, issue_object, location_object, refusal_issue, report_fingerprint, report_issue, severity_of};
-ghost use Rattle.report_gitlab.specs.Statement.{statement_around};
+ghost use Rattle.report_gitlab.specs.Issues.{described, fingerprint, fingerprinted, issue_object, location_object, refusal_issue, report_fingerprint, report_issue, severity_of, statement_text};
 
-use crate::statement::statement_around;
-use lint_base::Violation;
+use lint_report::Report;
 use serde_json::{Value, json};
 use sha2::{Digest, Sha256};
 use source_file::{Level, Refusal, SourceFile};
@@ -34,7 +32,7 @@ fn fingerprinted(alloc: Global, file: &str, name: &str, part: &[u8]) -> Result<V
     Ok(all)
 }
 
-// The fingerprint of a finding, by the file's name, the rule's and the statement.
+// The fingerprint of a finding, by the file's name, that of the rule or hazard, and the statement.
 #[tactic(auto, unfolding(crate::specs::Issues::fingerprint))]
 fn fingerprint(alloc: Global, file: &str, name: &str, part: &[u8]) -> Result<String, AllocError>
     ensures { IfOk result (λ text. string_bytes text ≡ fingerprint file.now name.now part.now) }
@@ -44,32 +42,27 @@ fn fingerprint(alloc: Global, file: &str, name: &str, part: &[u8]) -> Result<Str
 }
 
 // The text of the statement that a report is in.
-fn statement_of(alloc: Global, text: &str, report: &Violation) -> Result<Vec<u8>, AllocError>
-    requires { IsRangeIn text.now report.now.text_range }
-    ensures { IfOk result (λ all. all.items ≡ statement_around text.now report.now.text_range.start report.now.text_range.end) }
+fn statement_of<'a>(text: &'a str, report: &Report) -> &'a [u8]
+    requires { IsRangeIn text.now report.now.statement }
+    ensures { result.now ≡ statement_text text.now report.now }
 {
-    let range = report.text_range;
-    statement_around(
-        alloc,
-        text.as_bytes(),
-        range.start().raw() as usize,
-        range.end().raw() as usize,
-    )
+    let start = report.statement.start().raw() as usize;
+    let end = report.statement.end().raw() as usize;
+    &text.as_bytes()[start..end]
 }
 
-/// The fingerprint of a report of a file, by the file's name, the rule's and the text of the statement: that up to the semicolons next to
-/// the range of the report, without white space at its ends. The error comes when memory runs out.
+/// The fingerprint of a report of a file, by the file's name, that of the report's rule or hazard, and the text of its statement: from the
+/// first token to the last, so that white space and comments around it change nothing. The error comes when memory runs out.
 pub fn report_fingerprint(
     alloc: Global,
     file: &str,
     text: &str,
-    report: &Violation,
+    report: &Report,
 ) -> Result<String, AllocError>
-    requires { IsRangeIn text.now report.now.text_range }
+    requires { IsRangeIn text.now report.now.statement }
     ensures { IfOk result (λ print. string_bytes print ≡ report_fingerprint file.now text.now report.now) }
 {
-    let statement = statement_of(alloc, text, report)?;
-    fingerprint(alloc, file, report.code.name(), statement.as_slice())
+    fingerprint(alloc, file, report.code.name(), statement_of(text, report))
 }
 
 // A line of a file.
@@ -121,24 +114,16 @@ fn issue_value(
 pub(crate) fn report_issue(
     alloc: Global,
     file: &SourceFile<'_>,
-    violation: &Violation,
+    report: &Report,
 ) -> Result<Value, AllocError>
-    requires { IsRangeIn file.now.text violation.now.text_range }
-    ensures { IfOk result (λ value. view value ≡ report_issue file.now violation.now) }
+    requires { IsRangeIn file.now.text report.now.statement }
+    ensures { IfOk result (λ value. view value ≡ report_issue file.now report.now) }
 {
-    let statement = statement_of(alloc, file.text(), violation)?;
-    let line = file.line(violation.text_range.start());
-    let name = violation.code.name();
-    let message = violation.message.as_str();
-    issue_value(
-        alloc,
-        file,
-        line,
-        Level::Warning,
-        name,
-        message,
-        statement.as_slice(),
-    )
+    let line = file.line(report.text_range.start());
+    let name = report.code.name();
+    let message = report.message.as_str();
+    let statement = statement_of(file.text(), report);
+    issue_value(alloc, file, line, Level::Warning, name, message, statement)
 }
 
 /// Why a file could not be linted, as an issue. The error comes when memory runs out.

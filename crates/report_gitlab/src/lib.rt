@@ -4,7 +4,6 @@
 #![tactic(auto)]
 
 mod issues;
-mod statement;
 mod text;
 
 pub use issues::report_fingerprint;

@@ -6,7 +6,7 @@ ghost use Rattle.source_file.specs.File.{IsRangeIn};
 ghost use Rattle.report_gitlab.specs.Issues.{refusal_issue, report_issue};
 
 use crate::issues::{refusal_issue, report_issue};
-use lint_base::Violation;
+use lint_report::Report;
 use serde_json::Value;
 use source_file::{Refusal, SourceFile};
 use std::alloc::Global;
@@ -27,12 +27,12 @@ pub fn push_report(
     to: &mut Vec<u8>,
     alloc: Global,
     file: &SourceFile<'_>,
-    violation: &Violation,
+    report: &Report,
 ) -> Result<(), NoMemory>
-    requires { IsRangeIn file.now.text violation.now.text_range }
-    ensures { OnOk result (to.new.items ≡ to.old.items ++ compact_text (report_issue file.now violation.now)) }
+    requires { IsRangeIn file.now.text report.now.statement }
+    ensures { OnOk result (to.new.items ≡ to.old.items ++ compact_text (report_issue file.now report.now)) }
 {
-    let value = report_issue(alloc, file, violation)?;
+    let value = report_issue(alloc, file, report)?;
     push_value(to, alloc, &value)
 }
 
