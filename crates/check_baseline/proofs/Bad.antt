@@ -1,5 +1,5 @@
 -- The lines of a baseline, one by one.
-use Rattle.std.proofs.Common.{◌≡◌, ◌∙◌, ◌+◌, ◌<◌, ◌≤◌, ℕ, Bool, List, [], Bor, Some, None, ap, drop, get_or, length, map, not}
+use Rattle.std.proofs.Common.{◌≡◌, ◌∙◌, ◌+◌, ◌<◌, ◌≤◌, ℕ, Bool, List, Bor, Some, None, ap, drop, get_or, length, map, not}
 use Rattle.std.proofs.lemmas.List.{drop_all, drop_more}
 use Rattle.std.specs.Prelude.{if◌then◌else◌}
 use Rattle.check_baseline.specs.Known.{bad_line_from, is_line}

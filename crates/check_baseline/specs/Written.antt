@@ -1,5 +1,5 @@
 -- The baseline that knows all reports of some files.
-use Rattle.std.specs.Prelude.{ℕ, List, ◌++◌, codes}
+use Rattle.std.specs.Prelude.{List, ◌++◌, codes}
 use Rattle.std.specs.List.{flat_map}
 use Rattle.checked_file.specs.declared.answer.Answer.{Answer}
 use Rattle.checked_file.specs.declared.answer.Answer.TheVariants.{Reports, Refused}
