@@ -4,18 +4,35 @@ use Rattle.std.specs.List.{flat_map}
 use Rattle.serde_json.specs.Data.{Data, array, item, member, no_items, no_members, object, string}
 use Rattle.serde_json.specs.View.{items_of}
 use Rattle.serde_json.specs.Written.{compact_text}
+use Rattle.hazard_base.specs.declared.hazard.Hazard.{Hazard}
+use Rattle.hazard_base.specs.Hazards.{all_hazards}
 use Rattle.lint_base.specs.declared.rule.Rule.{Rule}
-use Rattle.lint_base.specs.Rules.{all_rules, name_of}
+use Rattle.lint_base.specs.Rules.{all_rules}
+use Rattle.lint_report.specs.declared.code.Code.{Code}
+use Rattle.lint_report.specs.declared.code.Code.TheVariants as code
+use Rattle.lint_report.specs.Codes.{name_of}
+
+-- what reports go by
+abbrev pub code_object : Code → Data
+code_object c = object (member (codes "id") (string (name_of c)) no_members)
 
 -- a rule
 abbrev pub rule_object : Rule → Data
-rule_object rule = object (member (codes "id") (string (name_of rule)) no_members)
+rule_object rule = code_object (code.Rule rule)
 
--- the linter's name and all its rules
+-- a hazard
+abbrev pub hazard_object : Hazard → Data
+hazard_object hazard = code_object (code.Hazard hazard)
+
+-- all rules, and then all hazards
+abbrev pub all_codes : List Data
+all_codes = map rule_object all_rules ++ map hazard_object all_hazards
+
+-- the linter's name, all its rules and all hazards
 abbrev pub driver : Data
 driver = object
     (member (codes "name") (string (codes "lavkheto"))
-    (member (codes "rules") (array (items_of (map rule_object all_rules))) no_members))
+    (member (codes "rules") (array (items_of all_codes)) no_members))
 
 -- the linter
 abbrev pub tool : Data

@@ -1,13 +1,15 @@
--- Findings as results of SARIF 2.1.0: 3.27 result, 3.11 message, 3.28 location, 3.55 fix, 3.56 artifactChange, 3.57 replacement.
+-- Findings as results of SARIF 2.1.0: 3.8 property bags, 3.27 result, 3.11 message, 3.28 location, 3.55 fix, 3.56 artifactChange, 3.57 replacement.
 use Rattle.std.specs.Prelude.{ℕ, Bool, if◌then◌else◌, List, [], codes, map, Option, Some, None, unwrap_or}
 use Rattle.std.specs.List.{list_all}
 use Rattle.serde_json.specs.Data.{Data, array, item, member, no_items, no_members, object, string}
 use Rattle.serde_json.specs.View.{items_of}
 use Rattle.text_pos.specs.Range.{Range}
 use Rattle.lint_base.specs.declared.edit.Edit.{Edit}
-use Rattle.lint_base.specs.declared.violation.Violation.{Violation}
-use Rattle.lint_base.specs.Fixes.{FixValue}
-use Rattle.lint_base.specs.Rules.{name_of}
+use Rattle.lint_report.specs.declared.fix_class.FixClass.{FixClass}
+use Rattle.lint_report.specs.declared.report.Report.{Report}
+use Rattle.lint_report.specs.declared.report.ReportFix.{ReportFix}
+use Rattle.lint_report.specs.Codes.{name_of}
+use Rattle.lint_report.specs.FixClasses as classes
 use Rattle.source_file.specs.declared.level.Level.TheVariants as level
 use Rattle.source_file.specs.declared.refusal.Refusal.{Refusal}
 use Rattle.source_file.specs.File.{FileValue}
@@ -44,16 +46,21 @@ changes name edits = one (object
     (member (codes "artifactLocation") (artifact_location name)
     (member (codes "replacements") edits no_members)))
 
+-- the property bag of a fix: how far it can be trusted
+abbrev pub fix_properties : FixClass → Data
+fix_properties class = object (member (codes "class") (string (classes.name_of class)) no_members)
+
 -- a fix
-abbrev pub fix_object : FileValue → FixValue → Data
+abbrev pub fix_object : FileValue → ReportFix → Data
 fix_object file fix = object
-    (member (codes "artifactChanges") (changes file.name (replacements file.text fix.edits))
-    (member (codes "description") (text_object fix.title) no_members))
+    (member (codes "artifactChanges") (changes file.name (replacements file.text fix.fix.edits))
+    (member (codes "description") (text_object fix.fix.title)
+    (member (codes "properties") (fix_properties fix.class) no_members)))
 
 -- a fix whose edits are in the text
-abbrev pub fixes : FileValue → Option FixValue → Data
+abbrev pub fixes : FileValue → Option ReportFix → Data
 fixes file None = array no_items
-fixes file (Some fix) = if are_in_text file.text fix.edits then one (fix_object file fix) else array no_items
+fixes file (Some fix) = if are_in_text file.text fix.fix.edits then one (fix_object file fix) else array no_items
 
 -- where a finding is
 abbrev pub locations : FileValue → Range → Data
@@ -69,8 +76,8 @@ result_object file range level name message fixes = object
     (member (codes "ruleId") (string name) no_members)))))
 
 -- a report
-abbrev pub report_result : FileValue → Violation → Data
-report_result file v = result_object file v.text_range (word_of level.Warning) (name_of v.code) v.message (fixes file v.fix)
+abbrev pub report_result : FileValue → Report → Data
+report_result file r = result_object file r.text_range (word_of level.Warning) (name_of r.code) r.message (fixes file r.fix)
 
 -- why a file could not be linted
 abbrev pub refusal_result : FileValue → Refusal → Data

@@ -3,10 +3,11 @@ ghost use Rattle.std.specs.Prelude.{◌≡◌, false, true, IfOk, MatchOption};
 ghost use Rattle.serde_json.specs.View.{view};
 ghost use Rattle.source_file.specs.File.{IsRangeIn};
 ghost use Rattle.report_sarif.specs.Places.{is_range_in};
-ghost use Rattle.report_sarif.specs.Results.{are_in_text, changes, fix_object, fixes, one, replacement, replacements, text_object};
+ghost use Rattle.report_sarif.specs.Results.{are_in_text, changes, fix_object, fix_properties, fixes, one, replacement, replacements, text_object};
 
 use crate::places::{artifact_location, is_range_in, region};
-use lint_base::{Edit, Fix};
+use lint_base::Edit;
+use lint_report::{FixClass, ReportFix};
 use serde_json::{Value, json};
 use source_file::SourceFile;
 use std::alloc::{AllocError, Global};
@@ -85,33 +86,41 @@ fn changes_value(alloc: Global, name: &str, edits: Value) -> Result<Value, Alloc
     one(alloc, change)
 }
 
+// The property bag of a fix.
+fn fix_properties(alloc: Global, class: FixClass) -> Result<Value, AllocError>
+    ensures { IfOk result (λ value. view value ≡ fix_properties class) }
+{
+    json!(in alloc; {"class": (class.name())})
+}
+
 // A fix, by its edits as values.
 fn fix_value(
     alloc: Global,
     file: &SourceFile<'_>,
-    fix: &Fix,
+    fix: &ReportFix,
     edits: Value,
 ) -> Result<Value, AllocError>
-    requires { view edits ≡ replacements file.now.text fix.now.edits }
+    requires { view edits ≡ replacements file.now.text fix.now.fix.edits }
     ensures { IfOk result (λ value. view value ≡ fix_object file.now fix.now) }
 {
     let changes = changes_value(alloc, file.name(), edits)?;
-    let description = text_object(alloc, fix.title.as_str())?;
-    json!(in alloc; {"artifactChanges": changes, "description": description})
+    let description = text_object(alloc, fix.fix.title.as_str())?;
+    let properties = fix_properties(alloc, fix.class)?;
+    json!(in alloc; {"artifactChanges": changes, "description": description, "properties": properties})
 }
 
 /// The fix of a report, where it has one whose edits are in the text.
 pub(crate) fn fixes_value(
     alloc: Global,
     file: &SourceFile<'_>,
-    fix: &Option<Fix>,
+    fix: &Option<ReportFix>,
 ) -> Result<Value, AllocError>
     ensures { IfOk result (λ value. view value ≡ fixes file.now fix.now) }
 {
     let Some(fix) = fix else {
         return Ok(Value::Array(Vec::new(alloc)));
     };
-    match replacements(alloc, file, fix.edits.as_slice())? {
+    match replacements(alloc, file, fix.fix.edits.as_slice())? {
         None => Ok(Value::Array(Vec::new(alloc))),
         Some(edits) => {
             let value = fix_value(alloc, file, fix, edits)?;

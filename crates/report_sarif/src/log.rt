@@ -1,47 +1,60 @@
 //! What is round the results.
 ghost use Rattle.std.specs.Prelude.{◌≡◌, ◌++◌, IfOk, OnOk, map};
-ghost use Rattle.lint_base.specs.Rules.{all_rules};
 ghost use Rattle.serde_json.specs.Data.{array};
 ghost use Rattle.serde_json.specs.View.{items_of, view};
-ghost use Rattle.report_sarif.specs.Log.{closing, driver, opening, rule_object, tool};
+ghost use Rattle.report_sarif.specs.Log.{all_codes, closing, code_object, driver, hazard_object, opening, rule_object, tool};
 
 use crate::text::push_value;
+use hazard_base::Hazard;
 use lint_base::Rule;
+use lint_report::Code;
 use serde_json::{Value, json};
 use std::alloc::{AllocError, Global};
 use text_pos::NoMemory;
 
-// A rule.
-fn rule_value(alloc: Global, rule: Rule) -> Result<Value, AllocError>
-    ensures { IfOk result (λ value. view value ≡ rule_object rule) }
+// What reports go by.
+fn code_value(alloc: Global, code: Code) -> Result<Value, AllocError>
+    ensures { IfOk result (λ value. view value ≡ code_object code) }
 {
-    json!(in alloc; {"id": (rule.name())})
+    json!(in alloc; {"id": (code.name())})
 }
 
-// Rules, in order.
-fn rules_value(alloc: Global, rules: &[Rule]) -> Result<Value, AllocError>
-    ensures { IfOk result (λ value. view value ≡ array (items_of (map rule_object rules.now))) }
+// Adds rules, in order.
+fn push_rules(to: &mut Vec<Value>, alloc: Global, rules: &[Rule]) -> Result<(), AllocError>
+    ensures { OnOk result (map view to.new.items ≡ map view to.old.items ++ map rule_object rules.now) }
+{
+    for rule in rules {
+        to.push(code_value(alloc, Code::Rule(*rule))?)?;
+    }
+    Ok(())
+}
+
+// Adds hazards, in order.
+fn push_hazards(to: &mut Vec<Value>, alloc: Global, hazards: &[Hazard]) -> Result<(), AllocError>
+    ensures { OnOk result (map view to.new.items ≡ map view to.old.items ++ map hazard_object hazards.now) }
+{
+    for hazard in hazards {
+        to.push(code_value(alloc, Code::Hazard(*hazard))?)?;
+    }
+    Ok(())
+}
+
+// All rules of the linter, and then all hazards.
+#[tactic(auto, unfolding(lint_base::specs::Rules::all_rules, hazard_base::specs::Hazards::all_hazards))]
+fn all_codes_value(alloc: Global) -> Result<Value, AllocError>
+    ensures { IfOk result (λ value. view value ≡ array (items_of all_codes)) }
 {
     let mut list = Vec::new(alloc);
-    for rule in rules {
-        list.push(rule_value(alloc, *rule)?)?;
-    }
+    push_rules(&mut list, alloc, &Rule::ALL)?;
+    push_hazards(&mut list, alloc, &Hazard::ALL)?;
     Ok(Value::Array(list))
 }
 
-// All rules of the linter.
-#[tactic(auto, unfolding(lint_base::specs::Rules::all_rules))]
-fn all_rules_value(alloc: Global) -> Result<Value, AllocError>
-    ensures { IfOk result (λ value. view value ≡ array (items_of (map rule_object all_rules))) }
-{
-    rules_value(alloc, &Rule::ALL)
-}
-
-// The linter's name and all its rules.
+// The linter's name, all its rules and all hazards.
 fn driver_value(alloc: Global) -> Result<Value, AllocError>
     ensures { IfOk result (λ value. view value ≡ driver) }
 {
-    let rules = all_rules_value(alloc)?;
+    let rules = all_codes_value(alloc)?;
     json!(in alloc; {"name": "lavkheto", "rules": rules})
 }
 

@@ -9,7 +9,7 @@ ghost use Rattle.report_sarif.specs.Results.{locations, refusal_result, report_r
 
 use crate::fixes::{fixes_value, one, text_object};
 use crate::places::physical_location;
-use lint_base::Violation;
+use lint_report::Report;
 use serde_json::{Value, json};
 use source_file::{Level, Refusal, SourceFile};
 use std::alloc::{AllocError, Global};
@@ -54,18 +54,18 @@ fn result_value(
 pub(crate) fn report_result(
     alloc: Global,
     file: &SourceFile<'_>,
-    violation: &Violation,
+    report: &Report,
 ) -> Result<Value, AllocError>
-    requires { IsRangeIn file.now.text violation.now.text_range }
-    ensures { IfOk result (λ value. view value ≡ report_result file.now violation.now) }
+    requires { IsRangeIn file.now.text report.now.text_range }
+    ensures { IfOk result (λ value. view value ≡ report_result file.now report.now) }
 {
-    let fixes = fixes_value(alloc, file, &violation.fix)?;
-    let name = violation.code.name();
-    let message = violation.message.as_str();
+    let fixes = fixes_value(alloc, file, &report.fix)?;
+    let name = report.code.name();
+    let message = report.message.as_str();
     result_value(
         alloc,
         file,
-        violation.text_range,
+        report.text_range,
         Level::Warning,
         name,
         message,

@@ -1,9 +1,10 @@
 -- Helps that PostgreSQL refuses.
-use Rattle.std.specs.Prelude.{ℕ, ◌==◌, Bool, not, ◌&&◌, ◌||◌, if◌then◌else◌, [], codes, length, slice_range, Option, Some, None}
+use Rattle.std.specs.Prelude.{ℕ, ◌==◌, Bool, false, not, ◌&&◌, ◌||◌, if◌then◌else◌, [], codes, length, slice_range, Option, Some, None}
 use Rattle.std.specs.List.{position}
-use Rattle.lint_base.specs.declared.rule.Rule.{Rule}
 use Rattle.lint_base.specs.declared.rule.Rule.TheVariants as rule
 use Rattle.lint_base.specs.RuleNames.{same_rule}
+use Rattle.lint_report.specs.declared.code.Code.{Code}
+use Rattle.lint_report.specs.declared.code.Code.TheVariants as code
 use Rattle.source_file.specs.Hints.{begins_with}
 use Rattle.source_file.specs.Line.{Text}
 
@@ -38,6 +39,7 @@ added_kind text =
 abbrev pub has_no_not_valid : Text → Bool
 has_no_not_valid kind = begins_with kind (codes "unique") || begins_with kind (codes "primary") || begins_with kind (codes "exclude")
 
--- the report of a constraint that is added without NOT VALID, where it can't have that
-unfoldable pub is_refused_help : Rule → Text → Bool
-is_refused_help code text = same_rule code rule.ConstraintMissingNotValid && has_no_not_valid (added_kind text)
+-- the report of a constraint that is added without NOT VALID, where it can't have that; no hazard has such a help
+unfoldable pub is_refused_help : Code → Text → Bool
+is_refused_help (code.Rule r) text = same_rule r rule.ConstraintMissingNotValid && has_no_not_valid (added_kind text)
+is_refused_help (code.Hazard h) text = false

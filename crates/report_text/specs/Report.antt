@@ -1,8 +1,8 @@
 -- A finding as people read it.
 use Rattle.std.specs.Prelude.{ℕ, ◌-◌, Bool, ◌&&◌, is_none, if◌then◌else◌, List, [], ◌++◌, length, codes, decimal, slice_range, Option, Some, None}
 use Rattle.text_pos.specs.Range.{Range}
-use Rattle.lint_base.specs.declared.violation.Violation.{Violation}
-use Rattle.lint_base.specs.Rules.{name_of}
+use Rattle.lint_report.specs.declared.report.Report.{Report}
+use Rattle.lint_report.specs.Codes.{name_of}
 use Rattle.source_file.specs.declared.level.Level.{Level}
 use Rattle.source_file.specs.declared.level.Level.TheVariants as level
 use Rattle.source_file.specs.declared.refusal.Refusal.{Refusal}
@@ -25,11 +25,11 @@ use Rattle.report_text.specs.Paint.{painted, style_of}
 abbrev pub layout_of : Text → Bool → Layout
 layout_of text color = record { color = color; gutter = length (decimal (line_number text (length text - 1))) }
 
--- `warning[rule]`
+-- `warning[name]`
 abbrev pub label : Bool → Level → List ℕ → List ℕ
 label color level name = painted color (style_of level) (word_of level ++ codes "[" ++ name ++ codes "]")
 
--- `warning[rule]: message`
+-- `warning[name]: message`
 unfoldable pub title : Bool → Level → List ℕ → List ℕ → List ℕ
 title color level name message = label color level name ++ painted color Bold (codes ": " ++ shown message) ++ codes "\n"
 
@@ -53,25 +53,25 @@ note l label None = []
 note l label (Some text) = note_row l label text
 
 -- PostgreSQL refuses what the help of a report says
-abbrev pub hides_help : FileValue → Violation → Bool
-hides_help file v = is_refused_help v.code (slice_range file.text v.text_range.start v.text_range.end)
+abbrev pub hides_help : FileValue → Report → Bool
+hides_help file r = is_refused_help r.code (slice_range file.text r.text_range.start r.text_range.end)
 
 -- the help of a report, unless it is left out
-abbrev pub shown_help : Violation → Bool → Option Text
-shown_help v hides = if hides then None else v.help
+abbrev pub shown_help : Report → Bool → Option Text
+shown_help r hides = if hides then None else r.help
 
 -- a note and a help, below a row that has nothing but its margin, which is there before a fix too
-unfoldable pub notes : Layout → Violation → Option Text → List ℕ
-notes l v help =
-    if is_none v.note && is_none help && is_none v.fix then []
-    else bar_line l ++ note l (codes "note") v.note ++ note l (codes "help") help
+unfoldable pub notes : Layout → Report → Option Text → List ℕ
+notes l r help =
+    if is_none r.note && is_none help && is_none r.fix then []
+    else bar_line l ++ note l (codes "note") r.note ++ note l (codes "help") help
 
 -- a report of a file
-abbrev pub printed_report : Bool → FileValue → Violation → List ℕ
-printed_report color file v =
+abbrev pub printed_report : Bool → FileValue → Report → List ℕ
+printed_report color file r =
     let l = layout_of file.text color in
-    title color level.Warning (name_of v.code) v.message ++ head l level.Warning file v.text_range ++ notes l v (shown_help v (hides_help file v))
-    ++ fix_part l file.text v.fix ++ codes "\n"
+    title color level.Warning (name_of r.code) r.message ++ head l level.Warning file r.text_range ++ notes l r (shown_help r (hides_help file r))
+    ++ fix_part l file.text r.fix ++ codes "\n"
 
 -- `  --> file`, of a file without a text
 abbrev pub name_arrow : Layout → FileValue → List ℕ

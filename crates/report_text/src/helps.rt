@@ -3,6 +3,7 @@ ghost use Rattle.std.specs.Prelude.{◌≡◌, ◌<◌, IfSome, length, position
 ghost use Rattle.report_text.specs.Helps.{added_kind, from_letter, from_space, has_no_not_valid, is_not_space, is_refused_help, is_space, second_word};
 
 use lint_base::Rule;
+use lint_report::Code;
 use source_file::begins_with;
 
 // The place of the first blank, tab or byte that ends a line.
@@ -73,10 +74,15 @@ fn has_no_not_valid(kind: &[u8]) -> bool
     begins_with(kind, b"unique") || begins_with(kind, b"primary") || begins_with(kind, b"exclude")
 }
 
-/// Whether PostgreSQL refuses what the help of a rule's report says, by the text that is reported.
+/// Whether PostgreSQL refuses what the help of a report says, by the text that is reported. No hazard has such a help.
 #[tactic(auto, unfolding(crate::specs::Helps::is_refused_help, lint_base::specs::RuleNames::same_rule))]
-pub(crate) fn is_refused_help(code: Rule, text: &[u8]) -> bool
+pub(crate) fn is_refused_help(code: Code, text: &[u8]) -> bool
     ensures { result ≡ is_refused_help code text.now }
 {
-    code == Rule::ConstraintMissingNotValid && has_no_not_valid(added_kind(text))
+    match code {
+        Code::Rule(rule) => {
+            rule == Rule::ConstraintMissingNotValid && has_no_not_valid(added_kind(text))
+        }
+        Code::Hazard(_) => false,
+    }
 }

@@ -1,7 +1,6 @@
 //! Findings.
 ghost use Rattle.std.specs.Prelude.{◌≡◌, ◌++◌, OnOk, codes, is_none};
 ghost use Rattle.std.specs.Str.{IsCharBoundary};
-ghost use Rattle.lint_base.specs.Rules.{name_of};
 ghost use Rattle.source_file.specs.File.{IsRangeIn};
 ghost use Rattle.source_file.specs.Refusals as refusals;
 ghost use Rattle.report_text.specs.Report.{arrow, head, hides_help, hint_part, label, layout_of, name_arrow, note, note_row, notes, printed_refusal, printed_report, refusal_head, shown_help, title};
@@ -11,7 +10,8 @@ use crate::fixed::push_fix;
 use crate::helps::is_refused_help;
 use crate::layout::{Layout, digits, push_number};
 use crate::paint::{Style, push, push_closed, push_opened, push_painted, push_repeated};
-use lint_base::{Text, Violation};
+use lint_base::Text;
+use lint_report::Report;
 use source_file::{Hint, Level, Refusal, SourceFile, hint_for, push_shown};
 use std::alloc::Global;
 use text_pos::{NoMemory, TextRange, TextSize};
@@ -27,7 +27,7 @@ fn layout_of(file: &SourceFile<'_>, color: bool) -> Layout
     }
 }
 
-// Adds `warning[rule]`.
+// Adds `warning[name]`.
 #[tactic(auto, using(std::proofs::lemmas::List::append_assoc))]
 fn push_label(to: &mut Vec<u8>, color: bool, level: Level, name: &[u8]) -> Result<(), NoMemory>
     ensures { OnOk result (to.new.items ≡ to.old.items ++ label color level name.now) }
@@ -40,7 +40,7 @@ fn push_label(to: &mut Vec<u8>, color: bool, level: Level, name: &[u8]) -> Resul
     push_closed(to, color)
 }
 
-// Adds `warning[rule]: message`.
+// Adds `warning[name]: message`.
 #[tactic(auto, using(std::proofs::lemmas::List::append_assoc), unfolding(crate::specs::Report::title))]
 fn push_title(
     to: &mut Vec<u8>,
@@ -127,35 +127,30 @@ fn push_note(
 }
 
 // Whether PostgreSQL refuses what the help of a report says.
-fn hides_help(file: &SourceFile<'_>, violation: &Violation) -> bool
-    requires { IsRangeIn file.now.text violation.now.text_range }
-    ensures { result ≡ hides_help file.now violation.now }
+fn hides_help(file: &SourceFile<'_>, report: &Report) -> bool
+    requires { IsRangeIn file.now.text report.now.text_range }
+    ensures { result ≡ hides_help file.now report.now }
 {
-    let start = violation.text_range.start().raw() as usize;
-    let end = violation.text_range.end().raw() as usize;
-    is_refused_help(violation.code, &file.text().as_bytes()[start..end])
+    let start = report.text_range.start().raw() as usize;
+    let end = report.text_range.end().raw() as usize;
+    is_refused_help(report.code, &file.text().as_bytes()[start..end])
 }
 
 // Whether no help is shown.
-fn lacks_help(violation: &Violation, hides: bool) -> bool
-    ensures { result ≡ is_none (shown_help violation.now hides) }
+fn lacks_help(report: &Report, hides: bool) -> bool
+    ensures { result ≡ is_none (shown_help report.now hides) }
 {
-    hides || violation.help.is_none()
+    hides || report.help.is_none()
 }
 
 // Adds the help that is shown.
-fn push_help(
-    to: &mut Vec<u8>,
-    layout: Layout,
-    violation: &Violation,
-    hides: bool,
-) -> Result<(), NoMemory>
-    ensures { OnOk result (to.new.items ≡ to.old.items ++ note layout (codes "help") (shown_help violation.now hides)) }
+fn push_help(to: &mut Vec<u8>, layout: Layout, report: &Report, hides: bool) -> Result<(), NoMemory>
+    ensures { OnOk result (to.new.items ≡ to.old.items ++ note layout (codes "help") (shown_help report.now hides)) }
 {
     if hides {
         return Ok(());
     }
-    push_note(to, layout, b"help", &violation.help)
+    push_note(to, layout, b"help", &report.help)
 }
 
 // Adds a note and a help, below a row that has nothing but its margin, which is there before a fix too.
@@ -163,17 +158,17 @@ fn push_help(
 fn push_notes(
     to: &mut Vec<u8>,
     layout: Layout,
-    violation: &Violation,
+    report: &Report,
     hides: bool,
 ) -> Result<(), NoMemory>
-    ensures { OnOk result (to.new.items ≡ to.old.items ++ notes layout violation.now (shown_help violation.now hides)) }
+    ensures { OnOk result (to.new.items ≡ to.old.items ++ notes layout report.now (shown_help report.now hides)) }
 {
-    if violation.note.is_none() && lacks_help(violation, hides) && violation.fix.is_none() {
+    if report.note.is_none() && lacks_help(report, hides) && report.fix.is_none() {
         return Ok(());
     }
     layout.push_bar_line(to)?;
-    push_note(to, layout, b"note", &violation.note)?;
-    push_help(to, layout, violation, hides)
+    push_note(to, layout, b"note", &report.note)?;
+    push_help(to, layout, report, hides)
 }
 
 /// Adds a report of a file. The error comes when memory runs out.
@@ -182,30 +177,23 @@ pub fn push_report(
     alloc: Global,
     color: bool,
     file: &SourceFile<'_>,
-    violation: &Violation,
+    report: &Report,
 ) -> Result<(), NoMemory>
-    requires { IsRangeIn file.now.text violation.now.text_range }
-    ensures { OnOk result (to.new.items ≡ to.old.items ++ printed_report color file.now violation.now) }
+    requires { IsRangeIn file.now.text report.now.text_range }
+    ensures { OnOk result (to.new.items ≡ to.old.items ++ printed_report color file.now report.now) }
 {
     let layout = layout_of(file, color);
-    let name = violation.code.name().as_bytes();
+    let name = report.code.name().as_bytes();
     push_title(
         to,
         color,
         Level::Warning,
         name,
-        violation.message.as_str().as_bytes(),
+        report.message.as_str().as_bytes(),
     )?;
-    push_head(
-        to,
-        alloc,
-        layout,
-        Level::Warning,
-        file,
-        violation.text_range,
-    )?;
-    push_notes(to, layout, violation, hides_help(file, violation))?;
-    push_fix(to, alloc, layout, file, &violation.fix)?;
+    push_head(to, alloc, layout, Level::Warning, file, report.text_range)?;
+    push_notes(to, layout, report, hides_help(file, report))?;
+    push_fix(to, alloc, layout, file, &report.fix)?;
     push(to, b"\n")
 }
 

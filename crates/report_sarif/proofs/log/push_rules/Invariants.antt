@@ -1,0 +1,7 @@
+use Rattle.std.proofs.Common.{◌≡◌, ◌++◌, drop, map}
+use Rattle.serde_json.specs.View.{view}
+use Rattle.report_sarif.specs.Log.{rule_object}
+use Rattle.report_sarif.proofs.log.push_rules.Given as goal
+
+abbrev pub invariant-loop-rule : goal.invariant-loop-rule
+invariant-loop-rule l = map view l.to.items ++ map rule_object (drop l.rule-index l.rules) ≡ map view l.initial.to.items ++ map rule_object l.rules
