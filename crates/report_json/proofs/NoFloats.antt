@@ -3,8 +3,8 @@ use Rattle.std.proofs.Common.{◌≡◌, ℕ, false, List, [], ◌∷◌, map, O
 use Rattle.serde_json.specs.View.{items_of}
 use Rattle.serde_json.specs.Written.{has_float, items_have_float}
 use Rattle.lint_base.specs.declared.edit.Edit.{Edit}
-use Rattle.lint_base.specs.declared.violation.Violation.{Violation}
-use Rattle.lint_base.specs.Fixes.{FixValue}
+use Rattle.lint_report.specs.declared.report.Report.{Report}
+use Rattle.lint_report.specs.declared.report.ReportFix.{ReportFix}
 use Rattle.source_file.specs.declared.hints.Hint.{Hint}
 use Rattle.source_file.specs.declared.refusal.Refusal.{Refusal}
 use Rattle.source_file.specs.File.{FileValue}
@@ -19,9 +19,9 @@ edits_have_no_float : (edits : List Edit) → items_have_float (items_of (map ed
 edits_have_no_float [] = refl
 edits_have_no_float (e ∷ es) = edits_have_no_float es
 
-fix_has_no_float : (fix : Option FixValue) → has_float (fix_data fix) ≡ false
+fix_has_no_float : (fix : Option ReportFix) → has_float (fix_data fix) ≡ false
 fix_has_no_float None = refl
-fix_has_no_float (Some fix) = rw (edits_have_no_float fix.edits) refl
+fix_has_no_float (Some fix) = rw (edits_have_no_float fix.fix.edits) refl
 
 hint_has_no_float : (hint : Option Hint) → has_float (hint_data hint) ≡ false
 hint_has_no_float None = refl
@@ -30,5 +30,5 @@ hint_has_no_float (Some hint) = refl
 pub refusal_has_no_float : (file : FileValue) (r : Refusal) → has_float (refusal_object file r) ≡ false
 refusal_has_no_float file r = rw (hint_has_no_float (hint_of file.text r)) refl
 
-pub report_has_no_float : (file : FileValue) (v : Violation) → has_float (report_object file v) ≡ false
-report_has_no_float file v = rw (fix_has_no_float v.fix, text_has_no_float v.help, text_has_no_float v.note) refl
+pub report_has_no_float : (file : FileValue) (r : Report) → has_float (report_object file r) ≡ false
+report_has_no_float file r = rw (fix_has_no_float r.fix, text_has_no_float r.help, text_has_no_float r.note) refl

@@ -4,9 +4,10 @@ use Rattle.text_pos.specs.Range.{Range}
 use Rattle.serde_json.specs.Data.{Data, array, member, no_members, null, number, object, string, unsigned}
 use Rattle.serde_json.specs.View.{items_of}
 use Rattle.lint_base.specs.declared.edit.Edit.{Edit}
-use Rattle.lint_base.specs.declared.violation.Violation.{Violation}
-use Rattle.lint_base.specs.Fixes.{FixValue}
-use Rattle.lint_base.specs.Rules.{name_of}
+use Rattle.lint_report.specs.declared.report.Report.{Report}
+use Rattle.lint_report.specs.declared.report.ReportFix.{ReportFix}
+use Rattle.lint_report.specs.Codes.{name_of}
+use Rattle.lint_report.specs.FixClasses as classes
 use Rattle.source_file.specs.declared.level.Level.TheVariants as level
 use Rattle.source_file.specs.declared.refusal.Refusal.{Refusal}
 use Rattle.source_file.specs.File.{FileValue, location}
@@ -36,12 +37,13 @@ edit_object e = object
 abbrev pub edits_data : List Edit → Data
 edits_data edits = array (items_of (map edit_object edits))
 
--- a fix, or null
-abbrev pub fix_data : Option FixValue → Data
+-- a fix with its class, or null
+abbrev pub fix_data : Option ReportFix → Data
 fix_data None = null
 fix_data (Some fix) = object
-    (member (codes "edits") (edits_data fix.edits)
-    (member (codes "title") (string fix.title) no_members))
+    (member (codes "class") (string (classes.name_of fix.class))
+    (member (codes "edits") (edits_data fix.fix.edits)
+    (member (codes "title") (string fix.fix.title) no_members)))
 
 -- a finding: its members in the order of their keys
 abbrev pub finding_object : FileValue → Range → List ℕ → List ℕ → List ℕ → Data → Data → Data → Data
@@ -62,9 +64,9 @@ finding_object file range level name message note help fix =
     (member (codes "rule_name") (string name) no_members)))))))))))
 
 -- a report
-abbrev pub report_object : FileValue → Violation → Data
-report_object file v =
-    finding_object file v.text_range (word_of level.Warning) (name_of v.code) v.message (text_data v.note) (text_data v.help) (fix_data v.fix)
+abbrev pub report_object : FileValue → Report → Data
+report_object file r =
+    finding_object file r.text_range (word_of level.Warning) (name_of r.code) r.message (text_data r.note) (text_data r.help) (fix_data r.fix)
 
 -- why a file could not be linted
 abbrev pub refusal_object : FileValue → Refusal → Data

@@ -1,13 +1,13 @@
 //! The object of a finding.
 ghost use Rattle.std.specs.Prelude.{◌≡◌, IfOk};
 ghost use Rattle.std.specs.Str.{IsCharBoundary};
-ghost use Rattle.lint_base.specs.Rules.{name_of};
 ghost use Rattle.serde_json.specs.View.{view};
 ghost use Rattle.source_file.specs.File.{IsRangeIn};
 ghost use Rattle.source_file.specs.Refusals as refusals;
 ghost use Rattle.report_json.specs.Objects.{edit_object, edits_data, finding_object, fix_data, hint_data, refusal_object, report_object, text_data};
 
-use lint_base::{Edit, Fix, Text, Violation};
+use lint_base::{Edit, Text};
+use lint_report::{Report, ReportFix};
 use serde_json::{Value, json};
 use source_file::{Hint, Level, Refusal, SourceFile, hint_for};
 use std::alloc::{AllocError, Global};
@@ -57,16 +57,17 @@ fn edits_value(alloc: Global, edits: &[Edit]) -> Result<Value, AllocError>
     Ok(Value::Array(list))
 }
 
-// A fix, or null.
-fn fix_value(alloc: Global, fix: &Option<Fix>) -> Result<Value, AllocError>
+// A fix with its class, or null.
+fn fix_value(alloc: Global, fix: &Option<ReportFix>) -> Result<Value, AllocError>
     ensures { IfOk result (λ value. view value ≡ fix_data fix.now) }
 {
     let Some(fix) = fix else {
         return Ok(Value::Null);
     };
-    let edits = edits_value(alloc, fix.edits.as_slice())?;
-    let title = fix.title.as_str();
-    json!(in alloc; {"title": title, "edits": edits})
+    let class = fix.class.name();
+    let edits = edits_value(alloc, fix.fix.edits.as_slice())?;
+    let title = fix.fix.title.as_str();
+    json!(in alloc; {"class": class, "edits": edits, "title": title})
 }
 
 /// What a finding says beside its message.
@@ -111,23 +112,23 @@ fn finding_value(
 pub fn report_value(
     alloc: Global,
     file: &SourceFile<'_>,
-    violation: &Violation,
+    report: &Report,
 ) -> Result<Value, AllocError>
-    requires { IsRangeIn file.now.text violation.now.text_range }
-    ensures { IfOk result (λ value. view value ≡ report_object file.now violation.now) }
+    requires { IsRangeIn file.now.text report.now.text_range }
+    ensures { IfOk result (λ value. view value ≡ report_object file.now report.now) }
 {
     let details = Details {
-        note: text_value(alloc, &violation.note)?,
-        help: text_value(alloc, &violation.help)?,
-        fix: fix_value(alloc, &violation.fix)?,
+        note: text_value(alloc, &report.note)?,
+        help: text_value(alloc, &report.help)?,
+        fix: fix_value(alloc, &report.fix)?,
     };
     let level = Level::Warning.word();
-    let name = violation.code.name();
-    let message = violation.message.as_str();
+    let name = report.code.name();
+    let message = report.message.as_str();
     finding_value(
         alloc,
         file,
-        violation.text_range,
+        report.text_range,
         level,
         name,
         message,

@@ -8,7 +8,7 @@ ghost use Rattle.source_file.specs.Refusals as refusals;
 ghost use Rattle.report_json.specs.Objects.{refusal_object, report_object};
 
 use crate::objects::{refusal_value, report_value};
-use lint_base::Violation;
+use lint_report::Report;
 use serde_json::Value;
 use source_file::{Refusal, SourceFile};
 use std::alloc::Global;
@@ -29,12 +29,12 @@ pub fn push_report(
     to: &mut Vec<u8>,
     alloc: Global,
     file: &SourceFile<'_>,
-    violation: &Violation,
+    report: &Report,
 ) -> Result<(), NoMemory>
-    requires { IsRangeIn file.now.text violation.now.text_range }
-    ensures { OnOk result (to.new.items ≡ to.old.items ++ compact_text (report_object file.now violation.now)) }
+    requires { IsRangeIn file.now.text report.now.text_range }
+    ensures { OnOk result (to.new.items ≡ to.old.items ++ compact_text (report_object file.now report.now)) }
 {
-    let value = report_value(alloc, file, violation)?;
+    let value = report_value(alloc, file, report)?;
     push_value(to, alloc, &value)
 }
 
