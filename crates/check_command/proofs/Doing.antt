@@ -47,11 +47,11 @@ devices content before last left input input_now = record {
 
 run_weaker : (Are Be : List Checked → Type 0) (printed : List Checked → List ℕ) (old new : Option (List ℕ)) (status : Status) → ((files : List Checked) → Are files → Be files)
     → HasRun Are printed old new status → HasRun Be printed old new status
-run_weaker Are Be printed old new status f h = record { files = h.files; are = f h.files h.are; worst_of = h.worst_of; appended = h.appended }
+run_weaker Are Be printed old new status f h = record { files = h.files; are = f h.files h.are; sound = h.sound; worst_of = h.worst_of; appended = h.appended }
 
 part_weaker : (Are Be : List Checked → Type 0) (printed : List Checked → List ℕ) (old new : Option (List ℕ)) (before now : ℕ) → ((files : List Checked) → Are files → Be files)
     → HasWrittenPart Are printed old new before now → HasWrittenPart Be printed old new before now
-part_weaker Are Be printed old new before now f h = record { files = h.files; are = f h.files h.are; part = h.part; cause = h.cause }
+part_weaker Are Be printed old new before now f h = record { files = h.files; are = f h.files h.are; sound = h.sound; part = h.part; cause = h.cause }
 
 left_weaker : (Are Be : List Checked → Type 0) (leaves : List Checked → List Checked → Type 0) (left : List Checked) → ((files : List Checked) → Are files → Be files) → AreLeft Are leaves left
     → AreLeft Be leaves left
