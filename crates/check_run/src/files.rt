@@ -20,6 +20,7 @@ use text_pos::NoMemory;
 /// A file of a name, and what came of it. The error comes when memory runs out.
 pub(crate) fn named(alloc: Global, name: &str, judged: Judged) -> Result<Checked, NoMemory>
     ensures name { IfOk result (λ file. file.name ≡ name.now) }
+    ensures utf8 { IfOk result (λ file. IsUtf8 file.name) }
     ensures judged { IfOk result (λ file. judged_of file ≡ judged) }
 {
     let name = Text::made(String::from_str(alloc, name)?);
