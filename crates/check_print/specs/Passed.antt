@@ -6,11 +6,16 @@ use Rattle.checked_file.specs.Files.{readable_of}
 use Rattle.source_file.specs.File.{FileValue, line_number}
 use Rattle.source_file.specs.Shown.{shown}
 
+unfoldable pub passed_place : FileValue → Passed → List ℕ
+passed_place file p = codes "note: " ++ shown file.name ++ codes ":" ++ decimal (line_number file.text p.first)
+
+unfoldable pub passed_counts : Passed → List ℕ
+passed_counts p =
+    codes ": commands of psql: " ++ decimal p.commands ++ codes ", lines of COPY data: " ++ decimal p.data_lines ++ codes "; they are read as blanks\n"
+
 -- `note: dump.sql:5: commands of psql: 2, lines of COPY data: 40; they are read as blanks`
 unfoldable pub passed_line : FileValue → Passed → List ℕ
-passed_line file p =
-    codes "note: " ++ shown file.name ++ codes ":" ++ decimal (line_number file.text p.first) ++ codes ": commands of psql: " ++ decimal p.commands
-    ++ codes ", lines of COPY data: " ++ decimal p.data_lines ++ codes "; they are read as blanks\n"
+passed_line file p = passed_place file p ++ passed_counts p
 
 abbrev pub passed_by : FileValue → Option Passed → List ℕ
 passed_by file None = []

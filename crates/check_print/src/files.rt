@@ -93,6 +93,7 @@ fn push_passed(
     style: Style,
     files: &[Checked],
 ) -> Result<(), NoMemory>
+    requires { All IsSound files.now }
     ensures { OnOk result (to.new.items ≡ to.old.items ++ passed_lines style files.now) }
 {
     if style.quiet {
@@ -109,6 +110,7 @@ fn push_last_lines(
     style: Style,
     files: &[Checked],
 ) -> Result<(), NoMemory>
+    requires { All IsSound files.now }
     ensures { OnOk result (to.new.items ≡ to.old.items ++ passed_lines style files.now ++ statistics style files.now ++ last_line style files.now) }
 {
     push_passed(to, alloc, style, files)?;
@@ -123,6 +125,7 @@ fn push_end(
     style: Style,
     files: &[Checked],
 ) -> Result<(), NoMemory>
+    requires { All IsSound files.now }
     ensures { OnOk result (to.new.items ≡ to.old.items ++ closing style files.now) }
 {
     match style.format {

@@ -1,6 +1,7 @@
 //! What of files was passed over.
-ghost use Rattle.std.specs.Prelude.{◌≡◌, ◌++◌, OnOk, flat_map};
-ghost use Rattle.check_print.specs.Passed.{passed_in, passed_line};
+ghost use Rattle.std.specs.Prelude.{◌≡◌, ◌++◌, All, OnOk, flat_map};
+ghost use Rattle.checked_file.specs.Sound.{IsSound};
+ghost use Rattle.check_print.specs.Passed.{passed_counts, passed_in, passed_line, passed_place};
 
 use checked_file::{Checked, Passed, readable};
 use report_lines::{push, push_number};
@@ -8,15 +9,22 @@ use source_file::{SourceFile, push_shown};
 use std::alloc::Global;
 use text_pos::NoMemory;
 
-// Adds the line on what of a file was passed over.
-#[tactic(auto, unfolding(crate::specs::Passed::passed_line), using(std::proofs::lemmas::List::append_assoc))]
-fn push_line(to: &mut Vec<u8>, file: &SourceFile<'_>, passed: Passed) -> Result<(), NoMemory>
-    ensures { OnOk result (to.new.items ≡ to.old.items ++ passed_line file.now passed) }
+// Adds where the first part is that was passed over.
+#[tactic(auto, unfolding(crate::specs::Passed::passed_place), using(std::proofs::lemmas::List::append_assoc))]
+fn push_place(to: &mut Vec<u8>, file: &SourceFile<'_>, passed: Passed) -> Result<(), NoMemory>
+    ensures { OnOk result (to.new.items ≡ to.old.items ++ passed_place file.now passed) }
 {
     push(to, b"note: ")?;
     push_shown(to, file.name().as_bytes())?;
     push(to, b":")?;
-    push_number(to, file.line(passed.first))?;
+    push_number(to, file.line(passed.first))
+}
+
+// Adds how many lines were passed over.
+#[tactic(auto, unfolding(crate::specs::Passed::passed_counts), using(std::proofs::lemmas::List::append_assoc))]
+fn push_counts(to: &mut Vec<u8>, passed: Passed) -> Result<(), NoMemory>
+    ensures { OnOk result (to.new.items ≡ to.old.items ++ passed_counts passed) }
+{
     push(to, b": commands of psql: ")?;
     push_number(to, passed.commands)?;
     push(to, b", lines of COPY data: ")?;
@@ -24,8 +32,18 @@ fn push_line(to: &mut Vec<u8>, file: &SourceFile<'_>, passed: Passed) -> Result<
     push(to, b"; they are read as blanks\n")
 }
 
+// Adds the line on what of a file was passed over.
+#[tactic(auto, unfolding(crate::specs::Passed::passed_line), using(std::proofs::lemmas::List::append_assoc))]
+fn push_line(to: &mut Vec<u8>, file: &SourceFile<'_>, passed: Passed) -> Result<(), NoMemory>
+    ensures { OnOk result (to.new.items ≡ to.old.items ++ passed_line file.now passed) }
+{
+    push_place(to, file, passed)?;
+    push_counts(to, passed)
+}
+
 // Adds the same, where anything was.
 fn push_passed(to: &mut Vec<u8>, alloc: Global, checked: &Checked) -> Result<(), NoMemory>
+    requires { IsSound checked.now }
     ensures { OnOk result (to.new.items ≡ to.old.items ++ passed_in checked.now) }
 {
     match checked.passed {
@@ -44,6 +62,7 @@ pub(crate) fn push_passed_lines(
     alloc: Global,
     files: &[Checked],
 ) -> Result<(), NoMemory>
+    requires { All IsSound files.now }
     ensures { OnOk result (to.new.items ≡ to.old.items ++ flat_map passed_in files.now) }
 {
     for file in files {
