@@ -1,10 +1,9 @@
 -- The stages of repeated fixing by classes.
-use Rattle.std.proofs.Common.{◌≡◌, ℕ, zero, suc, ◌+◌, ◌^◌, ◌<◌, ◌≤◌, Bool, true, false, List, sym, refl, ap, ◌∙◌, subst, arith, add-one, get_or, Option, Some, None, filter}
+use Rattle.std.proofs.Common.{◌≡◌, ℕ, ◌+◌, ◌^◌, ◌<◌, ◌≤◌, Bool, true, false, List, sym, refl, ap, ◌∙◌, subst, arith, add-one, get_or, Option, Some, None}
 use Rattle.std.proofs.lemmas.List.Elements.{All-filter}
-use Rattle.std.specs.Prelude.{All, ◌&&◌, nat_lt, not, length}
+use Rattle.std.specs.Prelude.{◌&&◌, nat_lt, not, length}
 use Rattle.std.specs.List.{list_all}
 use Rattle.std.specs.Option.{option_map}
-use Rattle.std.specs.Str.{IsUtf8}
 use Rattle.sql_token.specs.Token.{Text}
 use Rattle.sql_tree.specs.Statement.{Tree, IsTree, IsValid}
 use Rattle.sql_tree.proofs.TreeLaws.{one_tree}
@@ -20,7 +19,7 @@ use Rattle.law_fix_steps.specs.Step.{FixSteps, JoinNoWord, Steps, load}
 use Rattle.law_answer_steps.specs.Answers.{AnswersStep}
 use Rattle.law_answer_steps.proofs.Leaving.{stays}
 use Rattle.law_listed_edits.specs.OneEdit.{IsMendedByOne, MendedByOne}
-use Rattle.fix_choice.specs.Fits.{first_fitting, fits, joins_no_word, next_text, with_fix}
+use Rattle.fix_choice.specs.Fits.{first_fitting, joins_no_word, next_text, with_fix}
 use Rattle.squawk_linter.specs.Answers.{reports}
 use Rattle.squawk_linter.specs.Mending.{AnswersAreInTheirTables}
 use Rattle.squawk_linter.specs.Reports.{cleared}

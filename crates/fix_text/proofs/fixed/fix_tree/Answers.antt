@@ -1,4 +1,4 @@
-use Rattle.std.proofs.Common.{◌≡◌, ◌∙◌, ap, arith, Some}
+use Rattle.std.proofs.Common.{◌∙◌, ap, arith, Some}
 use Rattle.std.specs.Prelude.{option_map, string_bytes}
 use Rattle.squawk_linter.specs.declared.linter.Linter.{Linter}
 use Rattle.squawk_linter.specs.Reports.{cleared}
