@@ -7,7 +7,6 @@ pub const VERSION: &str = "lavkheto 0.1.0\n";
 pub const HELP: &str = "Lints migrations of PostgreSQL. Its answers are theorems.
 
 Usage: lavkheto check [OPTIONS] [FILES]..
-       lavkheto fix [FILES]              make the fixes
        lavkheto gate [FILES]             whether the migrations may be run
        lavkheto explain [RULE]           what a rule or a hazard reports, why, its lock, and what to write instead
        lavkheto server [OPTIONS]         a language server over standard input and output

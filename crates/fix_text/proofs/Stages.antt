@@ -1,0 +1,112 @@
+-- The stages of repeated fixing by classes.
+use Rattle.std.proofs.Common.{◌≡◌, ℕ, ◌+◌, ◌^◌, ◌<◌, ◌≤◌, Bool, true, false, List, sym, refl, ap, ◌∙◌, subst, arith, add-one, get_or, Option, Some, None}
+use Rattle.std.proofs.lemmas.List.Elements.{All-filter}
+use Rattle.std.specs.Prelude.{◌&&◌, nat_lt, not, length}
+use Rattle.std.specs.List.{list_all}
+use Rattle.std.specs.Option.{option_map}
+use Rattle.sql_token.specs.Token.{Text}
+use Rattle.sql_tree.specs.Statement.{Tree, IsTree, IsValid}
+use Rattle.sql_tree.proofs.TreeLaws.{one_tree}
+use Rattle.sql_read.specs.Cause.{IsTreeOf}
+use Rattle.lint_base.specs.declared.settings.LinterSettings.{LinterSettings}
+use Rattle.lint_base.specs.declared.violation.Violation.{Violation}
+use Rattle.lint_base.specs.Fixes.{FixValue}
+use Rattle.lint_base.specs.RuleSets.{Rules}
+use Rattle.lint_ignore.specs.Comment.{has_disable_comment}
+use Rattle.law_fixes.specs.Edited.{edited}
+use Rattle.law_fix_steps.specs.Listed.{is_listed}
+use Rattle.law_fix_steps.specs.Step.{FixSteps, JoinNoWord, Steps, load}
+use Rattle.law_answer_steps.specs.Answers.{AnswersStep}
+use Rattle.law_answer_steps.proofs.Leaving.{stays}
+use Rattle.law_listed_edits.specs.OneEdit.{IsMendedByOne, MendedByOne}
+use Rattle.fix_choice.specs.Fits.{first_fitting, joins_no_word, next_text, with_fix}
+use Rattle.squawk_linter.specs.Answers.{reports}
+use Rattle.squawk_linter.specs.Mending.{AnswersAreInTheirTables}
+use Rattle.squawk_linter.specs.Reports.{cleared}
+use Rattle.fix_text.proofs.Fitting.{OfFitting, both_true, each_one, is_short, joined, of_first}
+use Rattle.fix_text.specs.Allowed.{allowed, is_allowed}
+use Rattle.fix_text.specs.Fixing.{IsFixed, IsLook, IsStep, Reached}
+
+and_again : (a b : Bool) → ((a && b) && b) ≡ (a && b)
+and_again true true = refl
+and_again true false = refl
+and_again false b = refl
+
+again : (tree : Tree) (settings : LinterSettings) → cleared tree (cleared tree settings) ≡ cleared tree settings
+again tree settings = λ i. record settings { assume_in_transaction = and_again settings.assume_in_transaction (not (has_disable_comment tree)) i }
+
+chosen : {s : Text} (f : FixValue → Text) (o : Option FixValue) → option_map f o ≡ Some s → (fix : FixValue) × (o ≡ Some fix) × (s ≡ f fix)
+chosen f None e = absurd (cc)
+chosen {s} f (Some fix) e = (fix, refl, inside e)
+  where
+    inside : Some (f fix) ≡ Some s → s ≡ f fix
+    inside e = cc
+
+-- After so many fixes the text is s. The load of its tree has fallen by as many at least.
+pub record Stage (file : Tree) (wide : Bool) (rules : Rules) (settings : LinterSettings) (applied : ℕ) (s : Text) : Type 0 where
+  pub tree : Tree
+  pub of_text : IsTreeOf s tree
+  pub same : cleared tree (cleared file settings) ≡ cleared file settings
+  pub reached : Reached wide rules (cleared file settings) file.text applied s
+  pub few : applied + load tree rules (cleared file settings) ≤ load file rules (cleared file settings)
+
+module _ (file : Tree) (wide : Bool) (rules : Rules) (settings : LinterSettings) where
+  abbrev set : LinterSettings
+  set = cleared file settings
+
+  pub begun : IsTree file → (made : Text) → made ≡ file.text → Stage file wide rules settings 0 made
+  begun is made text = record { tree = file; of_text = (sym text, is); same = again file settings; reached = text; few = omega arith }
+
+  pub is_valid : (applied : ℕ) (s : Text) → Stage file wide rules settings applied s → IsValid s
+  is_valid applied s stage = (stage.tree, stage.of_text.0, stage.of_text.1)
+
+  -- the fix of a report of an answer that fits is a step
+  stepping : (tree : Tree) (v : Violation) → (is_listed v.code ≡ true → FixSteps tree rules (cleared tree set) (JoinNoWord tree) v) → (is_listed v.code ≡ true → IsMendedByOne v) →
+      OfFitting tree.text (λ f. Steps tree rules (cleared tree set) f.edits) v
+  stepping tree v steps single listed f has fit =
+      let p = both_true (list_all (joins_no_word tree.text) f.edits) (nat_lt (length (edited tree.text f.edits)) (2 ^ 32)) fit in
+      steps listed f has (joined tree f (single listed f has) p.0) (is_short (length (edited tree.text f.edits)) p.1)
+
+  stepped : (tree : Tree) → IsTree tree → MendedByOne → AnswersAreInTheirTables → AnswersStep → (f : FixValue) →
+      first_fitting tree.text (allowed wide set tree (reports tree rules set)) ≡ Some f → Steps tree rules (cleared tree set) f.edits
+  stepped tree is one tables law =
+      of_first (λ f. Steps tree rules (cleared tree set) f.edits) tree.text (allowed wide set tree (reports tree rules set))
+      (All-filter (is_allowed wide set tree) (OfFitting tree.text (λ f. Steps tree rules (cleared tree set) f.edits)) (reports tree rules set)
+      (λ k d lt. stepping tree (get_or (reports tree rules set) k d) (law tree rules set is k d lt) (each_one tree rules set is one tables k d lt)))
+
+  pub next : MendedByOne → AnswersAreInTheirTables → AnswersStep → (made : Text) (applied : ℕ) (left : List Violation) (s : Text) → Stage file wide rules settings applied made →
+      IsLook wide rules set made left (Some s) → Stage file wide rules settings (applied + 1) s
+  next one tables law made applied left s stage found =
+      let tree = found.tree in
+      let same_tree : stage.tree ≡ tree = one_tree stage.tree tree (stage.of_text.0 ∙ sym found.of_text.0) stage.of_text.1 found.of_text.1 in
+      let here : next_text made (allowed wide set tree (reports tree rules set)) ≡ Some s = ap (λ (vs : List Violation). next_text made (allowed wide set tree vs)) (sym found.left_is) ∙ sym found.next_is in
+      let c = chosen (with_fix made) (first_fitting made (allowed wide set tree (reports tree rules set))) here in
+      let first : first_fitting tree.text (allowed wide set tree (reports tree rules set)) ≡ Some c.0 = ap (λ (t : Text). first_fitting t (allowed wide set tree (reports tree rules set))) found.of_text.0 ∙ c.1 in
+      let step = stepped tree found.of_text.1 one tables law c.0 first in
+      let same : cleared tree set ≡ set = ap (λ (t : Tree). cleared t set) (sym same_tree) ∙ stage.same in
+      let less : load step.new rules set < load tree rules set = subst (λ (x : LinterSettings). load step.new rules x < load tree rules x) same step.less in
+      let few = stage.few in
+      let load_same : load stage.tree rules set ≡ load tree rules set = ap (λ (t : Tree). load t rules set) same_tree in
+      let made_is : IsStep wide rules set made s = record { tree = tree; of_text = found.of_text; fix = c.0; first = c.1; made = c.2 } in
+      record {
+        tree = step.new;
+        of_text = (step.text ∙ ap (λ (t : Text). edited t c.0.edits) found.of_text.0 ∙ sym c.2, step.is);
+        same = stays tree step.new set step.comments same;
+        reached = subst (λ (n : ℕ). Reached wide rules set file.text n s) (sym (add-one applied)) (made, stage.reached, made_is);
+        few = omega (arith, less, few, load_same);
+      }
+
+  pub ended : (made : Text) (applied : ℕ) (left : List Violation) → Stage file wide rules settings applied made → IsLook wide rules set made left None →
+      IsFixed file wide rules settings (record { text = made; applied = applied; left = left })
+  ended made applied left stage found =
+      let few = stage.few in
+      record { reached = stage.reached; few = omega (arith, few); ended = found }
+
+-- the same of equal values
+pub look_here : (wide : Bool) (rules rules' : Rules) (settings settings' : LinterSettings) (t t' : Text) (left : List Violation) (o o' : Option Text) → rules ≡ rules' → settings ≡ settings' → t ≡ t' → o ≡ o'
+    → IsLook wide rules settings t left o → IsLook wide rules' settings' t' left o'
+look_here wide rules rules' settings settings' t t' left o o' p q r e found =
+    subst (λ (x : Option Text). IsLook wide rules' settings' t' left x) e
+    (subst (λ (x : Text). IsLook wide rules' settings' x left o) r
+    (subst (λ (x : LinterSettings). IsLook wide rules' x t left o) q
+    (subst (λ (x : Rules). IsLook wide x settings t left o) p found)))

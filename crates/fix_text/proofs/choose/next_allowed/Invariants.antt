@@ -1,0 +1,8 @@
+use Rattle.std.proofs.Common.{◌≡◌, drop}
+use Rattle.fix_choice.specs.Fits.{next_text}
+use Rattle.fix_text.specs.Allowed.{allowed}
+use Rattle.fix_text.proofs.choose.next_allowed.Given as goal
+
+abbrev pub invariant-loop-report : goal.invariant-loop-report
+invariant-loop-report l =
+    next_text l.file.text (allowed l.wide l.settings l.file (drop l.report-index l.reports)) ≡ next_text l.file.text (allowed l.wide l.settings l.file l.reports)

@@ -1,0 +1,49 @@
+use Rattle.std.proofs.Common.{◌∙◌, ap, arith, Some}
+use Rattle.std.specs.Prelude.{option_map, string_bytes}
+use Rattle.squawk_linter.specs.declared.linter.Linter.{Linter}
+use Rattle.squawk_linter.specs.Reports.{cleared}
+use Rattle.fix_text.proofs.Stages.{look_here, next}
+use Rattle.fix_text.proofs.fixed.fix_tree.Goals as goal
+
+pub overflow_add-applied : goal.overflow_add-applied
+overflow_add-applied c =
+    let file = c.args.file.now in
+    let rules = c.args.linter.now.rules in
+    let settings = c.args.linter.now.settings in
+    let l = c.fixing in
+    let found = look_here c.args.wide l.linter.rules rules l.linter.settings (cleared file settings) c.as_str.result.now (string_bytes l.made) c.in_ok-left.field-0.left.items
+    (option_map string_bytes c.in_ok-left.field-0.next) (Some (string_bytes c.in-Some.text)) l.invariant.rules l.invariant.settings c.as_str.ensures.value (ap (option_map string_bytes) c.in-Some.is) c.in_ok-left.ensures.found in
+    let stage = next file c.args.wide rules settings c.listed_edits.ensures c.answered_fixes_mend.ensures.stand c.answers_step.ensures
+    (string_bytes l.made) l.applied c.in_ok-left.field-0.left.items (string_bytes c.in-Some.text) l.invariant.stage found in
+    let few = stage.few in
+    let small = c.load_is_small.ensures file rules (cleared file settings) c.text.ensures.tree in
+    omega (arith, few, small)
+
+pub fixing-smaller : goal.fixing-smaller
+fixing-smaller c =
+    let file = c.args.file.now in
+    let rules = c.args.linter.now.rules in
+    let settings = c.args.linter.now.settings in
+    let l = c.fixing in
+    let found = look_here c.args.wide l.linter.rules rules l.linter.settings (cleared file settings) c.as_str.result.now (string_bytes l.made) c.in_ok-left.field-0.left.items
+    (option_map string_bytes c.in_ok-left.field-0.next) (Some (string_bytes c.in-Some.text)) l.invariant.rules l.invariant.settings c.as_str.ensures.value (ap (option_map string_bytes) c.in-Some.is) c.in_ok-left.ensures.found in
+    let stage = next file c.args.wide rules settings c.listed_edits.ensures c.answered_fixes_mend.ensures.stand c.answers_step.ensures
+    (string_bytes l.made) l.applied c.in_ok-left.field-0.left.items (string_bytes c.in-Some.text) l.invariant.stage found in
+    let few = stage.few in
+    omega (arith, few)
+
+pub fixing-preserved : goal.fixing-preserved
+fixing-preserved c =
+    let file = c.args.file.now in
+    let rules = c.args.linter.now.rules in
+    let settings = c.args.linter.now.settings in
+    let l = c.fixing in
+    let found = look_here c.args.wide l.linter.rules rules l.linter.settings (cleared file settings) c.as_str.result.now (string_bytes l.made) c.in_ok-left.field-0.left.items
+    (option_map string_bytes c.in_ok-left.field-0.next) (Some (string_bytes c.in-Some.text)) l.invariant.rules l.invariant.settings c.as_str.ensures.value (ap (option_map string_bytes) c.in-Some.is) c.in_ok-left.ensures.found in
+    let stage = next file c.args.wide rules settings c.listed_edits.ensures c.answered_fixes_mend.ensures.stand c.answers_step.ensures
+    (string_bytes l.made) l.applied c.in_ok-left.field-0.left.items (string_bytes c.in-Some.text) l.invariant.stage found in
+    record {
+      stage = stage;
+      rules = ap (λ (x : Linter). x.rules) c.in_ok-left.ensures.same ∙ l.invariant.rules;
+      settings = ap (λ (x : Linter). x.settings) c.in_ok-left.ensures.same ∙ l.invariant.settings;
+    }

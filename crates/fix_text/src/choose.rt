@@ -1,0 +1,76 @@
+//! The next fix that is allowed.
+ghost use Rattle.std.specs.Prelude.{◌≡◌, ◌<◌, ◌^◌, ℕ, All, IfOk, length, option_map, string_bytes};
+ghost use Rattle.lint_base.specs.declared.settings.LinterSettings.{LinterSettings};
+ghost use Rattle.fix_choice.specs.Fits.{ListedCanBeTried, next_text};
+ghost use Rattle.fix_class.specs.Known.{AreKnown};
+ghost use Rattle.fix_text.specs.Allowed as spec;
+
+use fix_choice::{is_listed, made_by};
+use fix_class::FixClasses;
+use lint_base::{LinterSettings, Violation};
+use lint_report::FixClass;
+use sql_tree::Parse;
+use std::alloc::Global;
+use text_pos::NoMemory;
+
+fn is_allowed_class(wide: bool, class: Option<FixClass>) -> bool
+    ensures { result ≡ spec.is_allowed_class wide class }
+{
+    match class {
+        None | Some(FixClass::Template) => false,
+        Some(FixClass::Safe) => true,
+        Some(FixClass::Unsafe) => wide,
+    }
+}
+
+// Whether the fix of a report is allowed.
+fn is_allowed(wide: bool, classes: &FixClasses, file: &Parse<'_>, report: &Violation) -> bool
+    ensures { (settings : LinterSettings) → AreKnown settings file.now classes.now → result ≡ spec.is_allowed wide settings file.now report.now }
+{
+    is_allowed_class(wide, classes.class_of(file, report))
+}
+
+// The text with the fix of a report made, if it may be, is of a listed rule, and fits.
+fn made_if(
+    alloc: Global,
+    may: bool,
+    text: &str,
+    report: &Violation,
+) -> Result<Option<String>, NoMemory>
+    requires short { length text.now < 2 ^ 32 }
+    requires tried { ListedCanBeTried text.now report.now }
+    ensures { IfOk result (λ made. option_map string_bytes made ≡ spec.made_if may text.now report.now) }
+{
+    if !may || !is_listed(report.code) {
+        return Ok(None);
+    }
+    match &report.fix {
+        Some(fix) => made_by(alloc, text, fix),
+        None => Ok(None),
+    }
+}
+
+/// The text with the first of these fixes made that is allowed, of a listed rule, and fits. The error comes when memory runs out.
+#[tactic(auto, using(crate::proofs::Choosing::skipped, crate::proofs::Choosing::taken))]
+pub(crate) fn next_allowed(
+    alloc: Global,
+    wide: bool,
+    settings: &LinterSettings,
+    file: &Parse<'_>,
+    reports: &[Violation],
+) -> Result<Option<String>, NoMemory>
+    requires short { length file.now.text < 2 ^ 32 }
+    requires tried { All (ListedCanBeTried file.now.text) reports.now }
+    ensures { IfOk result (λ next. option_map string_bytes next
+        ≡ next_text file.now.text (spec.allowed wide settings.now file.now reports.now)) }
+{
+    let classes = FixClasses::new(alloc, file, settings)?;
+    for report in reports {
+        let may = is_allowed(wide, &classes, file, report);
+        let made = made_if(alloc, may, file.text(), report)?;
+        if made.is_some() {
+            return Ok(made);
+        }
+    }
+    Ok(None)
+}

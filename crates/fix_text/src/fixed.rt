@@ -1,0 +1,112 @@
+//! Fixing a text until no fix is left that is allowed and fits.
+ghost use Rattle.std.specs.Prelude.{◌≡◌, ◌↔◌, ◌≤◌, ◌<◌, ◌^◌, ℕ, length, Err, IfErr, IfOk, OnOk, string_bytes};
+ghost use Rattle.sql_token.specs.Token.{OpenAt};
+ghost use Rattle.sql_tree.specs.Statement.{IsSyntaxAt, IsValid, Tree};
+ghost use Rattle.sql_read.specs.declared.error.LintError.TheVariants as LintError;
+ghost use Rattle.sql_read.specs.Cause.{ErrOrNoMemory, IsCause, IsTreeOf, OkOrNoMemory};
+ghost use Rattle.squawk_linter.specs.Reports.{cleared};
+ghost use Rattle.fix_text.specs.Fixing.{IsFixed, IsFixedText};
+
+use crate::look::{Look, look_at};
+use law_answer_steps::laws::answers_step;
+use law_fix_steps::laws::load_is_small;
+use law_listed_edits::laws::listed_edits;
+use lint_base::Violation;
+use lint_ignore::has_disable_assume_in_transaction;
+use sql_read::parse;
+use sql_tree::Parse;
+use squawk_linter::laws::{answered_fixes_mend, second_answer};
+use squawk_linter::{LintError, Linter};
+use std::alloc::Global;
+use std::marker::Model;
+use text_pos::NoMemory;
+
+/// What fixing makes of a text.
+#[derive(Debug, Drop)]
+pub struct Fixed {
+    /// The text in which the fixes were made.
+    pub text: String,
+    /// How many fixes were made.
+    pub applied: u64,
+    /// What is reported of it. No report of a listed rule has a fix that fits and is allowed.
+    pub left: Vec<Violation>,
+}
+
+impl Model for Fixed {
+    ghost use Rattle.std.specs.Prelude.{string_bytes};
+    ghost use Rattle.fix_text.specs.Fixing.{FixedValue};
+
+    ghost Value = { FixedValue };
+
+    ghost view = { λ f. record { text = string_bytes f.text; applied = f.applied; left = f.left.items } };
+}
+
+// Assumes no open transaction where a comment of the text says so.
+fn clear(linter: &mut Linter, file: &Parse<'_>)
+    ensures rules { linter.new.rules ≡ linter.old.rules }
+    ensures settings { linter.new.settings ≡ cleared file.now linter.old.settings }
+{
+    let assumed = linter.settings.assume_in_transaction;
+    linter.settings.assume_in_transaction = assumed && !has_disable_assume_in_transaction(file);
+}
+
+// Fixes the text of a tree. The tree stays as it is read: what its load was bounds how often a fix can be made.
+fn fix_tree(
+    linter: &mut Linter,
+    alloc: Global,
+    wide: bool,
+    file: &Parse<'_>,
+) -> Result<Fixed, NoMemory>
+    ensures { IfOk result (λ fixed. IsFixed file.now wide linter.old.rules linter.old.settings fixed) }
+{
+    second_answer();
+    answered_fixes_mend();
+    listed_edits();
+    answers_step();
+    load_is_small();
+    clear(linter, file);
+    let mut made = String::from_str(alloc, file.text())?;
+    let mut applied: u64 = 0;
+    'fixing: loop {
+        let Look { left, next } = look_at(linter, alloc, wide, made.as_str())?;
+        match next {
+            Some(text) => {
+                made = text;
+                applied += 1;
+            }
+            None => {
+                return Ok(Fixed {
+                    text: made,
+                    applied,
+                    left,
+                });
+            }
+        }
+    }
+}
+
+/// Makes fixes in a text, one after another, until none is left that fits and that the classes allow: safe ones, and unsafe ones too where
+/// `wide` says so. Each time the first one is made in the order of the reports, and the text is linted again, so it takes time in
+/// proportion to the fixes and the text. The linter's flag is as the text leaves it.
+///
+/// `TooLong`, `Unterminated` and `Syntax` come of the given text, since each text that is made is valid; `NoMemory` comes because
+/// memory ran out.
+pub fn fix_text(
+    linter: &mut Linter,
+    alloc: Global,
+    wide: bool,
+    text: &str,
+) -> Result<Fixed, LintError>
+    ensures ok { IfOk result (λ fixed. IsFixedText text.now wide linter.old.rules linter.old.settings fixed) }
+    ensures err { IfErr result (IsCause text.now) }
+    ensures too_long { (result ≡ Err LintError.TooLong) ↔ (2 ^ 32 ≤ length text.now) }
+    ensures unterminated { (at : ℕ) → length text.now < 2 ^ 32 → OpenAt text.now at
+        → ErrOrNoMemory result (LintError.Unterminated at) }
+    ensures syntax { (at : ℕ) → IsSyntaxAt text.now at → ErrOrNoMemory result (LintError.Syntax at) }
+{
+    let file = parse(alloc, text)?;
+    match fix_tree(linter, alloc, wide, &file) {
+        Ok(fixed) => Ok(fixed),
+        Err(NoMemory) => Err(LintError::NoMemory),
+    }
+}

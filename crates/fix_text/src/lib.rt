@@ -1,0 +1,11 @@
+//! Fixing a text by the classes of its fixes: the text in which no fix is left that fits and that the classes allow.
+//!
+//! [`fix_text`] makes fixes one after another, of the listed rules of `law_fix_steps` alone: for those it is a law that fixing ends.
+//! `specs/Allowed.antt` says which fixes the classes allow, and `Fixing` which texts are reached.
+#![tactic(auto)]
+
+mod choose;
+mod fixed;
+mod look;
+
+pub use fixed::{Fixed, fix_text};

@@ -1,0 +1,48 @@
+//! What is found of a text, and what comes of it.
+ghost use Rattle.std.specs.Prelude.{◌≡◌, IfOk, OnOk, option_map, string_bytes};
+ghost use Rattle.sql_tree.specs.Statement.{IsValid};
+ghost use Rattle.fix_text.specs.Fixing.{IsLook};
+
+use crate::choose::next_allowed;
+use law_listed_edits::laws::listed_edits;
+use lint_base::Violation;
+use sql_read::parse;
+use squawk_linter::laws::{answered_fixes_mend, answers_placed};
+use squawk_linter::{LintError, Linter};
+use std::alloc::Global;
+use text_pos::NoMemory;
+
+/// What is found of a text.
+#[derive(Drop)]
+pub(crate) struct Look {
+    /// What is reported.
+    pub(crate) left: Vec<Violation>,
+    /// The text with the next allowed fix made, if there is one.
+    pub(crate) next: Option<String>,
+}
+
+/// Lints a text that is valid, and makes the first fix that is allowed. The linter stays as it is. The error comes when memory runs out.
+pub(crate) fn look_at(
+    linter: &mut Linter,
+    alloc: Global,
+    wide: bool,
+    text: &str,
+) -> Result<Look, NoMemory>
+    requires { IsValid text.now }
+    ensures found { IfOk result (λ found. IsLook wide linter.old.rules linter.old.settings text.now found.left.items (option_map string_bytes found.next)) }
+    ensures same { OnOk result (linter.new ≡ linter.old) }
+{
+    answers_placed();
+    answered_fixes_mend();
+    listed_edits();
+    let file = match parse(alloc, text) {
+        Ok(file) => file,
+        Err(LintError::NoMemory) => return Err(NoMemory),
+        Err(_) => unreachable!(),
+    };
+    let assumed = linter.settings.assume_in_transaction;
+    let left = linter.lint(alloc, &file)?;
+    linter.settings.assume_in_transaction = assumed;
+    let next = next_allowed(alloc, wide, &linter.settings, &file, left.as_slice())?;
+    Ok(Look { left, next })
+}
