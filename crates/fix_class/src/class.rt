@@ -129,6 +129,18 @@ impl FixClasses {
         })
     }
 
+    /// The class of the fix of a report of a rule on the statement of this number, from 0 on, or `None` where there is no such statement, or the
+    /// fix always fails where it is made, so that it is not offered.
+    pub fn class_at(&self, p: &Parse<'_>, code: Rule, i: usize) -> Option<FixClass>
+        ensures { (settings : LinterSettings) → AreKnown settings p.now self.now → result ≡ spec.class_at settings p.now code i }
+    {
+        let stmts = p.tree().stmts.as_slice();
+        if i < stmts.len() && i < self.known.len() {
+            return class_by(code, self.known[i], p, &stmts[i]);
+        }
+        None
+    }
+
     /// The class of the fix of a report, or `None` where it has no fix, or one that always fails where it is made, so that it is not
     /// offered. It takes time in proportion to the number of the statement.
     #[tactic(auto, unfolding(crate::specs::Classes::class_of))]
@@ -138,11 +150,6 @@ impl FixClasses {
         if v.fix.is_none() {
             return None;
         }
-        let stmts = p.tree().stmts.as_slice();
-        let i = number_of(p, v.text_range.start());
-        if i < stmts.len() && i < self.known.len() {
-            return class_by(v.code, self.known[i], p, &stmts[i]);
-        }
-        None
+        self.class_at(p, v.code, number_of(p, v.text_range.start()))
     }
 }

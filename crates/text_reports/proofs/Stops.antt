@@ -3,12 +3,13 @@ use Rattle.std.proofs.Common.{◌≡◌, ◌+◌, ◌++◌, ◌≤◌, ◌<◌, 
 use Rattle.std.proofs.lemmas.Bool.Decides.{nat_tests}
 use Rattle.std.proofs.lemmas.List.Elements.{All-append, All-head, All-tail, All-weaker}
 use Rattle.std.proofs.lemmas.Option.{slice_get_within}
-use Rattle.std.specs.Prelude.{find, slice_get, nat_lt}
+use Rattle.std.specs.List.{position_or_len}
+use Rattle.std.specs.Prelude.{find, slice_get}
 use Rattle.sql_tree.specs.declared.nodes.Stmt.{Stmt}
 use Rattle.sql_tree.specs.Statement.{Tree}
 use Rattle.lint_pass.specs.RuleLaws.{one_all}
 use Rattle.text_reports.specs.declared.cursor.Cursor.{Cursor}
-use Rattle.text_reports.specs.Statements.{IsCursor, IsStop, ends_behind, statement_behind}
+use Rattle.text_reports.specs.Statements.{IsCursor, IsStop, ends_behind, number_behind, statement_behind}
 
 -- the first element that passes a test is the one of this number, where none before it passes and it does
 find_at : {X : Type 0} (p : X → Bool) (xs : List X) (n : ℕ) → All (λ x. p x ≡ false) (take n xs) → IfSome (slice_get xs n) (λ x. p x ≡ true) → find p xs ≡ slice_get xs n
@@ -16,6 +17,18 @@ find_at p [] n none stop = refl
 find_at p (x ∷ xs) zero none stop = rw stop refl
 find_at p (x ∷ xs) (suc n) none stop =
     rw (All-head (λ y. p y ≡ false) x (take n xs) none) (find_at p xs n (All-tail (λ y. p y ≡ false) x (take n xs) none) stop)
+
+-- and its number is the position of the first that passes
+position_at : {X : Type 0} (p : X → Bool) (xs : List X) (n : ℕ) → n ≤ length xs → All (λ x. p x ≡ false) (take n xs) → IfSome (slice_get xs n) (λ x. p x ≡ true) → n ≡ position_or_len p xs
+position_at p [] n le none stop = omega arith
+position_at p (x ∷ xs) zero le none stop = rw stop refl
+position_at p (x ∷ xs) (suc n) le none stop =
+    let rest : n ≡ position_or_len p xs = position_at p xs n (omega arith) (All-tail (λ y. p y ≡ false) x (take n xs) none) stop in
+    rw (All-head (λ y. p y ≡ false) x (take n xs) none) (omega (arith, rest))
+
+pub numbered : (tree : Tree) (place number : ℕ) → IsCursor tree (record { number = number; place = place }) → IsStop tree place number → number ≡ number_behind tree place
+unfolding number_behind
+numbered tree place number cursor stop = position_at (ends_behind tree place) tree.stmts number cursor.within cursor.past stop
 
 pub found : (tree : Tree) (place number : ℕ) → IsCursor tree (record { number = number; place = place }) → IsStop tree place number → statement_behind tree place ≡ slice_get tree.stmts number
 found tree place number cursor stop = find_at (ends_behind tree place) tree.stmts number cursor.past stop

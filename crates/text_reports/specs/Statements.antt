@@ -1,5 +1,6 @@
 -- The statements that parts of a text are in.
 use Rattle.std.specs.Prelude.{◌≡◌, ℕ, ◌≤◌, ◌&&◌, All, Bool, true, false, Option, Some, None, IfSome, find, if◌then◌else◌, length, nat_le, nat_lt, slice_get, take}
+use Rattle.std.specs.List.{position_or_len}
 use Rattle.sql_tree.specs.declared.nodes.Stmt.{Stmt}
 use Rattle.sql_tree.specs.Range.{stmt_range_of}
 use Rattle.sql_tree.specs.Statement.{Tree}
@@ -13,6 +14,10 @@ ends_behind tree place s = nat_lt place (stmt_range_of tree.toks s).end
 -- the first statement that does
 abbrev pub statement_behind : Tree → ℕ → Option Stmt
 statement_behind tree place = find (ends_behind tree place) tree.stmts
+
+-- its number, from 0 on; the number of statements where there is none
+unfoldable pub number_behind : Tree → ℕ → ℕ
+number_behind tree place = position_or_len (ends_behind tree place) tree.stmts
 
 abbrev pub is_within : Range → Range → Bool
 is_within outer inner = nat_le outer.start inner.start && nat_le inner.end outer.end

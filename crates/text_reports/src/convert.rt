@@ -32,7 +32,7 @@ fn by_rule(file: &Parse<'_>, classes: &FixClasses, cursor: &mut Cursor, v: Viola
     ensures value { (settings : LinterSettings) → AreKnown settings file.now classes.now → result ≡ spec.by_rule settings file.now v }
 {
     let statement = statement_of(file, cursor, v.text_range);
-    let class = classes.class_of(file, &v);
+    let class = classes.class_at(file, v.code, cursor.number);
     Report {
         code: Code::Rule(v.code),
         message: v.message,

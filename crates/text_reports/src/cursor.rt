@@ -89,10 +89,11 @@ fn part_in(file: &Parse<'_>, number: usize, range: TextRange) -> TextRange
 }
 
 /// The statement that a part is in, from its first token to its last; the part itself where it is in none. The cursor goes to the part.
-#[tactic(auto, using(crate::proofs::Stops::found))]
+#[tactic(auto, using(crate::proofs::Stops::found, crate::proofs::Stops::numbered))]
 pub(crate) fn statement_of(file: &Parse<'_>, cursor: &mut Cursor, range: TextRange) -> TextRange
     requires { IsCursor file.now cursor.old }
     ensures cursor { IsCursor file.now cursor.new }
+    ensures number { cursor.new.number ≡ spec.number_behind file.now range.start }
     ensures value { result ≡ spec.statement_of file.now range }
 {
     let place = range.start().raw();
