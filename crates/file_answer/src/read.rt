@@ -1,5 +1,5 @@
 //! What is read of the bytes of a file.
-ghost use Rattle.std.specs.Prelude.{◌≡◌, ◌<◌, ◌^◌, IfOk, length};
+ghost use Rattle.std.specs.Prelude.{◌≡◌, ◌<◌, ◌^◌, IfOk, IfSome, None, length};
 ghost use Rattle.file_answer.specs.Reading as spec;
 ghost use Rattle.file_answer.specs.Reading.{IsReadAs};
 
@@ -43,17 +43,23 @@ fn blanked(text: Blanked) -> Read
 }
 
 // The text in which what is for psql is blank; nothing where nothing is for psql, or the bytes are not UTF-8.
+#[tactic(auto, using(crate::proofs::Reading::text_found))]
 fn text_in(alloc: Global, bytes: &[u8]) -> Result<Option<Blanked>, NoMemory>
-    ensures { IfOk result (spec.IsTextIn bytes.now) }
+    ensures found { IfOk result (spec.IsTextIn bytes.now) }
+    ensures within { IfOk result (λ found. IfSome found (λ b. b.first < length bytes.now)) }
 {
     match from_utf8(bytes) {
-        Ok(text) => without_psql(alloc, text),
+        Ok(text) => {
+            let found = without_psql(alloc, text)?;
+            Ok(found)
+        }
         Err(_) => Ok(None),
     }
 }
 
 /// The bytes as they are read: with blanks in the place of what is for psql and no SQL, unless all is to be read as SQL. Bytes that are not
 /// UTF-8 stay as they are. The error comes when memory runs out.
+#[tactic(auto, using(crate::proofs::Reading::read_none, crate::proofs::Reading::read_some, crate::proofs::Reading::read_short))]
 pub(crate) fn read_bytes(alloc: Global, is_strict: bool, bytes: Vec<u8>) -> Result<Read, NoMemory>
     requires { length bytes.items < 2 ^ 32 }
     ensures read { IfOk result (IsReadAs is_strict bytes.items) }
