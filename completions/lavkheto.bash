@@ -28,7 +28,7 @@ _lavkheto() {
     fi
     COMPREPLY=()
     if ((COMP_CWORD == 1)); then
-        _lavkheto_words 'check fix gate explain server --help --version'
+        _lavkheto_words 'check gate explain server --help --version'
         return
     fi
     case $command:$before in
@@ -62,8 +62,6 @@ _lavkheto() {
     case $command:$cur in
     check:-*) _lavkheto_words '--format --color --quiet --statistics --stdin-filename --config --fail-on --baseline --write-baseline --strict -- --only --include --exclude --no-hazards --non-volatile --assume-in-transaction --pg-major --pg-minor --pg-patch --help --version' ;;
     check:*) _lavkheto_files '*.sql' ;;
-    fix:-*) _lavkheto_words '' ;;
-    fix:*) _lavkheto_files '*.sql' ;;
     gate:-*) _lavkheto_words '--order --works --one-session -- --include --non-volatile --assume-in-transaction --pg-major --pg-minor --pg-patch --help' ;;
     gate:*) _lavkheto_files '*.sql' ;;
     explain:-*) _lavkheto_words '--help' ;;
@@ -158,5 +156,11 @@ build-under-timeout
 invalid-index-kept
 refresh-blocks-reads
 json-column
+identifier-too-long
+require-concurrent-index-creation
+require-concurrent-partition-detach
+require-lock-timeout
+prefer-bigint-over-int
+require-enum-value-ordering
 '
 complete -F _lavkheto lavkheto
