@@ -11,8 +11,8 @@ use text_pos::NoMemory;
 
 // Adds where the first part is that was passed over.
 #[tactic(auto, unfolding(crate::specs::Passed::passed_place), using(std::proofs::lemmas::List::append_assoc))]
-fn push_place(to: &mut Vec<u8>, file: &SourceFile<'_>, passed: Passed) -> Result<(), NoMemory>
-    ensures { OnOk result (to.new.items ≡ to.old.items ++ passed_place file.now passed) }
+fn push_place(to: &mut Vec<u8>, file: &SourceFile<'_>, passed: &Passed) -> Result<(), NoMemory>
+    ensures { OnOk result (to.new.items ≡ to.old.items ++ passed_place file.now passed.now) }
 {
     push(to, b"note: ")?;
     push_shown(to, file.name().as_bytes())?;
@@ -22,8 +22,8 @@ fn push_place(to: &mut Vec<u8>, file: &SourceFile<'_>, passed: Passed) -> Result
 
 // Adds how many lines were passed over.
 #[tactic(auto, unfolding(crate::specs::Passed::passed_counts), using(std::proofs::lemmas::List::append_assoc))]
-fn push_counts(to: &mut Vec<u8>, passed: Passed) -> Result<(), NoMemory>
-    ensures { OnOk result (to.new.items ≡ to.old.items ++ passed_counts passed) }
+fn push_counts(to: &mut Vec<u8>, passed: &Passed) -> Result<(), NoMemory>
+    ensures { OnOk result (to.new.items ≡ to.old.items ++ passed_counts passed.now) }
 {
     push(to, b": commands of psql: ")?;
     push_number(to, passed.commands)?;
@@ -34,8 +34,8 @@ fn push_counts(to: &mut Vec<u8>, passed: Passed) -> Result<(), NoMemory>
 
 // Adds the line on what of a file was passed over.
 #[tactic(auto, unfolding(crate::specs::Passed::passed_line), using(std::proofs::lemmas::List::append_assoc))]
-fn push_line(to: &mut Vec<u8>, file: &SourceFile<'_>, passed: Passed) -> Result<(), NoMemory>
-    ensures { OnOk result (to.new.items ≡ to.old.items ++ passed_line file.now passed) }
+fn push_line(to: &mut Vec<u8>, file: &SourceFile<'_>, passed: &Passed) -> Result<(), NoMemory>
+    ensures { OnOk result (to.new.items ≡ to.old.items ++ passed_line file.now passed.now) }
 {
     push_place(to, file, passed)?;
     push_counts(to, passed)
@@ -46,7 +46,7 @@ fn push_passed(to: &mut Vec<u8>, alloc: Global, checked: &Checked) -> Result<(),
     requires { IsSound checked.now }
     ensures { OnOk result (to.new.items ≡ to.old.items ++ passed_in checked.now) }
 {
-    match checked.passed {
+    match &checked.passed {
         None => push(to, b""),
         Some(passed) => {
             let text = readable(checked.bytes.as_slice());

@@ -8,7 +8,8 @@ use Rattle.checked_file.specs.declared.checked.Judged.{Judged}
 use Rattle.lint_report.specs.declared.report.Report.{Report}
 use Rattle.source_file.specs.declared.refusal.Refusal.TheVariants as refusal
 use Rattle.sql_token.specs.Token.{Text, OpenAt}
-use Rattle.sql_tree.specs.Statement.{IsSyntaxAt, IsTreeOf, Tree}
+use Rattle.sql_read.specs.Cause.{IsTreeOf}
+use Rattle.sql_tree.specs.Statement.{IsSyntaxAt, Tree}
 use Rattle.text_reports.specs.declared.find.TextLinter.{TextLinter}
 use Rattle.text_reports.specs.Reports.{all_reports}
 use Rattle.file_answer.specs.Reading.{IsReadBy}

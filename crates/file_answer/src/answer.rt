@@ -2,6 +2,8 @@
 ghost use Rattle.std.specs.Prelude.{◌≡◌, ◌<◌, ◌^◌, IfOk, length};
 ghost use Rattle.checked_file.specs.Files.{readable_of};
 ghost use Rattle.checked_file.specs.Sound.{IsIn, IsSoundAnswer};
+ghost use Rattle.sql_read.specs.Cause.{IsCause};
+ghost use Rattle.text_reports.specs.declared.find.TextLinter.{TextLinter};
 ghost use Rattle.file_answer.specs.Answers.{IsAnswerOf, IsJudgedAs};
 
 use crate::read::read_bytes;
@@ -13,8 +15,28 @@ use std::alloc::Global;
 use text_pos::{NoMemory, TextSize};
 use text_reports::{TextLinter, find_reports};
 
+// What comes of a text that is refused.
+#[tactic(auto, using(crate::proofs::Placing::open_in, crate::proofs::Placing::syntax_in))]
+fn refused(text: &str, error: LintError) -> Result<Answer, NoMemory>
+    requires short { length text.now < 2 ^ 32 }
+    requires cause { IsCause text.now error }
+    ensures answer { IfOk result (λ answer. (l : TextLinter) → IsAnswerOf l text.now answer) }
+    ensures placed { IfOk result (IsIn text.now) }
+{
+    match error {
+        LintError::TooLong => unreachable!(),
+        LintError::Unterminated { at } => Ok(Answer::Refused(Refusal::Unterminated {
+            at: TextSize::new(at),
+        })),
+        LintError::Syntax { at } => Ok(Answer::Refused(Refusal::Syntax {
+            at: TextSize::new(at),
+        })),
+        LintError::NoMemory => Err(NoMemory),
+    }
+}
+
 // Lints a text.
-#[tactic(auto, using(crate::proofs::Placing::reports_in, crate::proofs::Placing::open_in, crate::proofs::Placing::syntax_in))]
+#[tactic(auto, using(crate::proofs::Placing::reports_in))]
 fn lint_str(alloc: Global, linter: &mut TextLinter, text: &str) -> Result<Answer, NoMemory>
     requires { length text.now < 2 ^ 32 }
     ensures answer { IfOk result (IsAnswerOf linter.old text.now) }
@@ -26,14 +48,10 @@ fn lint_str(alloc: Global, linter: &mut TextLinter, text: &str) -> Result<Answer
             let reports = find_reports(alloc, linter, &file)?;
             Ok(Answer::Reports(reports))
         }
-        Err(LintError::TooLong) => unreachable!(),
-        Err(LintError::Unterminated { at }) => Ok(Answer::Refused(Refusal::Unterminated {
-            at: TextSize::new(at),
-        })),
-        Err(LintError::Syntax { at }) => Ok(Answer::Refused(Refusal::Syntax {
-            at: TextSize::new(at),
-        })),
-        Err(LintError::NoMemory) => Err(NoMemory),
+        Err(error) => {
+            let answer = refused(text, error)?;
+            Ok(answer)
+        }
     }
 }
 

@@ -86,7 +86,6 @@ fn suggestion_by(alloc: Global, code: Option<Code>) -> Result<String, AllocError
 }
 
 // What is wrong with the name of a rule or a hazard that there isn't.
-#[tactic(auto, unfolding(crate::specs::Messages::message_of))]
 fn unknown_rule(alloc: Global, choice: Choice, name: &str) -> Result<String, NoMemory>
     ensures { IfOk result (λ text. string_bytes text ≡ message_of (WordFault.UnknownRule choice name.now)) }
 {
