@@ -22,12 +22,15 @@ read_none t (inr (bad, none)) = inr (bad, record { text = refl; none = refl })
 -- of a text in which something is blank, that is what is read
 pub read_some : (t : Text) (b : Blanked) (read : Read) → IsTextIn t (Some b) → IsBlankedBy b read → IsReadAs false t read
 read_some t b read (inl (utf8, (ps, passes, told))) by =
-    inl (utf8, record {
-      parts = ps;
-      passes = passes;
-      text = by.bytes ∙ told.text;
-      are = subst (λ (p : Option Passed). IsPassed t ps p) (sym by.passed) (told.first, told.commands, told.data_lines);
-    })
+    inl (
+      utf8,
+      record {
+        parts = ps;
+        passes = passes;
+        text = by.bytes ∙ told.text;
+        are = subst (λ (p : Option Passed). IsPassed t ps p) (sym by.passed) (told.first, told.commands, told.data_lines);
+      },
+    )
 read_some t b read (inr (bad, none)) by = absurd (cc none)
 
 -- it is as long as the file
