@@ -5,7 +5,6 @@ use Rattle.text_diff.specs.declared.step.Mark.{Mark}
 use Rattle.text_diff.specs.declared.step.Mark.TheVariants.{Kept, Hidden, Removed, Added}
 use Rattle.text_diff.specs.declared.step.Step.{Step}
 
--- a line with this mark is one of the old text
 abbrev pub is_old : Mark → Bool
 is_old Kept = true
 is_old Hidden = true
