@@ -1,0 +1,18 @@
+-- The exit status and the line of each failure.
+use Rattle.std.specs.Prelude.{◌≡◌, ℕ, List}
+use Rattle.fix_command.specs.declared.failure.Failure.{Failure}
+use Rattle.fix_command.specs.declared.failure.Failure.TheVariants.{Stop, Words}
+use Rattle.squawk_run.specs.declared.stop.Stop.{Stop as AnyStop}
+use Rattle.squawk_run.specs.Stops as stops
+
+abbrev pub code_of : Failure → ℕ
+code_of (Stop stop) = stops.code_of stop
+code_of (Words line) = 2
+
+abbrev pub line_of : Failure → List ℕ
+line_of (Stop stop) = stops.line_of stop
+line_of (Words line) = line.items
+
+-- the failure is this stop
+abbrev pub IsStop : AnyStop → Failure → Type 0
+IsStop stop failure = failure ≡ Stop stop
