@@ -1,12 +1,13 @@
-//! The linter that the words and the configuration choose.
-ghost use Rattle.std.specs.Prelude.{◌≡◌, ◌≤◌, IfErr, IfOk, drop};
+//! The linter that the words and the configuration of a folder choose.
+ghost use Rattle.std.specs.Prelude.{◌≡◌, ◌≤◌, IfErr, IfOk};
 ghost use Rattle.server_command.specs.Settled as spec;
-ghost use Rattle.server_command.specs.Settled.{IsChosenBy, IsSettled, IsUnchosen, IsUnsettled};
+ghost use Rattle.server_command.specs.Settled.{IsChosenAlone, IsChosenBy, IsSettled, IsUnchosen, IsUnsettled};
+ghost use Rattle.check_config.specs.Config.{empty};
+ghost use Rattle.file_store.specs.Contents.{KeepsContents};
 
-use crate::asked::words_after_first;
 use crate::outcome::{Failure, failure_of};
 use check_config::{Config, linter_words};
-use config_file::load_config;
+use config_file::folder_config;
 use file_store::FileStore;
 use lsp_linter::Linting;
 use squawk_linter::Linter;
@@ -43,32 +44,36 @@ fn chosen(alloc: Global, config: &Config, line: &Words) -> Result<Choices, Stop>
     }
 }
 
-// What finds reports, by the words of the line that are for the linter.
-fn settled_by<F: FileStore>(alloc: Global, line: &Words, files: &mut F) -> Result<Linting, Failure>
-    ensures settled { IfOk result (IsSettled (F.content files.old) line.now) }
-    ensures unsettled { IfErr result (IsUnsettled (F.content files.old) (F.faults files.old) (F.faults files.new) line.now) }
+/// What finds reports by the words of the line alone.
+pub(crate) fn alone(alloc: Global, line: &Words) -> Result<Linting, Stop>
+    ensures chosen { IfOk result (IsChosenAlone line.now) }
+    ensures unchosen { IfErr result (IsUnchosen empty line.now) }
 {
-    let config = match load_config(alloc, files, &None) {
+    let config = Config::empty(alloc);
+    match chosen(alloc, &config, line) {
+        Ok(choices) => Ok(linting_by(choices)),
+        Err(stop) => Err(stop),
+    }
+}
+
+/// What finds reports by the words of the line and the configuration that is found from a folder on.
+pub(crate) fn settled_in<F: FileStore>(
+    alloc: Global,
+    line: &Words,
+    files: &mut F,
+    folder: &str,
+) -> Result<Linting, Failure>
+    ensures settled { IfOk result (IsSettled (F.content files.old) folder.now line.now) }
+    ensures unsettled { IfErr result (IsUnsettled (F.content files.old) (F.faults files.old) (F.faults files.new) folder.now line.now) }
+    ensures kept { KeepsContents (F.content files.old) (F.content files.new) }
+    ensures later { F.faults files.old ≤ F.faults files.new }
+{
+    let config = match folder_config(alloc, files, folder) {
         Ok(config) => config,
         Err(error) => return Err(failure_of(error)),
     };
     match chosen(alloc, &config, line) {
         Ok(choices) => Ok(linting_by(choices)),
         Err(stop) => Err(Failure::Stop(stop)),
-    }
-}
-
-/// What finds reports: the linter that the words after the first and the configuration choose.
-pub(crate) fn settled<F: FileStore>(
-    alloc: Global,
-    words: &Words,
-    files: &mut F,
-) -> Result<Linting, Failure>
-    ensures settled { IfOk result (IsSettled (F.content files.old) (drop 1 words.now)) }
-    ensures unsettled { IfErr result (IsUnsettled (F.content files.old) (F.faults files.old) (F.faults files.new) (drop 1 words.now)) }
-{
-    match words_after_first(alloc, words) {
-        Ok(line) => settled_by(alloc, &line, files),
-        Err(NoMemory) => Err(Failure::Stop(Stop::NoMemory)),
     }
 }
