@@ -7,11 +7,11 @@ use Rattle.lsp_message.specs.declared.message.Message.TheVariants.{Request}
 use Rattle.lsp_session.specs.declared.stage.Stage.{Stage}
 use Rattle.lsp_session.specs.declared.stage.Stage.TheVariants.{Fresh}
 
-module _ {C : Type 0} (Enters : C → Option (List ℕ) → C → Type 0) (Refuses : C → Option (List ℕ) → List ℕ → Type 0) where
+module _ {C : Type 0} (Enters : C → Option (List ℕ) → C → Type 0) (Refuses : C → Option (List ℕ) → List ℕ → C → Type 0) where
   -- An `initialize` is taken as it is where the checker was entered at its root, and else as a refusal with the line that says why.
   abbrev pub IsEntryAs : Option (List ℕ) → Call → C → C → Type 0
   IsEntryAs root (Initialize named) old new = (named ≡ root) × Enters old root new
-  IsEntryAs root (Unsettled line) old new = Refuses old root line
+  IsEntryAs root (Unsettled line) old new = Refuses old root line new
   IsEntryAs root other old new = ⊥
 
   -- Everything else is taken as it is, and the checker stays the same.

@@ -10,11 +10,11 @@ pub trait Enter {
     /// Entered at this root, the first is the second.
     ghost enters: { Self → Option (List ℕ) → Self → Type 0 };
 
-    /// It can't be entered at this root, and this line says why.
-    ghost refuses: { Self → Option (List ℕ) → List ℕ → Type 0 };
+    /// The first can't be entered at this root, as this line says, and is the second after it was tried.
+    ghost refuses: { Self → Option (List ℕ) → List ℕ → Self → Type 0 };
 
     /// Enters the workspace that has this root, a path; `None` is a workspace without one. What comes is the line that says why it can't
     /// be entered, with no line feed; it may be tried again then. The error comes when memory runs out.
     fn enter(&mut self, alloc: Global, root: &Option<Text>) -> Result<Option<Text>, NoMemory>
-        ensures { IfOk result (λ refused. MatchOption refused (enters self.old root.now self.new) (refuses self.old root.now)) };
+        ensures { IfOk result (λ refused. MatchOption refused (enters self.old root.now self.new) (λ line. refuses self.old root.now line self.new)) };
 }
