@@ -1,0 +1,5 @@
+pub mod Placing
+pub mod Coming
+pub mod Lists
+pub mod Giving
+pub mod Moved

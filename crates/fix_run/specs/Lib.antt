@@ -1,0 +1,4 @@
+pub mod Inputs
+pub mod Mending
+pub mod Giving
+pub mod Runs

@@ -1,0 +1,131 @@
+//! What comes of the files that words stand for, or of the input.
+ghost use Rattle.std.specs.Prelude.{◌≡◌, All, IfOk};
+ghost use Rattle.fix_run.specs.Mending as spec;
+ghost use Rattle.fix_run.specs.Inputs.{input_content, input_name, reads_input};
+ghost use Rattle.fix_run.specs.Runs.{AllCame, FilesCame, InputCame};
+ghost use Rattle.squawk_run.specs.Stops.{IsReadStop};
+
+use crate::files::{Files, keep, mend_files, no_files};
+use crate::mend::{Came, of_bytes, unread};
+use crate::mender::Mender;
+use file_choice::chosen;
+use file_store::FileStore;
+use gate_files::{Order, named_files};
+use source_file::Refusal;
+use squawk_run::{Stop, read_input};
+use squawk_stream::Source;
+use squawk_words::Words;
+use std::alloc::Global;
+use text_pos::NoMemory;
+
+// What the input is called.
+const NAME: &str = "stdin";
+
+/// Whether the input is to be fixed, and no file: where no file is named, or `-` alone.
+pub(crate) fn reads_input(files: &Words) -> bool
+    ensures { result ≡ reads_input files.now }
+{
+    match files.len() {
+        0 => true,
+        1 => files.get(0) == "-",
+        _ => false,
+    }
+}
+
+// Why an input was not read to its end. The stop `NoMemory` ends the run.
+fn refusal_of(stop: Stop) -> Result<Refusal, NoMemory>
+    requires { IsReadStop stop }
+    ensures by { IfOk result (spec.IsStoppedBy stop) }
+    ensures unplaced { IfOk result spec.IsUnplaced }
+{
+    match stop {
+        Stop::TooLong => Ok(Refusal::TooLong),
+        Stop::ReadFault => Ok(Refusal::Unreadable),
+        Stop::NoMemory => Err(NoMemory),
+        Stop::BadArguments | Stop::NotUtf8 | Stop::WriteFault => unreachable!(),
+    }
+}
+
+// What comes of an input that was not read to its end.
+fn of_stop(alloc: Global, stop: Stop) -> Result<Came, NoMemory>
+    requires { IsReadStop stop }
+    ensures came { IfOk result (spec.IsOfStop input_name stop) }
+    ensures sound { IfOk result spec.IsSoundCame }
+{
+    let refusal = refusal_of(stop)?;
+    unread(alloc, NAME, refusal)
+}
+
+// What comes of the input.
+fn input_came<S: Source, M: Mender>(
+    alloc: Global,
+    mender: &M,
+    src: &mut S,
+) -> Result<Came, NoMemory>
+    ensures came { IfOk result (spec.HasCome (M.answers mender.now) (input_content (S.left src.old)) (S.faults src.old) (S.faults src.new) input_name) }
+    ensures sound { IfOk result spec.IsSoundCame }
+{
+    match read_input(alloc, src) {
+        Ok(bytes) => of_bytes(alloc, mender, NAME, bytes.as_slice()),
+        Err(stop) => of_stop(alloc, stop),
+    }
+}
+
+// What comes of the input alone.
+fn mend_input<S: Source, M: Mender>(
+    alloc: Global,
+    mender: &M,
+    src: &mut S,
+) -> Result<Files, NoMemory>
+    ensures come { IfOk result (λ all. InputCame (M.answers mender.now) (S.left src.old) (S.faults src.old) (S.faults src.new) all.mended.items all.unread.items) }
+    ensures sound { IfOk result (λ all. All spec.IsSound all.unread.items) }
+{
+    let came = input_came(alloc, mender, src)?;
+    let mut all = no_files(alloc);
+    keep(&mut all, came)?;
+    Ok(all)
+}
+
+// What comes of the files that words stand for and no pattern leaves out.
+fn mend_named<F: FileStore, M: Mender>(
+    alloc: Global,
+    mender: &M,
+    files: &mut F,
+    patterns: &Words,
+    words: &Words,
+) -> Result<Files, NoMemory>
+    ensures come { IfOk result (λ all. FilesCame (M.answers mender.now) (F.content files.old) (F.faults files.old) (F.faults files.new) patterns.now words.now all.mended.items all.unread.items) }
+    ensures sound { IfOk result (λ all. All spec.IsSound all.unread.items) }
+{
+    let named = named_files(alloc, files, Order::Given, words)?;
+    let names = chosen(alloc, patterns, &named)?;
+    mend_files(alloc, mender, files, &names)
+}
+
+/// What comes of the files that words stand for, or of the input. The error comes when memory runs out.
+pub(crate) fn mend_asked<F: FileStore, S: Source, M: Mender>(
+    alloc: Global,
+    mender: &M,
+    patterns: &Words,
+    words: &Words,
+    files: &mut F,
+    src: &mut S,
+) -> Result<Files, NoMemory>
+    ensures come { IfOk result (λ all. AllCame (M.answers mender.now)
+        (record {
+          content = F.content files.old;
+          files_before = F.faults files.old;
+          files_now = F.faults files.new;
+          left = S.left src.old;
+          input_before = S.faults src.old;
+          input_now = S.faults src.new;
+        })
+        patterns.now words.now all.mended.items all.unread.items) }
+    ensures sound { IfOk result (λ all. All spec.IsSound all.unread.items) }
+{
+    if reads_input(words) {
+        mend_input(alloc, mender, src)
+    } else {
+        mend_named(alloc, mender, files, patterns, words)
+    }
+}

@@ -1,0 +1,117 @@
+//! What is printed or written.
+ghost use Rattle.std.specs.Prelude.{◌≡◌, IfErr, IfOk, OnOk};
+ghost use Rattle.std.specs.Io.KnownBytes.{Appends};
+ghost use Rattle.fix_output.specs.Writing.{AreWritten};
+ghost use Rattle.fix_run.specs.Giving as spec;
+
+use crate::asked::reads_input;
+use file_write::{FileWriter, WriteError};
+use fix_output::{MendedFile, push_diffs, write_changed};
+use fix_words::Request;
+use squawk_run::Stop;
+use squawk_stream::{Sink, write_all};
+use std::alloc::Global;
+use text_pos::NoMemory;
+
+/// What becomes of what is made.
+#[derive(Clone, Copy, Debug, PartialEq, Eq)]
+pub(crate) enum Way {
+    /// The differences are printed.
+    Print,
+    /// The text that is made of the input is printed.
+    Input,
+    /// The files are written.
+    Files,
+}
+
+/// What becomes of what is made for a request.
+pub(crate) fn way_of(request: &Request) -> Way
+    ensures { result ≡ spec.way_of request.now }
+{
+    if !request.write {
+        Way::Print
+    } else if reads_input(&request.files) {
+        Way::Input
+    } else {
+        Way::Files
+    }
+}
+
+// The text that is made of the first of these.
+fn first_text(files: &[MendedFile]) -> &str
+    ensures { result.now ≡ spec.first_text files.entry.now }
+{
+    match files.first() {
+        Some(file) => file.new.as_str(),
+        None => "",
+    }
+}
+
+// The differences of files.
+fn diffs(alloc: Global, files: &[MendedFile]) -> Result<Vec<u8>, NoMemory>
+    ensures { IfOk result (λ bytes. spec.AreDiffs files.now bytes.items) }
+{
+    let mut bytes = Vec::new(alloc);
+    push_diffs(&mut bytes, alloc, files)?;
+    Ok(bytes)
+}
+
+// Writes bytes to a sink.
+fn print_bytes<K: Sink>(bytes: &[u8], out: &mut K) -> Result<(), Stop>
+    ensures whole { OnOk result (Appends (K.held out.old) (K.held out.new) bytes.now) }
+    ensures stop { IfErr result (λ stop. spec.StopsWriting stop bytes.now (K.held out.old) (K.held out.new) (K.faults out.old) (K.faults out.new)) }
+{
+    match write_all(out, bytes) {
+        Ok(()) => Ok(()),
+        Err(_) => Err(Stop::WriteFault),
+    }
+}
+
+// Prints the differences of files.
+fn print_diffs<K: Sink>(alloc: Global, files: &[MendedFile], out: &mut K) -> Result<(), Stop>
+    ensures whole { OnOk result (spec.HasDiffsThat files.now (Appends (K.held out.old) (K.held out.new))) }
+    ensures stop { IfErr result (λ stop. spec.StopsDiffs stop files.now (K.held out.old) (K.held out.new) (K.faults out.old) (K.faults out.new)) }
+{
+    match diffs(alloc, files) {
+        Ok(bytes) => print_bytes(bytes.as_slice(), out),
+        Err(NoMemory) => Err(Stop::NoMemory),
+    }
+}
+
+// Writes files.
+fn write_files<W: FileWriter>(
+    alloc: Global,
+    files: &[MendedFile],
+    writer: &mut W,
+) -> Result<(), Stop>
+    ensures whole { OnOk result (AreWritten files.now (W.content writer.old) (W.content writer.new)) }
+    ensures stop { IfErr result (λ stop. spec.StopsFiles stop files.now (W.content writer.old) (W.content writer.new) (W.faults writer.old) (W.faults writer.new)) }
+{
+    match write_changed(alloc, writer, files) {
+        Ok(()) => Ok(()),
+        Err(WriteError::Fault) => Err(Stop::WriteFault),
+        Err(WriteError::NoMemory) => Err(Stop::NoMemory),
+    }
+}
+
+/// Prints or writes what is made of files.
+pub(crate) fn give<W: FileWriter, K: Sink>(
+    alloc: Global,
+    way: Way,
+    files: &[MendedFile],
+    writer: &mut W,
+    out: &mut K,
+) -> Result<(), Stop>
+    ensures given { OnOk result (spec.IsGiven way files.now
+        (record { held = K.held out.old; faults = K.faults out.old; written = W.content writer.old; write_faults = W.faults writer.old })
+        (record { held = K.held out.new; faults = K.faults out.new; written = W.content writer.new; write_faults = W.faults writer.new })) }
+    ensures cut { IfErr result (spec.IsCut way files.now
+        (record { held = K.held out.old; faults = K.faults out.old; written = W.content writer.old; write_faults = W.faults writer.old })
+        (record { held = K.held out.new; faults = K.faults out.new; written = W.content writer.new; write_faults = W.faults writer.new })) }
+{
+    match way {
+        Way::Print => print_diffs(alloc, files, out),
+        Way::Input => print_bytes(first_text(files).as_bytes(), out),
+        Way::Files => write_files(alloc, files, writer),
+    }
+}

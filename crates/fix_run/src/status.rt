@@ -1,0 +1,61 @@
+//! How a run ends that nothing stops.
+ghost use Rattle.std.specs.Prelude.{◌≡◌};
+ghost use Rattle.std.specs.List.{list_any};
+ghost use Rattle.checked_file.specs.Answers.{refused_status};
+ghost use Rattle.fix_output.specs.Differences.{is_changed};
+ghost use Rattle.fix_run.specs.Giving as spec;
+
+use checked_file::{Answer, Status};
+use fix_output::MendedFile;
+use gate_files::Unread;
+use source_file::Refusal;
+
+// Whether a text is another one now.
+fn is_changed(file: &MendedFile) -> bool
+    ensures { result ≡ is_changed file.now }
+{
+    file.old.as_str() != file.new.as_str()
+}
+
+// Whether one of these is changed.
+fn any_changed(files: &[MendedFile]) -> bool
+    ensures { result ≡ list_any is_changed files.now }
+{
+    files.iter().any(|file| is_changed(file))
+}
+
+// The status of a file of which nothing is made.
+fn refused_status(refusal: Refusal) -> Status
+    ensures { result ≡ refused_status refusal }
+{
+    Answer::Refused(refusal).status()
+}
+
+// The greatest status of files of which nothing is made.
+fn unread_status(all: &[Unread]) -> Status
+    ensures { result ≡ spec.unread_status all.now }
+{
+    let mut status = Status::Clean;
+    for unread in all {
+        status = status.worse(refused_status(unread.refusal));
+    }
+    status
+}
+
+// The status of the files that were read.
+fn mended_status(is_written: bool, files: &[MendedFile]) -> Status
+    ensures { result ≡ spec.mended_status is_written files.now }
+{
+    if !is_written && any_changed(files) {
+        Status::Found
+    } else {
+        Status::Clean
+    }
+}
+
+/// The status of a run, by whether it writes what it makes.
+pub(crate) fn status_of(is_written: bool, files: &[MendedFile], all: &[Unread]) -> Status
+    ensures { result ≡ spec.status_of is_written files.now all.now }
+{
+    mended_status(is_written, files).worse(unread_status(all))
+}
