@@ -491,11 +491,12 @@ def show(case, out, status):
 
 def is_about_more(case):
     """Whether a case has what PRINTER does not know."""
-    told = "\n".join(case.lines) + case.out.decode("utf-8", "replace")
-    options = {"--baseline", "--write-baseline", "--config", "--include", "--exclude", "--only", "--help", "--version"}
-    hazards = any(f"[{name}]" in told or f'"{name}"' in told and "sarif" not in told for name in all_hazards())
-    named = any(re.search(rf"(?<![\w-]){name}(?![\w-])", "\n".join(case.lines)) for name in all_hazards())
-    return hazards or named or "commands of psql" in told or ".squawk.toml" in told or bool(options & set(case.words)) and named
+    lines = "\n".join(case.lines)
+    names = any(re.search(rf"(?<![\w-]){name}(?![\w-])", lines) or f"[{name}]" in case.out.decode("utf-8", "replace") for name in all_hazards())
+    options = {word.partition("=")[0] for word in case.words if word.startswith("--") and word != "--"}
+    foreign = options - {*OWN, *FLAGS, "--only", "--exclude", "--include", "--non-volatile", "--pg-major", "--pg-minor", "--pg-patch"}
+    psql = re.search(r"(?mi)^(?:\\(?! )|copy )", lines)
+    return names or bool(foreign) or bool(psql) or ".squawk.toml" in lines
 
 
 def compared(what, want, found):
