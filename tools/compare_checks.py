@@ -495,7 +495,7 @@ def is_about_more(case):
     names = any(re.search(rf"(?<![\w-]){name}(?![\w-])", lines) or f"[{name}]" in case.out.decode("utf-8", "replace") for name in all_hazards())
     options = {word.partition("=")[0] for word in case.words if word.startswith("--") and word != "--"}
     foreign = options - {*OWN, *FLAGS, "--only", "--exclude", "--include", "--non-volatile", "--pg-major", "--pg-minor", "--pg-patch"}
-    psql = re.search(r"(?mi)^(?:\\(?! )|copy )", lines)
+    psql = re.search(rb"(?mi)^(?:\xef\xbb\xbf)?(?:\\|copy )", case.text)
     return names or bool(foreign) or bool(psql) or ".squawk.toml" in lines
 
 
