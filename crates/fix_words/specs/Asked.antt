@@ -1,0 +1,37 @@
+-- What the words after the program's name ask for.
+use Rattle.std.specs.Prelude.{false, List, [], ◌∷◌, None, codes, drop, if◌then◌else◌}
+use Rattle.std.specs.Option.{option_map_or}
+use Rattle.squawk_run.specs.ForeignWords.{has_foreign_word}
+use Rattle.squawk_words.specs.Words.{Text}
+use Rattle.fix_words.specs.declared.asked.Asked.{Asked}
+use Rattle.fix_words.specs.declared.asked.Asked.TheVariants.{Fix, Help, Refused}
+use Rattle.fix_words.specs.declared.fault.Fault.TheVariants.{Word, NoValue}
+use Rattle.fix_words.specs.declared.request.Request.{Request}
+use Rattle.fix_words.specs.declared.step.Next.{Next}
+use Rattle.fix_words.specs.declared.step.Next.TheVariants.{Any, ConfigValue, LinterValue, File}
+use Rattle.fix_words.specs.declared.step.Reader.{Reader}
+use Rattle.fix_words.specs.Steps.{step}
+
+-- what no word asks for
+abbrev pub start : Reader
+start = record { next = Any; request = record { write = false; with_unsafe = false; config = None; files = []; linter = [] } }
+
+-- the end, at which no value is waited for
+abbrev pub ended : Next → Request → Asked
+ended Any r = Fix r
+ended File r = Fix r
+ended ConfigValue r = Refused NoValue
+ended LinterValue r = Refused NoValue
+
+-- the words one by one, up to the first one that is refused
+unfoldable pub read_from : Reader → List Text → Asked
+read_from reader [] = ended reader.next reader.request
+read_from reader (word ∷ words) = option_map_or (λ r. read_from r words) (step word reader) (Refused (Word word))
+
+-- what the words after `fix` ask for
+abbrev pub request_of : List Text → Asked
+request_of words = read_from start words
+
+-- `--help` counts wherever it is
+abbrev pub asked_of : List Text → Asked
+asked_of words = if has_foreign_word (codes "help" ∷ []) words then Help else request_of (drop 1 words)

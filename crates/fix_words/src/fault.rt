@@ -1,0 +1,62 @@
+//! Why words are refused.
+ghost use Rattle.std.specs.Prelude.{◌≡◌, ◌++◌, IfOk, OnOk, flat_map};
+ghost use Rattle.fix_words.specs.Faults as spec;
+
+use lint_base::Text;
+use report_lines::push;
+use source_file::push_shown;
+use squawk_words::Words;
+use std::alloc::Global;
+use text_pos::NoMemory;
+
+/// Why words are refused.
+#[derive(Drop)]
+pub enum Fault {
+    /// This word is not one of the command, or not a value of the option before it.
+    Word(Text),
+    /// The last word is an option, and its value is missing.
+    NoValue,
+    /// The linter refuses these words.
+    Linter(Words),
+}
+
+// Adds a word after a blank.
+fn push_word(to: &mut Vec<u8>, word: &str) -> Result<(), NoMemory>
+    ensures { OnOk result (to.new.items ≡ to.old.items ++ spec.word_part word.now) }
+{
+    push(to, b" ")?;
+    push_shown(to, word.as_bytes())
+}
+
+// Adds words, each after a blank.
+fn push_words(to: &mut Vec<u8>, words: &Words) -> Result<(), NoMemory>
+    ensures { OnOk result (to.new.items ≡ to.old.items ++ flat_map spec.word_part words.now) }
+{
+    for i in 0..words.len() {
+        push_word(to, words.get(i))?;
+    }
+    Ok(())
+}
+
+// Adds what a fault is about.
+#[tactic(auto, unfolding(crate::specs::Faults::fault_part))]
+fn push_fault(to: &mut Vec<u8>, fault: &Fault) -> Result<(), NoMemory>
+    ensures { OnOk result (to.new.items ≡ to.old.items ++ spec.fault_part fault.now) }
+{
+    match fault {
+        Fault::Word(word) => push_word(to, word.as_str()),
+        Fault::NoValue => push(to, b" the last word, which needs a value"),
+        Fault::Linter(words) => push_words(to, words),
+    }
+}
+
+/// The line about a fault. The error comes when memory runs out.
+pub fn fault_line(alloc: Global, fault: &Fault) -> Result<Vec<u8>, NoMemory>
+    ensures { IfOk result (λ line. line.items ≡ spec.fault_line fault.now) }
+{
+    let mut line = Vec::new(alloc);
+    push(&mut line, b"error: fix: not accepted:")?;
+    push_fault(&mut line, fault)?;
+    push(&mut line, b"\n")?;
+    Ok(line)
+}

@@ -1,0 +1,16 @@
+//! The words of `lavkheto fix`: what they ask for, or what is wrong with the first one that is refused.
+//!
+//! `specs/Steps.antt` says what one word adds, `Asked` what all ask for, and `Faults` the line about a word that is refused.
+#![tactic(auto)]
+
+mod asked;
+mod fault;
+mod help;
+mod read;
+mod request;
+mod step;
+
+pub use asked::{Asked, read_asked};
+pub use fault::{Fault, fault_line};
+pub use help::HELP;
+pub use request::Request;

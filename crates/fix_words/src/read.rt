@@ -1,0 +1,61 @@
+//! All words after `fix`.
+ghost use Rattle.std.specs.Prelude.{◌≡◌, IfOk, drop};
+ghost use Rattle.fix_words.specs.Asked.{ended, request_of, start};
+
+use crate::asked::Asked;
+use crate::fault::Fault;
+use crate::request::Request;
+use crate::step::{Next, Reader, step};
+use lint_base::Text;
+use squawk_words::Words;
+use std::alloc::Global;
+use text_pos::NoMemory;
+
+// What no word asks for.
+fn start(alloc: Global) -> Reader
+    ensures { result ≡ start }
+{
+    Reader {
+        next: Next::Any,
+        request: Request {
+            write: false,
+            with_unsafe: false,
+            config: None,
+            files: Words::new(alloc),
+            linter: Words::new(alloc),
+        },
+    }
+}
+
+// What the words ask for, where no value is waited for.
+fn ended(reader: Reader) -> Asked
+    ensures { result ≡ ended reader.next reader.request }
+{
+    let Reader { next, request } = reader;
+    match next {
+        Next::Any | Next::File => Asked::Fix(request),
+        Next::ConfigValue | Next::LinterValue => Asked::Refused(Fault::NoValue),
+    }
+}
+
+// A word that is refused.
+fn refused(alloc: Global, word: &str) -> Result<Asked, NoMemory>
+    ensures { IfOk result (λ asked. asked ≡ Asked.Refused (Fault.Word word.now)) }
+{
+    let word = Text::made(String::from_str(alloc, word)?);
+    Ok(Asked::Refused(Fault::Word(word)))
+}
+
+/// What the words after the first ask for. The error comes when memory runs out.
+pub(crate) fn read_request(alloc: Global, words: &Words) -> Result<Asked, NoMemory>
+    ensures { IfOk result (λ asked. asked ≡ request_of (drop 1 words.now)) }
+{
+    let mut reader = start(alloc);
+    for i in 1..words.len() {
+        let word = words.get(i);
+        if !step(alloc, &mut reader, word)? {
+            return refused(alloc, word);
+        }
+    }
+    Ok(ended(reader))
+}
