@@ -1,0 +1,11 @@
+pub mod AdditionLaws
+pub mod BuildLaws
+pub mod InsideLaws
+pub mod Nodes
+pub mod Numbers
+pub mod PathLaws
+pub mod RewriteLaws
+pub mod Silent
+pub mod TableLaws
+pub mod ViewLaws
+pub mod WordLaws
