@@ -1,6 +1,7 @@
 pub mod AdditionLaws
 pub mod BuildLaws
 pub mod InsideLaws
+pub mod KindLaws
 pub mod Nodes
 pub mod Numbers
 pub mod PathLaws

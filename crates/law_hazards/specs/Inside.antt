@@ -28,14 +28,14 @@ pub data IsRefusedWork (tree : Tree) (s : Stmt) : Type 0 where
 
 -- A statement of the whole server, of a database or of the session that a transaction block refuses.
 pub data IsRefusedByServer (tree : Tree) (s : Stmt) : Type 0 where
-  creates_database : s.kind ≡ stmt.CreateDatabase → s.body ≡ body.Kept → IsRefusedByServer tree s
-  drops_database : s.kind ≡ stmt.DropDatabase → s.body ≡ body.Kept → IsRefusedByServer tree s
+  creates_database : s.kind ≡ stmt.CreateDatabase → IsRefusedByServer tree s
+  drops_database : s.kind ≡ stmt.DropDatabase → IsRefusedByServer tree s
   moves_database : (path : Option Span) (actions : List Action) (a : Action) → s.kind ≡ stmt.AlterDatabase → s.body ≡ body.Alter path actions → Contains actions a
       → begin_with tree.text (keyword.SET ∷ keyword.TABLESPACE ∷ []) (action_tokens tree a) ≡ true → IsRefusedByServer tree s
-  creates_tablespace : s.kind ≡ stmt.CreateTablespace → s.body ≡ body.Kept → IsRefusedByServer tree s
-  drops_tablespace : s.kind ≡ stmt.DropTablespace → s.body ≡ body.Kept → IsRefusedByServer tree s
+  creates_tablespace : s.kind ≡ stmt.CreateTablespace → IsRefusedByServer tree s
+  drops_tablespace : s.kind ≡ stmt.DropTablespace → IsRefusedByServer tree s
   alters_system : (path : Option Span) (actions : List Action) → s.kind ≡ stmt.AlterSystem → s.body ≡ body.Alter path actions → IsRefusedByServer tree s
-  discards_all : s.kind ≡ stmt.Discard → s.body ≡ body.Kept → begin_with tree.text (keyword.DISCARD ∷ keyword.ALL ∷ []) (statement_tokens tree s) ≡ true
+  discards_all : s.kind ≡ stmt.Discard → begin_with tree.text (keyword.DISCARD ∷ keyword.ALL ∷ []) (statement_tokens tree s) ≡ true
       → IsRefusedByServer tree s
   commits_prepared : (chain : Bool) → s.body ≡ body.End false chain → begin_with tree.text (keyword.COMMIT ∷ keyword.PREPARED ∷ []) (statement_tokens tree s) ≡ true
       → IsRefusedByServer tree s

@@ -3,7 +3,7 @@ use Rattle.std.specs.Prelude.{◌≡◌, ◌<◌, ℕ, Bool, true, false, List, 
 use Rattle.sql_token.specs.declared.token.Span.{Span}
 use Rattle.sql_tree.specs.declared.nodes.Body.TheVariants as body
 use Rattle.sql_tree.specs.declared.nodes.Column.{Column}
-use Rattle.sql_tree.specs.Statement.{Tree}
+use Rattle.sql_tree.specs.Statement.{IsTree, Tree}
 use Rattle.lint_base.specs.declared.settings.LinterSettings.{LinterSettings}
 use Rattle.lint_transaction.specs.Transaction.{is_open, stmt_at}
 use Rattle.hazard_base.specs.declared.hazard.Hazard.TheVariants as hazard
@@ -20,7 +20,7 @@ use Rattle.law_hazards.specs.Views.{IsMadeFirst}
 -- refuses.
 abbrev pub NothingIsRefusedInside : Type 0
 NothingIsRefusedInside =
-    (enabled : HazardSet) (settings : LinterSettings) (tree : Tree) → IsNotFound hazard.StatementInTransaction enabled settings tree
+    (enabled : HazardSet) (settings : LinterSettings) (tree : Tree) → IsTree tree → IsNotFound hazard.StatementInTransaction enabled settings tree
     → 1 < length tree.stmts → (i : ℕ) → i < length tree.stmts → is_open (begins_inside settings tree) tree i ≡ true
     → (IsRefusedWork tree (stmt_at tree i) → ⊥) × (IsRefusedByServer tree (stmt_at tree i) → ⊥)
 
