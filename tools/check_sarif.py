@@ -1,8 +1,9 @@
 #!/usr/bin/env python3
 """Checks a SARIF log on standard input against what OASIS SARIF 2.1.0 requires of the properties that Lavkheto writes.
 
-No schema file is read: the required properties, the value sets and the ranges are those of the standard's sections 3.13 (sarifLog),
-3.14 (run), 3.18 and 3.19 (tool), 3.27 (result), 3.29 (physicalLocation), 3.30 (region), 3.55 to 3.57 (fixes).
+No schema file is read: the required properties, the value sets and the ranges are those of the standard's sections 3.8 (property bags), 3.13
+(sarifLog), 3.14 (run), 3.18 and 3.19 (tool), 3.27 (result), 3.29 (physicalLocation), 3.30 (region), 3.55 to 3.57 (fixes). Of the
+property bag of a fix, which is ours, it reads the class.
 Prints what is wrong, a line each; the status is 1 where anything is.
 """
 import json
@@ -10,6 +11,7 @@ import re
 import sys
 
 LEVELS = {"none", "note", "warning", "error"}
+CLASSES = {"safe", "unsafe", "template"}
 COLUMN_KINDS = {"utf16CodeUnits", "unicodeCodePoints"}
 URI = re.compile(r"(?:[A-Za-z0-9._~!$&'()*+,;=:@/?#\[\]-]|%[0-9A-Fa-f]{2})*\Z")
 
@@ -46,6 +48,8 @@ def text(value, where):
 
 def fix(value, where):
     text(value.get("description"), where + ".description")
+    if has(value, where, "properties", dict):
+        want(value["properties"].get("class") in CLASSES, where + ".properties", "class is not one of safe, unsafe and template")
     if has(value, where, "artifactChanges", list):
         want(value["artifactChanges"], where, "no changes")
         for change in value["artifactChanges"]:

@@ -7,8 +7,9 @@
     tools/compare_checks.py PRINTER --show     the cases with the outputs that are made here
 
 PRINTER prints the reports of one text, by bytes. All else is made here anew: lines and columns, the lines with their marks, what
-fixes make, escapes, JSON, the places, URIs and fingerprints of SARIF and GitLab, what is counted, and the status. Columns of a
-terminal are those of Unicode's East Asian Width and general categories, as Python has them. The exit status is 1 if anything differs.
+fixes make, their classes, escapes, JSON, the places, URIs and fingerprints of SARIF and GitLab, what is counted, and the status. Columns
+of a terminal are those of Unicode's East Asian Width and general categories, as Python has them. PRINTER knows no hazards, so the cases
+that have some or say a hazard's name are left out, and CHECKER runs with --no-hazards. The exit status is 1 if anything differs.
 """
 import argparse
 import collections
@@ -24,16 +25,17 @@ import urllib.parse
 from pathlib import Path
 
 import apply_fixes
+import fix_classes
 import fuzz
 import join_cases
 
 CASES = "cases/check.txt"
 FORMATS = ("text", "concise", "gcc", "github", "json", "sarif", "gitlab")
 OWN = ("--format", "--color", "--stdin-filename", "--fail-on")
-FLAGS = ("--quiet", "--statistics", "--assume-in-transaction")
+FLAGS = ("--quiet", "--statistics", "--assume-in-transaction", "--no-hazards", "--strict")
 CODES = {"bold": "1", "warning": "1;35", "error": "1;31", "frame": "1;34", "removed": "31", "added": "32"}
 
-Finding = collections.namedtuple("Finding", "level rule message start end note help title edits has_place")
+Finding = collections.namedtuple("Finding", "level rule message start end note help title edits has_place fix_class")
 Checked = collections.namedtuple("Checked", "name text findings status")
 Case = collections.namedtuple("Case", "title lines words text out status err")
 
@@ -124,15 +126,22 @@ def refused(name, data, kind, at=0, readable=b""):
     status, message = REFUSALS[kind]
     has_place = kind in ("not-utf8", "unterminated", "syntax-error")
     found = hint(readable, at) if kind in ("unterminated", "syntax-error") else None
-    return Checked(name, readable, [Finding("error", kind, message, at, at, None, found, None, (), has_place)], status)
+    return Checked(name, readable, [Finding("error", kind, message, at, at, None, found, None, (), has_place, None)], status)
+
+
+def as_finding(known, one):
+    """A printed report, without its fix where that is not offered."""
+    fix_class = known.class_of(one.rule, one.start) if one.title is not None else None
+    title, edits = (one.title, one.edits) if fix_class else (None, ())
+    return Finding("warning", one.rule, one.message, one.start, one.end, one.note, one.help, title, edits, True, fix_class)
 
 
 def checked(printer, words, name, data):
     """A file of these bytes, and what comes of it."""
     done = fuzz.run(printer, words, data)
     if done.status in (0, 1):
-        reports = [Finding("warning", one.rule, one.message, one.start, one.end, one.note, one.help, one.title, one.edits, True)
-                   for one in fuzz.parsed(done.out)]
+        known = fix_classes.Known(data, "--assume-in-transaction" in words)
+        reports = [as_finding(known, one) for one in fuzz.parsed(done.out)]
         return Checked(name, data, reports, done.status)
     if done.status == 3:
         try:
@@ -237,7 +246,8 @@ def as_text(file, found, color):
         out += painter.note("note", found.note) if found.note is not None else ""
         out += painter.note("help", help) if help is not None else ""
     if found.title is not None:
-        out += painter.paint("added", "fix") + ": " + shown(found.title) + "\n" + changes(painter, found.edits)
+        mark = "" if found.fix_class == "safe" else f" ({found.fix_class})"
+        out += painter.paint("added", "fix") + ": " + shown(found.title) + mark + "\n" + changes(painter, found.edits)
     return out + "\n"
 
 
@@ -294,7 +304,7 @@ def as_json(file, found):
     (line, column), (last, past) = place(file.text, found.start), place(file.text, found.end)
     fix = None
     if found.title is not None:
-        fix = {"title": found.title, "edits": [{"start": edit.start, "end": edit.end, "text": edit.text.decode("utf-8")} for edit in found.edits]}
+        fix = {"class": found.fix_class, "title": found.title, "edits": [{"start": edit.start, "end": edit.end, "text": edit.text.decode("utf-8")} for edit in found.edits]}
     return dumped({"file": file.name, "line": line, "column": column, "line_end": last, "column_end": past, "level": found.level,
                    "message": found.message, "note": found.note, "help": found.help, "rule_name": found.rule, "fix": fix})
 
@@ -315,29 +325,32 @@ def as_sarif(file, found):
         edits = [{"deletedRegion": region(file.text, edit.start, edit.end), "insertedContent": {"text": edit.text.decode("utf-8")}}
                  for edit in found.edits]
         change = {"artifactLocation": {"uri": uri(file.name)}, "replacements": edits}
-        fixes = [{"description": {"text": found.title}, "artifactChanges": [change]}]
+        fixes = [{"description": {"text": found.title}, "artifactChanges": [change], "properties": {"class": found.fix_class}}]
     return dumped({"ruleId": found.rule, "level": found.level, "message": {"text": found.message}, "locations": [location], "fixes": fixes})
 
 
-def statement_around(text, start, end):
-    """The text up to the semicolons next to a range, without white space at its ends."""
-    before, after = text[:start].rpartition(b";")[2], b"" if text[:end].endswith(b";") else text[end:].partition(b";")[0]
-    return before.lstrip(b"\t\n\f\r ") + text[start:end] + after.rstrip(b"\t\n\f\r ")
-
-
 def as_gitlab(file, found):
-    statement = statement_around(file.text, found.start, found.end) if found.level == "warning" else b""
+    start, end = fix_classes.statement_around(file.text, found.start, found.end)
+    statement = file.text[start:end] if found.level == "warning" else b""
     print_of = hashlib.sha256(b"\0".join((file.name.encode("utf-8"), found.rule.encode(), statement))).hexdigest()
     severity = {"warning": "minor", "error": "major"}[found.level]
     return dumped({"description": found.message, "check_name": found.rule, "fingerprint": print_of, "severity": severity,
                    "location": {"path": file.name, "lines": {"begin": place(file.text, found.start)[0]}}})
 
 
+def variants(file, name):
+    """The names of what an enum declares, in order."""
+    declared = (join_cases.TOP / file).read_text(encoding="utf-8")
+    body = re.search(rf"pub enum {name} {{\n(.*?)\n}}", declared, re.S)[1]
+    return [re.sub(r"(?<!^)([A-Z])", r"-\1", one).lower() for one in re.findall(r"^    (\w+),$", body, re.M)]
+
+
 def all_rules():
-    """The names of all rules in the order in which they are declared."""
-    declared = (join_cases.TOP / "crates/lint_base/src/rule.rt").read_text(encoding="utf-8")
-    body = re.search(r"pub enum Rule \{\n(.*?)\n\}", declared, re.S)[1]
-    return [re.sub(r"(?<!^)([A-Z])", r"-\1", name).lower() for name in re.findall(r"^    (\w+),$", body, re.M)]
+    return variants("crates/lint_base/src/rule.rt", "Rule")
+
+
+def all_hazards():
+    return variants("crates/hazard_base/src/hazard.rt", "Hazard")
 
 
 ARRAYS = {"json": as_json, "sarif": as_sarif, "gitlab": as_gitlab}
@@ -352,7 +365,7 @@ def written(files, style):
         if style["format"] != "sarif":
             return f"[{inside}]\n"
         head = '{"$schema":"https://json.schemastore.org/sarif-2.1.0.json","runs":[{"columnKind":"unicodeCodePoints","results":['
-        tool = dumped({"driver": {"name": "lavkheto", "rules": [{"id": rule} for rule in all_rules()]}})
+        tool = dumped({"driver": {"name": "lavkheto", "rules": [{"id": one} for one in all_rules() + all_hazards()]}})
         return f'{head}{inside}],"tool":{tool}}}],"version":"2.1.0"}}\n'
     if style["format"] == "text":
         out = "".join(as_text(*one, style["color"]) for one in findings)
@@ -377,6 +390,8 @@ def taken(words):
             files, words = files + words, []
         elif word in ("--quiet", "--statistics"):
             style[word[2:]] = True
+        elif word in ("--no-hazards", "--strict"):
+            pass
         elif not word.startswith("--"):
             files.append(word)
         else:
@@ -443,7 +458,7 @@ def ran(checker, words, text):
 
 
 def cases():
-    """The cases of runs over files. A case that writes to the error stream is left out: it is not about formats."""
+    """The cases of runs over files. Those about hazards, baselines, configurations and files for psql are not about formats."""
     found, block = [], []
     for line in (join_cases.TOP / CASES).read_text(encoding="utf-8").split("\n"):
         if block or line.startswith("# "):
@@ -474,6 +489,16 @@ def show(case, out, status):
     print("\n".join([*case.lines, *map(case_line, lines), f"status {status}", ""]))
 
 
+def is_about_more(case):
+    """Whether a case has what PRINTER does not know."""
+    lines = "\n".join(case.lines)
+    names = any(re.search(rf"(?<![\w-]){name}(?![\w-])", lines) or f"[{name}]" in case.out.decode("utf-8", "replace") for name in all_hazards())
+    options = {word.partition("=")[0] for word in case.words if word.startswith("--") and word != "--"}
+    foreign = options - {*OWN, *FLAGS, "--only", "--exclude", "--include", "--non-volatile", "--pg-major", "--pg-minor", "--pg-patch"}
+    psql = re.search(rb"(?mi)^(?:\xef\xbb\xbf)?(?:\\|copy )", case.text)
+    return names or bool(foreign) or bool(psql) or ".squawk.toml" in lines
+
+
 def compared(what, want, found):
     if want == found:
         return 0
@@ -489,7 +514,7 @@ def main():
     given = reader.parse_args()
     runs = failures = 0
     for case in cases():
-        if case.err:
+        if case.err or is_about_more(case):
             continue
         want = wanted(given.printer, case.words[1:], case.text)
         if given.show:
@@ -502,7 +527,7 @@ def main():
         if case.words[:1] in (["gate"], ["diag"], ["check"]) or fuzz.run(given.printer, case.words, case.text).status == 2:
             continue
         for form in FORMATS:
-            words = ["--format", form, "--stdin-filename", "a b/%,:é.sql", *case.words]
+            words = ["--format", form, "--stdin-filename", "a b/%,:é.sql", "--no-hazards", "--strict", *case.words]
             want = wanted(given.printer, words, b"" if case.text.startswith(b">") else case.text)
             runs, failures = runs + 1, failures + compared(f"{case.place}, {form}", want, ran(given.checker, ["check", *words], case.text))
     if not given.show:

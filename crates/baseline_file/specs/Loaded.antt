@@ -21,7 +21,7 @@ IsTextTaken text (Some baseline) = IsBaselineOf text baseline
 abbrev pub IsBadLine : Text → ℕ → List ℕ → Type 0
 IsBadLine name number line = line ≡ fault_line name (record { line = number; column = 1 }) (codes "not a line of a baseline")
 
--- the first line that is none of a baseline is told
+-- the message names the first line that is not a line of a baseline
 pub record IsTextFaulty (name text : Text) (line : List ℕ) : Type 0 where
   pub number : ℕ
   pub first : bad_line text ≡ Some number

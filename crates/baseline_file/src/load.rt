@@ -12,7 +12,7 @@ use squawk_run::text_in;
 use std::alloc::Global;
 use text_pos::NoMemory;
 
-// The line about a line that is none of a baseline.
+// The line about one that is not a line of a baseline.
 fn bad_line(alloc: Global, name: &str, number: usize) -> Result<Vec<u8>, NoMemory>
     ensures { IfOk result (λ line. IsBadLine name.now number line.items) }
 {

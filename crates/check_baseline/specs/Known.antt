@@ -42,12 +42,12 @@ is_fingerprint word = length word == 64 && list_all is_digit word
 abbrev pub is_line : Text → Bool
 is_line line = length line == 0 || starts_with nat_eq line (codes "#") || is_fingerprint (first_word line)
 
--- the number of the first line that is none of these, where the first of the lines has this number
+-- the number of the first line that is no such line, where the first of the lines has this number
 unfoldable pub bad_line_from : ℕ → List Text → Option ℕ
 bad_line_from n [] = None
 bad_line_from n (line ∷ lines) = if not (is_line line) then Some n else bad_line_from (n + 1) lines
 
--- the number of the first line of a text that is none of a baseline, counted from 1
+-- the number of the first line of a text that is not a line of a baseline, counted from 1
 abbrev pub bad_line : Text → Option ℕ
 bad_line text = bad_line_from 1 (lines_of text)
 
@@ -60,7 +60,7 @@ pub record IsBaselineOf (text : Text) (baseline : Baseline) : Type 0 where
   pub well_formed : bad_line text ≡ None
   pub known : (print : Text) → knows baseline print ≡ is_first_word text print
 
--- why a text is no baseline: the number of its first line that is none of one
+-- why a text is no baseline: the number of its first line that is not a line of one
 abbrev pub IsNoBaseline : Text → BaselineError → Type 0
 IsNoBaseline text (Line number) = bad_line text ≡ Some number
 IsNoBaseline text NoMemory = ⊤

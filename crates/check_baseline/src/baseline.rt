@@ -18,7 +18,7 @@ pub struct Baseline {
 /// Why no baseline was read.
 #[derive(Clone, Copy, Debug, PartialEq, Eq)]
 pub enum BaselineError {
-    /// The line of this number, counted from 1, is none of a baseline, and those before it are.
+    /// The line of this number, counted from 1, is not a line of a baseline, and those before it are.
     Line(usize),
     /// Memory ran out.
     NoMemory,
@@ -95,7 +95,7 @@ fn is_bad(line: &str) -> bool
     !(line.is_empty() || line.starts_with("#") || is_fingerprint(first_word(line)))
 }
 
-// The number of the first of these lines that is none of a baseline, counted from 1.
+// The number of the first of these lines that is not a line of a baseline, counted from 1.
 fn bad_line(lines: &[&str]) -> Option<usize>
     ensures { result ≡ bad_line_from 1 (map (λ s. s.now) lines.now) }
 {

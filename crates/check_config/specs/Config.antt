@@ -23,7 +23,7 @@ is_key name =
     bytes_eq name (codes "excluded_rules") || bytes_eq name (codes "included_rules") || bytes_eq name (codes "excluded_paths") ||
     bytes_eq name (codes "pg_version") || bytes_eq name (codes "assume_in_transaction")
 
--- the first key that is none of these
+-- the first key that is not one of these
 abbrev pub unknown_key : Members → Option Text
 unknown_key no_members = None
 unknown_key (member key value rest) = if is_key key then unknown_key rest else Some key
@@ -62,7 +62,7 @@ texts_at key table = texts_by key (get_member key table)
 abbrev pub is_unknown_rule : Text → Bool
 is_unknown_rule name = is_none (code_named name)
 
--- names of rules and hazards, or the fault of the first that is none
+-- names of rules and hazards, or the fault of the first name that is neither
 abbrev pub known_by : List Text → Option Text → Result (List Text) ConfigFault
 known_by names None = Ok names
 known_by names (Some name) = Err (fault.UnknownRule name)

@@ -25,7 +25,7 @@ fn is_key(name: &str) -> bool
         || name == "assume_in_transaction"
 }
 
-// The first key, in order of bytes, that is none of a configuration.
+// The first key, in order of bytes, that a configuration can't have.
 fn unknown_key(table: &Table) -> Option<&str>
     ensures { option_map (λ key. key.now) result ≡ spec.unknown_key (table_view table.now) }
 {

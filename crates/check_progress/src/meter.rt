@@ -32,7 +32,8 @@ fn write_line<E: Sink>(sink: &mut E, line: &[u8])
 }
 
 impl<E: Sink> Meter<E> {
-    /// A meter on a sink, which shows nothing where it is not to.
+    /// A meter on a sink, which shows nothing where `is_shown` is false. It has no contract: what shows how far a run is changes nothing that a
+    /// run answers or writes.
     pub fn new(alloc: Global, sink: E, is_shown: bool) -> Meter<E> {
         Meter {
             alloc,
@@ -42,7 +43,7 @@ impl<E: Sink> Meter<E> {
         }
     }
 
-    /// The sink.
+    /// The sink, for tests. It has no contract, as `new`.
     pub fn sink(&self) -> &E {
         &self.sink
     }

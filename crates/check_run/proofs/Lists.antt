@@ -36,7 +36,7 @@ checked_wider A B content f g h k name file same a b c =
       named = c.named;
       came = elim c.came [
         | inl r ↦ inl (record { bytes = r.bytes; held = r.held; answer = same r.bytes (judged_of file) r.answer })
-        | inr u ↦ inr (unread_wider content f g h k file.answer a b u)
+        | inr u ↦ inr (record { why = unread_wider content f g h k file.answer a b u.why; empty = u.empty })
       ];
     }
 

@@ -1,5 +1,5 @@
 -- What comes of files.
-use Rattle.std.specs.Prelude.{◌≡◌, ◌⊎◌, ℕ, List, [], ◌∷◌, ⊤}
+use Rattle.std.specs.Prelude.{◌≡◌, ◌⊎◌, ℕ, List, [], ◌∷◌, None, ⊤}
 use Rattle.file_store.specs.Contents.{Content, IsBytes}
 use Rattle.file_store.specs.Refused.{MayBeLong, MayMiss}
 use Rattle.file_store.specs.declared.store.FileError.{FileError}
@@ -40,10 +40,20 @@ pub record IsAnswered (answers : Answers) (content : Content) (file : Checked) :
   pub held : IsBytes content bytes
   pub answer : answers bytes (judged_of file)
 
+-- the file has no bytes, and nothing in it was passed over
+pub record IsEmpty (file : Checked) : Type 0 where
+  pub bytes : file.bytes.items ≡ []
+  pub passed : file.passed ≡ None
+
+-- the file was not read, and this is why
+pub record IsUnreadFile (content : Content) (before now : ℕ) (file : Checked) : Type 0 where
+  pub why : IsUnread content before now file.answer
+  pub empty : IsEmpty file
+
 -- this came of a name that holds this content: it was read and answered, or it was not read
 pub record IsChecked (answers : Answers) (content : Content) (before now : ℕ) (name : Text) (file : Checked) : Type 0 where
   pub named : file.name ≡ name
-  pub came : IsAnswered answers content file ⊎ IsUnread content before now file.answer
+  pub came : IsAnswered answers content file ⊎ IsUnreadFile content before now file
 
 -- this came of these names, one by one
 abbrev pub AreChecked : Answers → (Text → Content) → ℕ → ℕ → List Text → List Checked → Type 0

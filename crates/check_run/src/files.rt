@@ -1,11 +1,11 @@
 //! Files, one by one.
-ghost use Rattle.std.specs.Prelude.{◌≡◌, [], ◌<◌, ◌≤◌, ◌^◌, ℕ, All, IfOk, List, length};
+ghost use Rattle.std.specs.Prelude.{◌≡◌, [], ◌<◌, ◌≤◌, ◌^◌, ℕ, All, IfOk, List, None, length};
 ghost use Rattle.std.specs.Str.{IsUtf8};
 ghost use Rattle.checked_file.specs.Files.{judged_of};
 ghost use Rattle.checked_file.specs.Sound.{IsSound};
 ghost use Rattle.checked_file.specs.declared.checked.Judged.{Judged};
 ghost use Rattle.file_store.specs.Contents.{KeepsContents};
-ghost use Rattle.check_run.specs.Checks.{AreChecked, IsChecked, IsUnreadBy};
+ghost use Rattle.check_run.specs.Checks.{AreChecked, IsChecked, IsEmpty, IsUnreadBy};
 
 use crate::judge::Judge;
 use crate::progress::Progress;
@@ -36,6 +36,7 @@ pub(crate) fn named(alloc: Global, name: &str, judged: Judged) -> Result<Checked
 pub(crate) fn unread_by(alloc: Global, refusal: Refusal) -> Judged
     ensures answer { result.answer ≡ Answer.Refused refusal }
     ensures bytes { result.bytes.items ≡ [] }
+    ensures passed { result.passed ≡ None }
 {
     Judged {
         bytes: Vec::new(alloc),
@@ -48,6 +49,7 @@ pub(crate) fn unread_by(alloc: Global, refusal: Refusal) -> Judged
 fn unread(alloc: Global, name: &str, error: FileError) -> Result<Checked, NoMemory>
     ensures name { IfOk result (λ file. file.name ≡ name.now) }
     ensures unread { IfOk result (λ file. IsUnreadBy error file.answer) }
+    ensures empty { IfOk result IsEmpty }
     ensures sound { IfOk result IsSound }
 {
     let refusal = match error {

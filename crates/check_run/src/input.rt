@@ -1,7 +1,7 @@
 //! Standard input, or what stands for it.
 ghost use Rattle.std.specs.Prelude.{◌≡◌, IfOk};
 ghost use Rattle.checked_file.specs.Sound.{IsSound};
-ghost use Rattle.check_run.specs.Checks.{IsChecked};
+ghost use Rattle.check_run.specs.Checks.{IsChecked, IsEmpty};
 ghost use Rattle.squawk_run.specs.Stops.{IsReadStop};
 ghost use Rattle.check_run.specs.Inputs.{IsStoppedBy, input_content, reads_input};
 
@@ -31,6 +31,7 @@ fn stopped(alloc: Global, name: &str, stop: Stop) -> Result<Checked, NoMemory>
     requires { IsReadStop stop }
     ensures name { IfOk result (λ file. file.name ≡ name.now) }
     ensures unread { IfOk result (λ file. IsStoppedBy stop file.answer) }
+    ensures empty { IfOk result IsEmpty }
     ensures sound { IfOk result IsSound }
 {
     let refusal = match stop {

@@ -62,7 +62,9 @@ impl<'a> MemWriter<'a> {
     }
 
     /// The files that were written.
-    pub fn files(&self) -> &[Written] {
+    pub fn files(&self) -> &[Written]
+        ensures { map (λ file. (string_bytes file.name, file.bytes.items)) result.now ≡ self.now.files }
+    {
         self.files.as_slice()
     }
 

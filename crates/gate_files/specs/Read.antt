@@ -96,7 +96,7 @@ pub record IsFirstUnread (content : Text → Content) (before now : ℕ) (names 
   pub told : IsUnread (content unread.name) before now unread.front unread.refusal
   pub short : length unread.front < 2 ^ 32
 
--- what was read of such files: all of them, or the first one that is none
+-- what was read of such files: all of them, or the first one that can't be read
 abbrev pub IsReading : (Text → Content) → ℕ → ℕ → List Text → Reading → Type 0
 IsReading content before now names (Files files) = AreRead content names files.items
 IsReading content before now names (NotRead unread) = IsFirstUnread content before now names unread

@@ -6,7 +6,7 @@ use Rattle.json.specs.Json as json
 use Rattle.percent_encoding.specs.Percent.{percent_decode}
 use Rattle.percent_encoding.proofs.PercentLemmas.{round_trip}
 use Rattle.report_sarif.specs.Places.{uri_of}
-use Rattle.law_printed_arrays.specs.Found.{Told, ToldIssue, issue_of, object_of, result_of, told, told_issue}
+use Rattle.law_printed_arrays.specs.Found.{Told, ToldIssue, ToldObject, ToldResult, issue_of, object_of, result_of, told, told_issue, told_object, told_result}
 use Rattle.law_printed_arrays.proofs.Chunks.{members_by}
 use Rattle.law_printed_arrays.proofs.Shapes.{LeadsBack, first_in, items_in}
 
@@ -53,9 +53,9 @@ text_in (json.string s) = s
 text_in (json.array js) = []
 text_in (json.object ms) = []
 
--- an object of JSON
-pub object_told : LeadsBack (members_by object_of) (λ f. ⊤) told
-object_told f g short others p q e =
+-- what every reader has of an object of JSON
+finding_told : LeadsBack (members_by object_of) (λ f. ⊤) told
+finding_told f g short others p q e =
     let a = told f in
     let b = told g in
     let text = λ (n : ℕ). ap (λ j. text_in (at n j)) e in
@@ -69,6 +69,24 @@ object_told f g short others p q e =
     let rule : a.rule ≡ b.rule = text 10 in
     same_told a.name b.name a.line b.line a.column b.column a.line_end b.line_end a.column_end b.column_end a.level b.level a.rule b.rule a.message b.message
     name line column line_end column_end level rule message
+
+abbrev as_object : Told → json.Json → json.Json → json.Json → ToldObject
+as_object finding note help fix = record { finding = finding; note = note; help = help; fix = fix }
+
+same_object : (t t' : Told) (n n' h h' x x' : json.Json) → t ≡ t' → n ≡ n' → h ≡ h' → x ≡ x' → as_object t n h x ≡ as_object t' n' h' x'
+same_object t t' n n' h h' x x' a b c d =
+    ap (λ v. as_object v n h x) a ∙ ap (λ v. as_object t' v h x) b ∙ ap (λ v. as_object t' n' v x) c ∙ ap (λ v. as_object t' n' h' v) d
+
+-- an object of JSON
+pub object_told : LeadsBack (members_by object_of) (λ f. ⊤) told_object
+object_told f g short others p q e =
+    let a = told_object f in
+    let b = told_object g in
+    let finding : a.finding ≡ b.finding = finding_told f g short others p q e in
+    let note : a.note ≡ b.note = ap (λ j. at 9 j) e in
+    let help : a.help ≡ b.help = ap (λ j. at 4 j) e in
+    let fix : a.fix ≡ b.fix = ap (λ j. at 3 j) e in
+    same_object a.finding b.finding a.note b.note a.help b.help a.fix b.fix finding note help fix
 
 -- ---- SARIF
 
@@ -89,9 +107,9 @@ uri_back name short = round_trip _ name refl short
 uri_same : (name other : List ℕ) → All (λ b. b < 256) name → All (λ b. b < 256) other → percent_decode (uri_of name) ≡ percent_decode (uri_of other) → name ≡ other
 uri_same name other short others e = sym (uri_back name short) ∙ e ∙ uri_back other others
 
--- a result of SARIF
-pub result_told : LeadsBack (members_by result_of) (λ f. All (λ b. b < 256) f.file.name) told
-result_told f g short others named others_named e =
+-- what every reader has of a result of SARIF
+located_told : LeadsBack (members_by result_of) (λ f. All (λ b. b < 256) f.file.name) told
+located_told f g short others named others_named e =
     let a = told f in
     let b = told g in
     let number = λ (n : ℕ). ap (λ j. text_in (at n (at 1 (physical j)))) e in
@@ -107,6 +125,21 @@ result_told f g short others named others_named e =
     let rule : a.rule ≡ b.rule = ap (λ j. text_in (at 4 j)) e in
     same_told a.name b.name a.line b.line a.column b.column a.line_end b.line_end a.column_end b.column_end a.level b.level a.rule b.rule a.message b.message
     name line column line_end column_end level rule message
+
+abbrev as_result : Told → json.Json → ToldResult
+as_result finding fixes = record { finding = finding; fixes = fixes }
+
+same_result : (t t' : Told) (x x' : json.Json) → t ≡ t' → x ≡ x' → as_result t x ≡ as_result t' x'
+same_result t t' x x' a b = ap (λ v. as_result v x) a ∙ ap (λ v. as_result t' v) b
+
+-- a result of SARIF
+pub result_told : LeadsBack (members_by result_of) (λ f. All (λ b. b < 256) f.file.name) told_result
+result_told f g short others named others_named e =
+    let a = told_result f in
+    let b = told_result g in
+    let finding : a.finding ≡ b.finding = located_told f g short others named others_named e in
+    let fixes : a.fixes ≡ b.fixes = ap (λ j. at 0 j) e in
+    same_result a.finding b.finding a.fixes b.fixes finding fixes
 
 -- ---- GitLab
 

@@ -10,7 +10,7 @@ use Rattle.json.specs.Lex.{tokens}
 use Rattle.json.specs.Spaced.{print_spaced}
 use Rattle.report_sarif.specs.Log as sarif
 use Rattle.serde_json.specs.Data.{Members}
-use Rattle.law_printed_arrays.specs.Found.{Found, all_found, issue_of, object_of, result_of, told, told_issue}
+use Rattle.law_printed_arrays.specs.Found.{Found, all_found, issue_of, object_of, result_of, told_issue, told_object, told_result}
 use Rattle.law_printed_arrays.specs.Unique.{UniqueArrays, UniqueIssues, UniqueLogs, style_in}
 use Rattle.law_printed_arrays.proofs.Chunks.{Prints, chunks, files_chunks, gitlab_prints, json_prints, members_by, sarif_prints}
 use Rattle.law_printed_arrays.proofs.Shapes.{LeadsBack, Short, has_numbers, same_findings, same_value}
@@ -34,13 +34,13 @@ same_files style members G tell prints leads files others short others_short p q
 pub unique_arrays : UniqueArrays
 unique_arrays color quiet statistics files others sound others_sound e =
     let style = style_in format.Json color quiet statistics in
-    same_files style (members_by object_of) (λ f. ⊤) told (json_prints color quiet statistics) object_told files others (objects_short files sound) (objects_short others others_sound)
+    same_files style (members_by object_of) (λ f. ⊤) told_object (json_prints color quiet statistics) object_told files others (objects_short files sound) (objects_short others others_sound)
     (λ k d w. tt) (λ k d w. tt) (append_cancel_right _ _ (codes "\n]\n") (append_cancel_left (codes "[") _ _ e))
 
 pub unique_logs : UniqueLogs
 unique_logs color quiet statistics files others sound others_sound e =
     let style = style_in format.Sarif color quiet statistics in
-    same_files style (members_by result_of) (λ f. All (λ b. b < 256) f.file.name) told (sarif_prints color quiet statistics) result_told files others (results_short files sound)
+    same_files style (members_by result_of) (λ f. All (λ b. b < 256) f.file.name) told_result (sarif_prints color quiet statistics) result_told files others (results_short files sound)
     (results_short others others_sound) (names_short files sound) (names_short others others_sound)
     (append_cancel_right _ _ (codes "\n" ++ sarif.closing ++ codes "\n") (append_cancel_left sarif.opening _ _ e))
 

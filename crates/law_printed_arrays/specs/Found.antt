@@ -4,12 +4,14 @@ use Rattle.checked_file.specs.declared.answer.Answer.{Answer}
 use Rattle.checked_file.specs.declared.answer.Answer.TheVariants.{Reports, Refused}
 use Rattle.checked_file.specs.declared.checked.Checked.{Checked}
 use Rattle.check_print.specs.Printed.{source_of}
+use Rattle.json.specs.Json as json
 use Rattle.lint_report.specs.declared.report.Report.{Report}
 use Rattle.lint_report.specs.Codes.{name_of}
 use Rattle.report_gitlab.specs.Issues.{issue_object, severity_of, statement_text}
 use Rattle.report_json.specs.Objects.{finding_object, fix_data, hint_data, text_data}
 use Rattle.report_sarif.specs.Results as sarif
 use Rattle.serde_json.specs.Data.{Data, array, no_items, null}
+use Rattle.serde_json.specs.Written.{outline}
 use Rattle.source_file.specs.declared.level.Level.{Level}
 use Rattle.source_file.specs.declared.level.Level.TheVariants as levels
 use Rattle.source_file.specs.declared.refusal.Refusal.{Refusal}
@@ -112,6 +114,24 @@ told f =
       rule = f.rule;
       message = f.message;
     }
+
+-- what a reader of JSON has of it: that, and its note, its help and its fix with the fix's class and edits, as values of JSON
+pub record ToldObject : Type 0 where
+  pub finding : Told
+  pub note : json.Json
+  pub help : json.Json
+  pub fix : json.Json
+
+abbrev pub told_object : Found → ToldObject
+told_object f = record { finding = told f; note = outline f.note; help = outline f.help; fix = outline f.fix }
+
+-- what a reader of SARIF has of it: that, and its fixes as a value of JSON
+pub record ToldResult : Type 0 where
+  pub finding : Told
+  pub fixes : json.Json
+
+abbrev pub told_result : Found → ToldResult
+told_result f = record { finding = told f; fixes = outline f.fixes }
 
 -- what GitLab's format keeps of it: the file's name, the line, the severity, the rule or hazard and the message
 pub record ToldIssue : Type 0 where

@@ -6,23 +6,24 @@ use Rattle.checked_file.specs.declared.checked.Checked.{Checked}
 use Rattle.checked_file.specs.Sound.{IsSound}
 use Rattle.check_print.specs.declared.style.Style.{Style}
 use Rattle.check_print.specs.Printed.{printed}
-use Rattle.law_printed_arrays.specs.Found.{all_found, told, told_issue}
+use Rattle.law_printed_arrays.specs.Found.{all_found, told_issue, told_object, told_result}
 
 -- a format, whatever else is asked for
 abbrev pub style_in : Format → Bool → Bool → Bool → Style
 style_in format color quiet statistics = record { format = format; color = color; quiet = quiet; statistics = statistics }
 
--- Sound files of which the same JSON is printed have the same findings, at the same places, in the same order.
+-- Sound files of which the same JSON is printed have the same findings, at the same places, with the same notes, helps and fixes, in the
+-- same order.
 abbrev pub UniqueArrays : Type 0
 UniqueArrays = (color quiet statistics : Bool) (files others : List Checked) → All IsSound files → All IsSound others
     → printed (style_in format.Json color quiet statistics) files ≡ printed (style_in format.Json color quiet statistics) others
-    → map told (all_found files) ≡ map told (all_found others)
+    → map told_object (all_found files) ≡ map told_object (all_found others)
 
--- The same of SARIF.
+-- The same of SARIF, which has their fixes, and neither notes nor helps.
 abbrev pub UniqueLogs : Type 0
 UniqueLogs = (color quiet statistics : Bool) (files others : List Checked) → All IsSound files → All IsSound others
     → printed (style_in format.Sarif color quiet statistics) files ≡ printed (style_in format.Sarif color quiet statistics) others
-    → map told (all_found files) ≡ map told (all_found others)
+    → map told_result (all_found files) ≡ map told_result (all_found others)
 
 -- The same of GitLab's format, but for what it does not keep: columns, and where a finding ends.
 abbrev pub UniqueIssues : Type 0

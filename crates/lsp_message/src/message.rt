@@ -30,8 +30,11 @@ pub enum Message {
 /// What a request asks for.
 #[derive(Drop)]
 pub enum Call {
-    /// To begin.
-    Initialize,
+    /// To begin, in the workspace whose root is this path, if the client names one.
+    Initialize { root: Option<Text> },
+    /// To begin, where what is to be shown can't be settled: this line says why. No client asks for it: a session takes an
+    /// [`Call::Initialize`] for it.
+    Unsettled { line: Text },
     /// To end soon.
     Shutdown,
     /// The remedies of a part of a document.

@@ -42,6 +42,10 @@ pub enum Answer {
     },
     /// The request is refused.
     Refused(Refusal),
+    /// The request was well formed, and failed. This says why.
+    Failed {
+        why: Text,
+    },
 }
 
 /// Why a request is refused.

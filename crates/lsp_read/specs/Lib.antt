@@ -1,5 +1,6 @@
 pub mod Place
 pub mod Params
 pub mod PartValue
+pub mod Root
 pub mod Method
 pub mod Message

@@ -9,6 +9,7 @@ use Rattle.lsp_message.specs.declared.message.Notice.TheVariants.{Exit, Opened, 
 use Rattle.text_utf16.specs.declared.position.Pos.{Pos}
 use Rattle.lsp_read.specs.Params.{Part, changed_in, opened_in, part_in, uri_in}
 use Rattle.lsp_read.specs.Place.{position_at}
+use Rattle.lsp_read.specs.Root.{root_in}
 
 -- a request for the code actions of a part of a document
 abbrev pub actions_of : Option Part → Call
@@ -41,7 +42,7 @@ call_with (Some params) call = call params
 -- what a request of this method and with these parameters, if it has any, asks for
 unfoldable pub call_of : List ℕ → Option Data → Call
 call_of method params =
-    if bytes_eq method (codes "initialize") then Initialize
+    if bytes_eq method (codes "initialize") then Initialize (option_and_then root_in params)
     else if bytes_eq method (codes "shutdown") then Shutdown
     else if bytes_eq method (codes "textDocument/codeAction") then call_with params actions_in
     else if bytes_eq method (codes "textDocument/hover") then call_with params hover_in

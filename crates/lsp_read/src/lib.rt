@@ -7,5 +7,7 @@ mod message;
 mod method;
 mod params;
 mod place;
+mod root;
+mod text;
 
 pub use message::read_message;

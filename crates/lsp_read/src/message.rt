@@ -1,16 +1,16 @@
 //! The message that some bytes are.
-ghost use Rattle.std.specs.Prelude.{◌≡◌, codes, is_some, IfOk, IfSome, option_map};
+ghost use Rattle.std.specs.Prelude.{◌≡◌, codes, IfOk, option_map};
 ghost use Rattle.std.specs.Str.{is_utf8};
 ghost use Rattle.serde_json.specs.Find.{get};
 ghost use Rattle.serde_json.specs.Read.{read};
 ghost use Rattle.serde_json.specs.View.{view};
 ghost use Rattle.lsp_read.specs.Message.{id_of, message_if, message_in, message_of, request_by, with_method, without_method};
 
-use crate::method::{call_of, notice_of, text_made};
+use crate::method::{call_of, notice_of};
 use crate::params::text_at;
+use crate::text::{text_made, text_of};
 use lsp_message::{Id, Message, Refusal};
 use serde_json::Value;
-use simdutf8::basic::from_utf8;
 use std::alloc::{AllocError, Global};
 use text_pos::NoMemory;
 
@@ -76,18 +76,6 @@ fn message_in(alloc: Global, value: &Value) -> Result<Message, AllocError>
     }
 }
 
-/// The text that some bytes are, if they are UTF-8.
-#[tactic(auto, using(crate::proofs::Utf8::utf8, crate::proofs::Utf8::not_utf8))]
-fn text_of(content: &[u8]) -> Option<&str>
-    ensures text { IfSome result (λ s. s.now ≡ content.now) }
-    ensures utf8 { is_some result ≡ is_utf8 content.now }
-{
-    match from_utf8(content) {
-        Ok(text) => Some(text),
-        Err(_) => None,
-    }
-}
-
 /// The message that a text is.
 fn message_if(alloc: Global, text: &str) -> Result<Message, NoMemory>
     ensures { IfOk result (λ m. m ≡ message_if (read text.now)) }
@@ -108,7 +96,9 @@ fn message_if(alloc: Global, text: &str) -> Result<Message, NoMemory>
 /// [`Message::Unreadable`].
 ///
 /// The forms are those of JSON-RPC 2.0 and of the Language Server Protocol 3.17. A member `jsonrpc` is not asked for. A
-/// `textDocument/didChange` whose last change has a `range` changes nothing, since the server asks for whole texts.
+/// `textDocument/didChange` whose last change has a `range` changes nothing, since the server asks for whole texts. The root of the
+/// workspace is that of the first folder, or else of `rootUri`, or else `rootPath`; a URI of another scheme than `file`, in lower case,
+/// of another host or of bytes that are not UTF-8 names none. An empty text is as none.
 #[tactic(auto, unfolding(crate::specs::Message::message_of))]
 pub fn read_message(alloc: Global, content: &[u8]) -> Result<Message, NoMemory>
     ensures { IfOk result (λ m. m ≡ message_of content.now) }

@@ -7,18 +7,12 @@ ghost use Rattle.lsp_read.specs.PartValue.{document_value, place_value};
 
 use crate::params::{DocumentRead, changed_in, opened_in, part_in, uri_in};
 use crate::place::position_at;
-use lint_base::Text;
+use crate::root::root_of;
+use crate::text::text_made;
 use lsp_message::{Call, Document, Notice};
 use serde_json::Value;
 use std::alloc::{AllocError, Global};
 use text_utf16::Pos;
-
-/// The same text in memory of its own.
-pub(crate) fn text_made(alloc: Global, text: &str) -> Result<Text, AllocError>
-    ensures { IfOk result (λ t. t ≡ text.now) }
-{
-    Ok(Text::made(String::from_str(alloc, text)?))
-}
 
 fn document_made(alloc: Global, read: DocumentRead<'_>) -> Result<Document, AllocError>
     ensures { IfOk result (λ document. document ≡ document_value read.entry) }
@@ -82,7 +76,9 @@ pub(crate) fn call_of(
     ensures { IfOk result (λ call. call ≡ call_of method.now (option_map (λ v. view v.now) params.entry)) }
 {
     if method == "initialize" {
-        return Ok(Call::Initialize);
+        return Ok(Call::Initialize {
+            root: root_of(alloc, params)?,
+        });
     }
     if method == "shutdown" {
         return Ok(Call::Shutdown);

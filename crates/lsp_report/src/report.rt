@@ -1,5 +1,6 @@
 //! Reports at positions.
-use lint_base::{Rule, Text};
+use lint_base::Text;
+use lint_report::Code;
 use std::marker::Model;
 use text_utf16::Pos;
 
@@ -10,8 +11,8 @@ pub struct Report {
     pub start: Pos,
     /// Where it ends.
     pub end: Pos,
-    /// The rule that it breaks, or none where the text can't be read there.
-    pub rule: Option<Rule>,
+    /// What it goes by, or none where the text can't be read there.
+    pub code: Option<Code>,
     /// What is wrong.
     pub message: Text,
     /// What else is to be known.

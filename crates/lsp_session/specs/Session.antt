@@ -4,14 +4,14 @@ use Rattle.std.specs.BTreeMap.{get_by_text}
 use Rattle.lsp_message.specs.declared.message.Id.{Id}
 use Rattle.lsp_message.specs.declared.message.Id.TheVariants.{Null}
 use Rattle.lsp_message.specs.declared.message.Call.{Call}
-use Rattle.lsp_message.specs.declared.message.Call.TheVariants.{Initialize, Actions, Hover}
+use Rattle.lsp_message.specs.declared.message.Call.TheVariants.{Initialize, Unsettled, Actions, Hover}
 use Rattle.lsp_message.specs.declared.message.Document.{Document}
 use Rattle.lsp_message.specs.declared.message.Message.{Message}
 use Rattle.lsp_message.specs.declared.message.Message.TheVariants.{Request, Notice, Unreadable}
 use Rattle.lsp_message.specs.declared.message.Notice as notice
 use Rattle.lsp_message.specs.declared.message.Notice.TheVariants.{Opened, Changed, Closed}
 use Rattle.lsp_message.specs.declared.reply.Answer as answer
-use Rattle.lsp_message.specs.declared.reply.Answer.TheVariants.{Capabilities, Done, Remedies, Explanation, Refused}
+use Rattle.lsp_message.specs.declared.reply.Answer.TheVariants.{Capabilities, Done, Remedies, Explanation, Refused, Failed}
 use Rattle.lsp_message.specs.declared.reply.Reply.{Reply}
 use Rattle.lsp_message.specs.declared.reply.Reply.TheVariants.{Answer, Reports}
 use Rattle.lsp_report.specs.declared.report.Report.{Report}
@@ -72,7 +72,8 @@ module _ (Shows : List ℕ → List Report → Type 0) where
 
   -- the answer to a request that is not refused
   abbrev pub Answers : {C : Type 0} → Session C → Call → answer.Answer → Type 0
-  Answers session Initialize a = a ≡ Capabilities
+  Answers session (Initialize root) a = a ≡ Capabilities
+  Answers session (Unsettled line) a = a ≡ Failed line
   Answers session (Actions uri start end) (Remedies name reports from to) =
       (name ≡ uri) × (from ≡ start) × (to ≡ end) × AreReportsOf (document_of uri session) reports.items
   Answers session (Actions uri start end) other = ⊥

@@ -3,9 +3,11 @@ ghost use Rattle.std.specs.Prelude.{◌≡◌, IfOk, OnOk, List, [], ℕ, None, 
 ghost use Rattle.lsp_message.specs.declared.message.Message.TheVariants as message;
 ghost use Rattle.lsp_message.specs.declared.message.Notice.TheVariants.{Changed, Closed, Opened};
 ghost use Rattle.lsp_session.specs.declared.stage.Stage.TheVariants.{Fresh};
+ghost use Rattle.lsp_session.specs.Entry.{BeginsAs, IsCallAs, IsTakenAs};
 ghost use Rattle.lsp_session.specs.Session.{answered, asked, document_after, document_by, document_of, told, AnswerFits, AreReportsOf, Says, TellsNow};
 ghost use Rattle.lsp_session.specs.Stages.{stage_after};
 
+use crate::entry::Enter;
 use crate::stage::{Stage, refusal_at, stage_called, stage_heard};
 use lint_base::Text;
 use lsp_message::{Answer, Call, Document, Id, Message, Notice, Reply};
@@ -55,6 +57,7 @@ impl<C: Checker> Session<C> {
         ensures documents { OnOk result ((uri : List ℕ) → document_of uri self.new ≡ document_after message self.old.stage uri (document_of uri self.old)) }
         ensures told { IfOk result (λ said. (uri : List ℕ) → TellsNow (C.shows self.old.checker) (document_of uri self.old) (document_of uri self.new) (told uri said)) }
         ensures answered { IfOk result (λ said. answered said ≡ asked message) }
+        ensures silent { IfOk result (λ said. self.old.stage ≡ Fresh → (uri : List ℕ) → told uri said ≡ None) }
         ensures says { IfOk result (λ said. Says (C.shows self.old.checker) self.old message said) }
     {
         match message {
@@ -82,7 +85,8 @@ impl<C: Checker> Session<C> {
             return Ok(Answer::Refused(refusal));
         }
         match call {
-            Call::Initialize => Ok(Answer::Capabilities),
+            Call::Initialize { root: _root } => Ok(Answer::Capabilities),
+            Call::Unsettled { line } => Ok(Answer::Failed { why: line }),
             Call::Actions { uri, start, end } => {
                 let reports = self.reports_of(uri.as_str())?;
                 Ok(Answer::Remedies {
@@ -118,6 +122,7 @@ impl<C: Checker> Session<C> {
         ensures documents { OnOk result ((uri : List ℕ) → document_of uri self.new ≡ document_after (message.Notice notice) self.old.stage uri (document_of uri self.old)) }
         ensures told { IfOk result (λ said. (uri : List ℕ) → TellsNow (C.shows self.old.checker) (document_of uri self.old) (document_of uri self.new) (told uri said)) }
         ensures quiet { IfOk result (λ said. answered said ≡ []) }
+        ensures silent { IfOk result (λ said. self.old.stage ≡ Fresh → (uri : List ℕ) → told uri said ≡ None) }
     {
         let stage = self.stage;
         self.stage = stage_heard(stage, &notice);
@@ -192,6 +197,52 @@ impl<C: Checker> Session<C> {
                 reports,
             })),
             Err(_) => Err(NoMemory),
+        }
+    }
+}
+
+impl<C: Enter> Session<C> {
+    /// The message as a session takes it. Where it is the `initialize` of a session that has not begun, the checker is entered at the root
+    /// that it names; where that is refused, the message is a [`Call::Unsettled`] of the same name. Every other message stays as it is.
+    /// Call it before [`Session::step`]. After an error the session is of no more use.
+    pub fn take(&mut self, message: Message) -> Result<Message, NoMemory>
+        ensures stage { self.new.stage ≡ self.old.stage }
+        ensures documents { (uri : List ℕ) → document_of uri self.new ≡ document_of uri self.old }
+        ensures taken { IfOk result (λ taken. IsTakenAs C.enters C.refuses self.old.stage message taken self.old.checker self.new.checker) }
+    {
+        match message {
+            Message::Request { id, call } => {
+                let call = self.entry(call)?;
+                Ok(Message::Request { id, call })
+            }
+            other => Ok(other),
+        }
+    }
+
+    /// What a request asks for, as a session takes it.
+    fn entry(&mut self, call: Call) -> Result<Call, NoMemory>
+        ensures stage { self.new.stage ≡ self.old.stage }
+        ensures documents { (uri : List ℕ) → document_of uri self.new ≡ document_of uri self.old }
+        ensures taken { IfOk result (λ taken. IsCallAs C.enters C.refuses self.old.stage call taken self.old.checker self.new.checker) }
+    {
+        match self.stage {
+            Stage::Fresh => self.begin(call),
+            Stage::Running | Stage::Down | Stage::Gone { .. } => Ok(call),
+        }
+    }
+
+    /// What the first request asks for, as a session takes it.
+    fn begin(&mut self, call: Call) -> Result<Call, NoMemory>
+        ensures stage { self.new.stage ≡ self.old.stage }
+        ensures documents { (uri : List ℕ) → document_of uri self.new ≡ document_of uri self.old }
+        ensures taken { IfOk result (λ taken. BeginsAs C.enters C.refuses call taken self.old.checker self.new.checker) }
+    {
+        match call {
+            Call::Initialize { root } => match self.checker.enter(self.alloc, &root)? {
+                None => Ok(Call::Initialize { root }),
+                Some(line) => Ok(Call::Unsettled { line }),
+            },
+            other => Ok(other),
         }
     }
 }

@@ -23,9 +23,11 @@ pub(crate) fn refusal_at(stage: Stage, call: &Call) -> Option<Refusal>
     ensures { result ≡ refusal_at stage call.now }
 {
     match (stage, call) {
-        (Stage::Fresh, Call::Initialize) => None,
+        (Stage::Fresh, Call::Initialize { .. } | Call::Unsettled { .. }) => None,
         (Stage::Fresh, _) => Some(Refusal::NotInitialized),
-        (Stage::Running, Call::Initialize) => Some(Refusal::BadRequest),
+        (Stage::Running, Call::Initialize { .. } | Call::Unsettled { .. }) => Some(
+            Refusal::BadRequest,
+        ),
         (Stage::Running, Call::Misread) => Some(Refusal::BadParams),
         (Stage::Running, Call::Unknown) => Some(Refusal::NoMethod),
         (Stage::Running, _) => None,
@@ -38,7 +40,7 @@ pub(crate) fn stage_called(stage: Stage, call: &Call) -> Stage
     ensures { result ≡ stage_called stage call.now }
 {
     match (stage, call) {
-        (Stage::Fresh, Call::Initialize) => Stage::Running,
+        (Stage::Fresh, Call::Initialize { .. }) => Stage::Running,
         (Stage::Running, Call::Shutdown) => Stage::Down,
         _ => stage,
     }

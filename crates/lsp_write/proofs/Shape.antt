@@ -5,12 +5,12 @@ use Rattle.serde_json.specs.View.{items_of}
 use Rattle.serde_json.specs.Written.{has_float}
 use Rattle.text_utf16.specs.declared.position.Pos.{Pos}
 use Rattle.diag_json.specs.Json.{position_json, range_json}
-use Rattle.lint_base.specs.declared.rule.Rule.{Rule}
+use Rattle.lint_report.specs.declared.code.Code.{Code}
+use Rattle.lint_report.specs.declared.code.Code.TheVariants as by
 use Rattle.lsp_message.specs.declared.message.Id.{Id}
 use Rattle.lsp_message.specs.declared.message.Id.TheVariants.{Null, Number, Text}
 use Rattle.lsp_message.specs.declared.reply.Answer as answer
-use Rattle.lsp_message.specs.declared.reply.Answer.TheVariants.{Capabilities, Done, Remedies, Explanation, Refused}
-use Rattle.lsp_message.specs.declared.reply.Refusal.{Refusal}
+use Rattle.lsp_message.specs.declared.reply.Answer.TheVariants.{Capabilities, Done, Remedies, Explanation, Refused, Failed}
 use Rattle.lsp_message.specs.declared.reply.Reply.{Reply}
 use Rattle.lsp_message.specs.declared.reply.Reply.TheVariants.{Answer, Reports}
 use Rattle.lsp_report.specs.declared.report.Change.{Change}
@@ -18,10 +18,10 @@ use Rattle.lsp_report.specs.declared.report.Report.{Report}
 use Rattle.lsp_report.specs.Remedy.{RemedyValue}
 use Rattle.lsp_write.proofs.Fits.{Fits, ItemsFit, MembersFit, both, ends, in_array, in_list, in_object, integer, leaf, null_fits, one_item, next, then_if, truth, whole}
 use Rattle.lsp_write.specs.Action.{action_if, action_json, actions_of, change_json, edit_json, meets}
-use Rattle.lsp_write.specs.Diagnostic.{diagnostic_by, diagnostic_json, from_message, integer_json, published_json, published_params}
+use Rattle.lsp_write.specs.Diagnostic.{diagnostic_by, diagnostic_json, from_message, integer_json, published_json, published_params, unlinked}
 use Rattle.lsp_write.specs.Hover.{explanations, hover_json, hover_of}
 use Rattle.lsp_write.specs.Reply.{reply_json}
-use Rattle.lsp_write.specs.Response.{capabilities, capabilities_json, error_json, id_json, number_of, response_json, result_json, sync_json, words_of}
+use Rattle.lsp_write.specs.Response.{capabilities, capabilities_json, error_json, failed_number, id_json, number_of, response_json, result_json, sync_json, words_of}
 
 range_fits : (start end : Pos) → Fits 2 (range_json start end)
 unfolding range_json position_json
@@ -32,14 +32,18 @@ range_fits start end = record { plain = refl; shallow = omega arith }
 message_fits : (severity : ℕ) (r : Report) → MembersFit 2 (from_message severity r)
 message_fits severity r = next 2 _ _ _ (leaf 2 r.message) (next 2 _ _ _ (range_fits r.start r.end) (next 2 _ _ _ (whole 2 severity) (next 2 _ _ _ (leaf 2 _) (ends 2))))
 
-by_rule : (rule : Option Rule) (r : Report) → Fits 3 (diagnostic_by rule r)
-by_rule (Some rule) r =
+unlinked_fits : (severity : ℕ) (r : Report) → Fits 3 (unlinked severity r)
+unlinked_fits severity r = in_object 2 3 _ (omega arith) (next 2 _ _ _ (leaf 2 _) (message_fits severity r))
+
+by_code : (code : Option Code) (r : Report) → Fits 3 (diagnostic_by code r)
+by_code (Some (by.Rule rule)) r =
     in_object 2 3 _ (omega arith) (next 2 _ _ _ (leaf 2 _) (next 2 _ _ _ (in_object 1 2 _ (omega arith) (next 1 _ _ _ (leaf 1 _) (ends 1))) (message_fits 2 r)))
-by_rule None r = in_object 2 3 _ (omega arith) (next 2 _ _ _ (leaf 2 _) (message_fits 1 r))
+by_code (Some (by.Hazard hazard)) r = unlinked_fits 2 r
+by_code None r = unlinked_fits 1 r
 
 diagnostic_fits : (r : Report) → Fits 3 (diagnostic_json r)
 unfolding diagnostic_json
-diagnostic_fits r = by_rule r.rule r
+diagnostic_fits r = by_code r.code r
 
 version_fits : (version : Option ℤ) (d : Data) → option_map integer_json version ≡ Some d → Fits 4 d
 version_fits None d e = absurd (cc)
@@ -119,11 +123,11 @@ result_fits : (id : Id) (result : Data) → Fits 8 result → Fits 9 (result_jso
 unfolding result_json
 result_fits id result fit = in_object 8 9 _ (omega arith) (next 8 _ _ _ (id_fits 8 id) (next 8 _ _ _ (leaf 8 _) (next 8 _ _ _ fit (ends 8))))
 
-error_fits : (id : Id) (why : Refusal) → Fits 9 (error_json id why)
+error_fits : (id : Id) (number : ℤ) (words : List ℕ) → Fits 9 (error_json id number words)
 unfolding error_json
-error_fits id why =
+error_fits id number words =
     in_object 8 9 _ (omega arith)
-    (next 8 _ _ _ (in_object 7 8 _ (omega arith) (next 7 _ _ _ (integer 7 (number_of why)) (next 7 _ _ _ (leaf 7 (words_of why)) (ends 7))))
+    (next 8 _ _ _ (in_object 7 8 _ (omega arith) (next 7 _ _ _ (integer 7 number) (next 7 _ _ _ (leaf 7 words) (ends 7))))
     (next 8 _ _ _ (id_fits 8 id) (next 8 _ _ _ (leaf 8 _) (ends 8))))
 
 capabilities_fit : Fits 8 capabilities_json
@@ -135,7 +139,8 @@ response_fits id Capabilities = result_fits id capabilities_json capabilities_fi
 response_fits id Done = result_fits id _ (null_fits 8)
 response_fits id (Remedies uri reports start end) = result_fits id _ (in_array 7 8 _ (omega arith) (actions_fit uri reports.items start end))
 response_fits id (Explanation reports at) = result_fits id _ (hover_fits reports.items at)
-response_fits id (Refused why) = error_fits id why
+response_fits id (Refused why) = error_fits id (number_of why) (words_of why)
+response_fits id (Failed why) = error_fits id failed_number why
 
 wider : (d : Data) → Fits 6 d → Fits 9 d
 wider d fit = record { plain = fit.plain; shallow = omega (arith, fit.shallow) }

@@ -4,7 +4,7 @@ use Rattle.diag_json.specs.Json.{whole_json}
 use Rattle.lsp_message.specs.declared.message.Id.{Id}
 use Rattle.lsp_message.specs.declared.message.Id.TheVariants.{Null, Number, Text}
 use Rattle.lsp_message.specs.declared.reply.Answer.{Answer}
-use Rattle.lsp_message.specs.declared.reply.Answer.TheVariants.{Capabilities, Done, Remedies, Explanation, Refused}
+use Rattle.lsp_message.specs.declared.reply.Answer.TheVariants.{Capabilities, Done, Remedies, Explanation, Refused, Failed}
 use Rattle.lsp_message.specs.declared.reply.Refusal.{Refusal}
 use Rattle.lsp_message.specs.declared.reply.Refusal.TheVariants.{BadParams, BadRequest, NoMethod, NotInitialized, NotJson}
 use Rattle.lsp_write.specs.Action.{actions_json}
@@ -41,10 +41,14 @@ id_json (Text text) = string text
 unfoldable pub result_json : Id → Data → Data
 result_json id result = object (member (codes "id") (id_json id) (member (codes "jsonrpc") (string (codes "2.0")) (member (codes "result") result no_members)))
 
--- the response that refuses a request
-unfoldable pub error_json : Id → Refusal → Data
-error_json id why =
-    object (member (codes "error") (object (member (codes "code") (integer_json (number_of why)) (member (codes "message") (string (words_of why)) no_members)))
+-- the number that it has for a request that was well formed, and failed: `RequestFailed`
+abbrev pub failed_number : ℤ
+failed_number = below_zero 32803
+
+-- the response that refuses a request, with a number and what it says to a reader
+unfoldable pub error_json : Id → ℤ → List ℕ → Data
+error_json id number words =
+    object (member (codes "error") (object (member (codes "code") (integer_json number) (member (codes "message") (string words) no_members)))
     (member (codes "id") (id_json id)
     (member (codes "jsonrpc") (string (codes "2.0")) no_members)))
 
@@ -71,4 +75,5 @@ response_json id Capabilities = result_json id capabilities_json
 response_json id Done = result_json id null
 response_json id (Remedies uri reports start end) = result_json id (actions_json uri reports.items start end)
 response_json id (Explanation reports at) = result_json id (hover_json reports.items at)
-response_json id (Refused why) = error_json id why
+response_json id (Refused why) = error_json id (number_of why) (words_of why)
+response_json id (Failed why) = error_json id failed_number why

@@ -25,6 +25,9 @@ fn number_of(refusal: Refusal) -> i64
     }
 }
 
+/// The number that the protocol has for a request that was well formed, and failed: `RequestFailed`.
+const FAILED_NUMBER: i64 = -32803;
+
 /// What a refusal says to a reader.
 fn words_of(refusal: Refusal) -> &'static str
     ensures { result.now ≡ words_of refusal }
@@ -59,12 +62,10 @@ fn result_value(alloc: Global, id: &Id, outcome: Value) -> Result<Value, AllocEr
 
 /// The response that refuses a request.
 #[tactic(auto, unfolding(crate::specs::Response::error_json))]
-fn error_value(alloc: Global, id: &Id, refusal: Refusal) -> Result<Value, AllocError>
-    ensures { IfOk result (λ v. view v ≡ error_json id.now refusal) }
+fn error_value(alloc: Global, id: &Id, code: i64, message: &str) -> Result<Value, AllocError>
+    ensures { IfOk result (λ v. view v ≡ error_json id.now code message.now) }
 {
     let id = id_value(alloc, id)?;
-    let code = number_of(refusal);
-    let message = words_of(refusal);
     json!(in alloc; {"error": {"code": code, "message": message}, "id": id, "jsonrpc": "2.0"})
 }
 
@@ -115,6 +116,9 @@ pub(crate) fn response_value(alloc: Global, id: &Id, answer: &Answer) -> Result<
         Answer::Explanation { reports, at } => {
             result_value(alloc, id, hover_value(alloc, reports.as_slice(), *at)?)
         }
-        Answer::Refused(refusal) => error_value(alloc, id, *refusal),
+        Answer::Refused(refusal) => {
+            error_value(alloc, id, number_of(*refusal), words_of(*refusal))
+        }
+        Answer::Failed { why } => error_value(alloc, id, FAILED_NUMBER, why.as_str()),
     }
 }

@@ -539,7 +539,7 @@ tables, composite types, domains, parameters and casts.
 pub(crate) const PREFER_BIGINT_OVER_INT: &str = "prefer-bigint-over-int
 
   default: on
-  fix:     look first (safe in a new table, while in `ALTER COLUMN .. TYPE` it
+  fix:     safe or unsafe (safe in a new table; in `ALTER COLUMN .. TYPE` it
            asks for another type)
   lock:    none now; a wider type rewrites the table one day
   manual:  Numeric Types,
@@ -589,7 +589,7 @@ Details
 pub(crate) const PREFER_BIGINT_OVER_SMALLINT: &str = "prefer-bigint-over-smallint
 
   default: on
-  fix:     look first (safe in a new table, while in `ALTER COLUMN .. TYPE` it
+  fix:     safe or unsafe (safe in a new table; in `ALTER COLUMN .. TYPE` it
            asks for another type)
   lock:    none now; a wider type rewrites the table one day
   manual:  Numeric Types,
@@ -637,7 +637,7 @@ Details
 pub(crate) const PREFER_IDENTITY: &str = "prefer-identity
 
   default: on
-  fix:     look first (safe in a new table, while in `ALTER COLUMN .. TYPE`
+  fix:     safe or unsafe (safe in a new table; in `ALTER COLUMN .. TYPE`
            PostgreSQL refuses it)
   lock:    none in a new table; in `ADD COLUMN` ACCESS EXCLUSIVE, until the
            table is written anew
@@ -683,7 +683,7 @@ Details
 pub(crate) const PREFER_TEXT_FIELD: &str = "prefer-text-field
 
   default: on
-  fix:     look first (it drops the limit)
+  fix:     unsafe (it drops the limit)
   lock:    none now; a longer limit takes ACCESS EXCLUSIVE for a moment, a
            shorter one until the table is written anew
   manual:  Character Types,

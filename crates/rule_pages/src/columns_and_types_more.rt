@@ -4,7 +4,7 @@
 pub(crate) const PREFER_TIMESTAMP_TZ: &str = "prefer-timestamp-tz
 
   default: on
-  fix:     look first (values without an offset are read in the session's time
+  fix:     unsafe (values without an offset are read in the session's time
            zone)
   lock:    none now; a later change rewrites the table, unless the session's
            TimeZone is UTC
@@ -49,7 +49,7 @@ Details
 pub(crate) const BAN_CHAR_FIELD: &str = "ban-char-field
 
   default: on
-  fix:     look first (trailing blanks count from then on)
+  fix:     unsafe (trailing blanks count from then on)
   lock:    none now; a later change rewrites the table
   manual:  Character Types,
            https://www.postgresql.org/docs/current/datatype-character.html
@@ -96,7 +96,7 @@ Details
 pub(crate) const REQUIRE_ENUM_VALUE_ORDERING: &str = "require-enum-value-ordering
 
   default: on
-  fix:     must be edited (it has a name that you replace)
+  fix:     template (it has a name that you replace)
   lock:    none on tables
   manual:  ALTER TYPE,
            https://www.postgresql.org/docs/current/sql-altertype.html

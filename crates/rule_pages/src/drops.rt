@@ -470,8 +470,8 @@ Details
 pub(crate) const REQUIRE_CONCURRENT_PARTITION_DETACH: &str = "require-concurrent-partition-detach
 
   default: on
-  fix:     look first (adds `CONCURRENTLY`, which fails in a transaction and
-           where there is a default partition)
+  fix:     unsafe (adds `CONCURRENTLY`, which fails where there is a default
+           partition; none in a transaction)
   lock:    ACCESS EXCLUSIVE on the partitioned table, the partition and a
            default partition, for a moment
   manual:  ALTER TABLE,

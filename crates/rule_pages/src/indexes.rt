@@ -4,7 +4,9 @@
 pub(crate) const REQUIRE_CONCURRENT_INDEX_CREATION: &str = "require-concurrent-index-creation
 
   default: on
-  fix:     look first (adds `CONCURRENTLY`, which fails in a transaction)
+  fix:     safe or unsafe (unsafe with `IF NOT EXISTS` and after a timeout that
+           the migration sets; none in a transaction, where `CONCURRENTLY`
+           fails)
   lock:    SHARE, until the index is built
   manual:  CREATE INDEX,
            https://www.postgresql.org/docs/current/sql-createindex.html#SQL-CREATEINDEX-CONCURRENTLY
@@ -75,8 +77,9 @@ Details
 pub(crate) const REQUIRE_CONCURRENT_INDEX_DELETION: &str = "require-concurrent-index-deletion
 
   default: on
-  fix:     look first (adds `CONCURRENTLY`, which fails in a transaction, with
-           two indexes and with `CASCADE`)
+  fix:     safe or unsafe (unsafe after a timeout that the migration sets; none
+           in a transaction, with two indexes and with `CASCADE`, where
+           `CONCURRENTLY` fails)
   lock:    ACCESS EXCLUSIVE on the table, for a moment
   manual:  DROP INDEX,
            https://www.postgresql.org/docs/current/sql-dropindex.html
@@ -122,7 +125,8 @@ Details
 pub(crate) const REQUIRE_CONCURRENT_REINDEX: &str = "require-concurrent-reindex
 
   default: on
-  fix:     look first (adds `CONCURRENTLY`, which fails in a transaction)
+  fix:     safe or unsafe (unsafe after a timeout that the migration sets; none
+           in a transaction, where `CONCURRENTLY` fails)
   lock:    SHARE on the table and ACCESS EXCLUSIVE on each index, until they
            are rebuilt
   manual:  REINDEX,

@@ -5,9 +5,9 @@ pub const RULE_LIST: &str =
     "Rule                                          Default  Fix             Lock
 
 Indexes
-require-concurrent-index-creation             on       look first      SHARE, until the index is built
-require-concurrent-index-deletion             on       look first      ACCESS EXCLUSIVE on the table, for a moment
-require-concurrent-reindex                    on       look first      SHARE on the table and ACCESS EXCLUSIVE on each index, until they are rebuilt
+require-concurrent-index-creation             on       safe or unsafe  SHARE, until the index is built
+require-concurrent-index-deletion             on       safe or unsafe  ACCESS EXCLUSIVE on the table, for a moment
+require-concurrent-reindex                    on       safe or unsafe  SHARE on the table and ACCESS EXCLUSIVE on each index, until they are rebuilt
 ban-concurrent-index-creation-in-transaction  on       none            none, it fails
 ban-drop-index                                off      none            ACCESS EXCLUSIVE on the table, for a moment; none that hurts with `CONCURRENTLY`
 
@@ -34,13 +34,13 @@ ban-set-default                               off      none            ACCESS EX
 ban-alter-identity                            on       none            ACCESS EXCLUSIVE, for a moment
 ban-drop-generated-expression                 on       none            ACCESS EXCLUSIVE, for a moment
 ban-alter-generated-expression                off      none            ACCESS EXCLUSIVE, until the table and its indexes are written anew
-prefer-bigint-over-int                        on       look first      none now; a wider type rewrites the table one day
-prefer-bigint-over-smallint                   on       look first      none now; a wider type rewrites the table one day
-prefer-identity                               on       look first      none in a new table; in `ADD COLUMN` ACCESS EXCLUSIVE, until the table is written anew
-prefer-text-field                             on       look first      none now; a longer limit takes ACCESS EXCLUSIVE for a moment, a shorter one until the table is written anew
-prefer-timestamp-tz                           on       look first      none now; a later change rewrites the table, unless the session's TimeZone is UTC
-ban-char-field                                on       look first      none now; a later change rewrites the table
-require-enum-value-ordering                   on       must be edited  none on tables
+prefer-bigint-over-int                        on       safe or unsafe  none now; a wider type rewrites the table one day
+prefer-bigint-over-smallint                   on       safe or unsafe  none now; a wider type rewrites the table one day
+prefer-identity                               on       safe or unsafe  none in a new table; in `ADD COLUMN` ACCESS EXCLUSIVE, until the table is written anew
+prefer-text-field                             on       unsafe          none now; a longer limit takes ACCESS EXCLUSIVE for a moment, a shorter one until the table is written anew
+prefer-timestamp-tz                           on       unsafe          none now; a later change rewrites the table, unless the session's TimeZone is UTC
+ban-char-field                                on       unsafe          none now; a later change rewrites the table
+require-enum-value-ordering                   on       template        none on tables
 ban-add-enum-value                            off      none            none on tables
 ban-add-composite-attribute                   off      none            ACCESS EXCLUSIVE on the type, for a moment
 
@@ -56,7 +56,7 @@ ban-drop-sequence                             on       none            ACCESS EX
 ban-drop-domain                               on       none            none on tables; with `CASCADE` ACCESS EXCLUSIVE on each table that loses a column
 ban-drop-extension                            on       none            none on tables; with `CASCADE` ACCESS EXCLUSIVE on each table that loses a column or an index
 ban-truncate-cascade                          on       none            ACCESS EXCLUSIVE on each of the tables, until the transaction ends
-require-concurrent-partition-detach           on       look first      ACCESS EXCLUSIVE on the partitioned table, the partition and a default partition, for a moment
+require-concurrent-partition-detach           on       unsafe          ACCESS EXCLUSIVE on the partitioned table, the partition and a default partition, for a moment
 ban-detach-inheritance                        off      none            see `require-concurrent-partition-detach`; `NO INHERIT`: ACCESS EXCLUSIVE, for a moment
 
 Renames and moves
@@ -88,17 +88,17 @@ ban-alter-extension                           off      none            depends o
 ban-alter-sequence-values                     off      none            SHARE ROW EXCLUSIVE on the sequence: who asks for a number waits until the transaction ends
 
 Transactions and timeouts
-prefer-robust-stmts                           on       look first      none of its own
+prefer-robust-stmts                           on       unsafe          none of its own
 transaction-nesting                           on       none            none of its own
-ban-uncommitted-transaction                   on       look first      all locks of the migration, until the session ends
-require-lock-timeout                          on       look first      that of the statement, and the queue behind it
-require-statement-timeout                     on       look first      that of the statement
-prefer-repack                                 on       look first      ACCESS EXCLUSIVE, until the table and its indexes are written anew
+ban-uncommitted-transaction                   on       unsafe          all locks of the migration, until the session ends
+require-lock-timeout                          on       safe or unsafe  that of the statement, and the queue behind it
+require-statement-timeout                     on       safe or unsafe  that of the statement
+prefer-repack                                 on       unsafe          ACCESS EXCLUSIVE, until the table and its indexes are written anew
 
 Names
 require-table-schema                          off      none            none of its own
 identifier-too-long                           on       safe            none of its own
-ban-duplicate-column-assignments              on       look first      none, it fails
+ban-duplicate-column-assignments              on       unsafe          none, it fails
 
 Ignore comments
 unused-ignore                                 on       none            none

@@ -98,7 +98,7 @@ Details
 pub(crate) const BAN_DUPLICATE_COLUMN_ASSIGNMENTS: &str = "ban-duplicate-column-assignments
 
   default: on
-  fix:     look first (it keeps the last assignment)
+  fix:     unsafe (it keeps the last assignment)
   lock:    none, it fails
   manual:  UPDATE, https://www.postgresql.org/docs/current/sql-update.html
 

@@ -4,7 +4,7 @@
 pub(crate) const PREFER_ROBUST_STMTS: &str = "prefer-robust-stmts
 
   default: on
-  fix:     look first (`IF [NOT] EXISTS` goes by the name alone, and takes an
+  fix:     unsafe (`IF [NOT] EXISTS` goes by the name alone, and takes an
            invalid index or another table for the wanted one)
   lock:    none of its own
   manual:  Transactions,
@@ -135,7 +135,7 @@ Details
 pub(crate) const BAN_UNCOMMITTED_TRANSACTION: &str = "ban-uncommitted-transaction
 
   default: on
-  fix:     look first (if the last statement has no semicolon, put one there)
+  fix:     unsafe (if the last statement has no semicolon, put one there)
   lock:    all locks of the migration, until the session ends
   manual:  COMMIT, https://www.postgresql.org/docs/current/sql-commit.html
 
@@ -180,7 +180,8 @@ Details
 pub(crate) const REQUIRE_LOCK_TIMEOUT: &str = "require-lock-timeout
 
   default: on
-  fix:     look first (not for a migration with `CONCURRENTLY`)
+  fix:     safe or unsafe (unsafe in a migration that builds or drops an index
+           or detaches a partition)
   lock:    that of the statement, and the queue behind it
   manual:  lock_timeout,
            https://www.postgresql.org/docs/current/runtime-config-client.html#GUC-LOCK-TIMEOUT
@@ -244,7 +245,8 @@ Details
 pub(crate) const REQUIRE_STATEMENT_TIMEOUT: &str = "require-statement-timeout
 
   default: on
-  fix:     look first (not for a migration with `CONCURRENTLY`)
+  fix:     safe or unsafe (unsafe in a migration that builds or drops an index
+           or detaches a partition)
   lock:    that of the statement
   manual:  statement_timeout,
            https://www.postgresql.org/docs/current/runtime-config-client.html#GUC-STATEMENT-TIMEOUT
@@ -290,7 +292,7 @@ Details
 pub(crate) const PREFER_REPACK: &str = "prefer-repack
 
   default: on
-  fix:     look first (fails in a transaction)
+  fix:     unsafe (none in a transaction, where it fails)
   lock:    ACCESS EXCLUSIVE, until the table and its indexes are written anew
   manual:  CLUSTER, https://www.postgresql.org/docs/current/sql-cluster.html
 

@@ -1,0 +1,12 @@
+pub mod AdditionLaws
+pub mod BuildLaws
+pub mod InsideLaws
+pub mod KindLaws
+pub mod Nodes
+pub mod Numbers
+pub mod PathLaws
+pub mod RewriteLaws
+pub mod Silent
+pub mod TableLaws
+pub mod ViewLaws
+pub mod WordLaws

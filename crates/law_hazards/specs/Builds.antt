@@ -1,0 +1,94 @@
+-- Indexes that are built, dropped or rebuilt CONCURRENTLY, and the timeouts that can cancel that (PostgreSQL manual: CREATE INDEX,
+-- DROP INDEX, REINDEX, SET, RESET, DISCARD, and section 20.11.1, lock_timeout and statement_timeout).
+use Rattle.std.specs.Prelude.{◌≡◌, ◌<◌, ◌⊎◌, ℕ, ◌+◌, Bool, true, false, List, [], ◌∷◌, codes, Option, Some, Contains}
+use Rattle.std.specs.List.{list_any}
+use Rattle.std.specs.Str.{bytes_eq}
+use Rattle.sql_keyword.specs.declared.words.TheConstants.Keyword as keyword
+use Rattle.sql_name.specs.Name.{full_name}
+use Rattle.sql_token.specs.declared.token.Span.{Span}
+use Rattle.sql_token.specs.declared.token.Tok.{Tok}
+use Rattle.sql_token.specs.declared.token.TokKind.TheVariants as kinds
+use Rattle.sql_token.specs.Token.{Text, text_of}
+use Rattle.sql_tree.specs.declared.kinds.StmtKind.TheVariants as stmt
+use Rattle.sql_tree.specs.declared.nodes.Body.TheVariants as body
+use Rattle.sql_tree.specs.declared.nodes.ReindexTarget.{ReindexTarget}
+use Rattle.sql_tree.specs.declared.nodes.Stmt.{Stmt}
+use Rattle.sql_tree.specs.Statement.{Tree}
+use Rattle.lint_transaction.specs.Names.{name_at}
+use Rattle.lint_transaction.specs.Transaction.{stmt_at}
+use Rattle.law_hazards.specs.Tables.{names}
+use Rattle.law_hazards.specs.Words.{begin_with, is_key, shown, statement_tokens}
+
+-- ---- builds
+
+-- An index is built, dropped or rebuilt CONCURRENTLY.
+pub data IsConcurrent (s : Stmt) : Type 0 where
+  builds : (word mark : ℕ) (unique guarded : Bool) (name : Option ℕ) (path : Span) → s.body ≡ body.Index word unique (Some mark) guarded name path → IsConcurrent s
+  drops : (word : ℕ) (guarded : Bool) (paths : List Span) → s.kind ≡ stmt.DropIndex → s.body ≡ body.Drop word true guarded paths → IsConcurrent s
+  rebuilds : (aim : ReindexTarget) (word : ℕ) (path : Option Span) → s.body ≡ body.Reindex aim word true false path → IsConcurrent s
+
+-- An earlier statement is a DROP INDEX IF EXISTS of an index of this name, in any schema.
+pub record IsDroppedFirst (tree : Tree) (i name : ℕ) : Type 0 where
+  pub number : ℕ
+  pub word : ℕ
+  pub concurrently : Bool
+  pub paths : List Span
+  pub path : Span
+  pub is_earlier : number < i
+  pub is_drop : (stmt_at tree number).kind ≡ stmt.DropIndex
+  pub drops : (stmt_at tree number).body ≡ body.Drop word concurrently true paths
+  pub has_path : Contains paths path
+  pub same_name : names tree (record { first = name; last = name }) ≡ names tree (record { first = path.last; last = path.last })
+
+-- ---- timeouts
+
+-- the two timeouts
+pub data IsTimeout : List ℕ → Type 0 where
+  lock : IsTimeout (codes "lock_timeout")
+  statement : IsTimeout (codes "statement_timeout")
+
+-- no time at all, as a text writes it
+abbrev pub no_time : List (List ℕ)
+no_time = codes "0" ∷ codes "'0'" ∷ codes "'0ms'" ∷ codes "'0s'" ∷ codes "'0min'" ∷ codes "'0h'" ∷ []
+
+-- The statement is a SET of this parameter, for the session.
+pub record Sets (tree : Tree) (name : List ℕ) (s : Stmt) : Type 0 where
+  pub path : Span
+  pub sets : s.body ≡ body.Setting (Some path)
+  pub one_name : path.first ≡ path.last
+  pub is_name : name_at tree path.first ≡ name
+  pub not_local : begin_with tree.text (keyword.SET ∷ keyword.LOCAL ∷ []) (statement_tokens tree s) ≡ false
+
+-- The token is TO, or =.
+abbrev pub IsTo : Text → Tok → Type 0
+IsTo t tok = (is_key t keyword.TO tok ≡ true) ⊎ (text_of t tok ≡ codes "=")
+
+-- The token is a literal other than no time.
+pub record IsSomeTime (t : Text) (tok : Tok) : Type 0 where
+  pub is_literal : (tok.kind ≡ kinds.Str) ⊎ (tok.kind ≡ kinds.Number)
+  pub is_some : list_any (bytes_eq (text_of t tok)) no_time ≡ false
+
+-- The statement gives the timeout a value other than 0, for the session.
+pub record SetsTime (tree : Tree) (name : List ℕ) (s : Stmt) : Type 0 where
+  pub sets : Sets tree name s
+  pub sign : Tok
+  pub value : Tok
+  pub rest : List Tok
+  pub tokens : shown tree (sets.path.last + 1) (s.last + 1) ≡ sign ∷ value ∷ rest
+  pub is_to : IsTo tree.text sign
+  pub is_time : IsSomeTime tree.text value
+
+-- The statement ends what an earlier one set: another SET of the parameter, its RESET, RESET ALL, or DISCARD ALL.
+pub data Unsets (tree : Tree) (name : List ℕ) (s : Stmt) : Type 0 where
+  by_set : Sets tree name s → Unsets tree name s
+  by_reset : (word first : Tok) (rest : List Tok) → s.kind ≡ stmt.Reset → statement_tokens tree s ≡ word ∷ first ∷ rest → is_key tree.text keyword.RESET word ≡ true
+      → full_name (text_of tree.text first) ≡ name → Unsets tree name s
+  by_reset_all : s.kind ≡ stmt.Reset → begin_with tree.text (keyword.RESET ∷ keyword.ALL ∷ []) (statement_tokens tree s) ≡ true → Unsets tree name s
+  by_discard_all : s.kind ≡ stmt.Discard → begin_with tree.text (keyword.DISCARD ∷ keyword.ALL ∷ []) (statement_tokens tree s) ≡ true → Unsets tree name s
+
+-- Between two statements of these numbers there is one that does so.
+pub record IsUnsetBetween (tree : Tree) (name : List ℕ) (j i : ℕ) : Type 0 where
+  pub number : ℕ
+  pub is_later : j < number
+  pub is_earlier : number < i
+  pub unsets : Unsets tree name (stmt_at tree number)

@@ -1,0 +1,43 @@
+-- What PostgreSQL refuses in a transaction block (PostgreSQL manual: the pages of these statements say "cannot be executed inside a
+-- transaction block", or that they cannot be used in one). CREATE INDEX CONCURRENTLY is refused too: a rule speaks of it.
+use Rattle.std.specs.Prelude.{◌≡◌, ℕ, Bool, true, false, List, [], ◌∷◌, Option, Some, None, Contains}
+use Rattle.sql_keyword.specs.declared.words.TheConstants.Keyword as keyword
+use Rattle.sql_token.specs.declared.token.Span.{Span}
+use Rattle.sql_tree.specs.declared.kinds.ActionKind.TheVariants as action
+use Rattle.sql_tree.specs.declared.kinds.StmtKind.TheVariants as stmt
+use Rattle.sql_tree.specs.declared.nodes.Action.{Action}
+use Rattle.sql_tree.specs.declared.nodes.Body.TheVariants as body
+use Rattle.sql_tree.specs.declared.nodes.ReindexTarget.{ReindexTarget}
+use Rattle.sql_tree.specs.declared.nodes.ReindexTarget.TheVariants as target
+use Rattle.sql_tree.specs.declared.nodes.Stmt.{Stmt}
+use Rattle.sql_tree.specs.Range.{token_at}
+use Rattle.sql_tree.specs.Statement.{Tree}
+use Rattle.law_hazards.specs.Words.{action_tokens, begin_with, is_key, statement_tokens}
+
+-- A statement of indexes, tables or rows that a transaction block refuses.
+pub data IsRefusedWork (tree : Tree) (s : Stmt) : Type 0 where
+  drops_index : (word : ℕ) (guarded : Bool) (paths : List Span) → s.kind ≡ stmt.DropIndex → s.body ≡ body.Drop word true guarded paths → IsRefusedWork tree s
+  rebuilds_concurrently : (aim : ReindexTarget) (word : ℕ) (path : Option Span) → s.body ≡ body.Reindex aim word true false path → IsRefusedWork tree s
+  rebuilds_schema : (word : ℕ) (concurrent valued : Bool) (path : Option Span) → s.body ≡ body.Reindex target.Schema word concurrent valued path → IsRefusedWork tree s
+  rebuilds_database : (word : ℕ) (concurrent valued : Bool) (path : Option Span) → s.body ≡ body.Reindex target.Database word concurrent valued path → IsRefusedWork tree s
+  rebuilds_system : (word : ℕ) (concurrent valued : Bool) (path : Option Span) → s.body ≡ body.Reindex target.System word concurrent valued path → IsRefusedWork tree s
+  vacuums : (full : Bool) (tables : Option Span) → s.body ≡ body.Vacuum full tables → IsRefusedWork tree s
+  clusters_all : (index : Option ℕ) → s.body ≡ body.Cluster None index → IsRefusedWork tree s
+  detaches : (path : Option Span) (actions : List Action) (a : Action) (word : ℕ) → s.kind ≡ stmt.AlterTable → s.body ≡ body.Alter path actions → Contains actions a
+      → a.kind ≡ action.DetachPartition → a.word ≡ Some word → is_key tree.text keyword.CONCURRENTLY (token_at tree.toks word) ≡ true → IsRefusedWork tree s
+
+-- A statement of the whole server, of a database or of the session that a transaction block refuses.
+pub data IsRefusedByServer (tree : Tree) (s : Stmt) : Type 0 where
+  creates_database : s.kind ≡ stmt.CreateDatabase → IsRefusedByServer tree s
+  drops_database : s.kind ≡ stmt.DropDatabase → IsRefusedByServer tree s
+  moves_database : (path : Option Span) (actions : List Action) (a : Action) → s.kind ≡ stmt.AlterDatabase → s.body ≡ body.Alter path actions → Contains actions a
+      → begin_with tree.text (keyword.SET ∷ keyword.TABLESPACE ∷ []) (action_tokens tree a) ≡ true → IsRefusedByServer tree s
+  creates_tablespace : s.kind ≡ stmt.CreateTablespace → IsRefusedByServer tree s
+  drops_tablespace : s.kind ≡ stmt.DropTablespace → IsRefusedByServer tree s
+  alters_system : (path : Option Span) (actions : List Action) → s.kind ≡ stmt.AlterSystem → s.body ≡ body.Alter path actions → IsRefusedByServer tree s
+  discards_all : s.kind ≡ stmt.Discard → begin_with tree.text (keyword.DISCARD ∷ keyword.ALL ∷ []) (statement_tokens tree s) ≡ true
+      → IsRefusedByServer tree s
+  commits_prepared : (chain : Bool) → s.body ≡ body.End false chain → begin_with tree.text (keyword.COMMIT ∷ keyword.PREPARED ∷ []) (statement_tokens tree s) ≡ true
+      → IsRefusedByServer tree s
+  rolls_prepared_back : (chain : Bool) → s.body ≡ body.End false chain
+      → begin_with tree.text (keyword.ROLLBACK ∷ keyword.PREPARED ∷ []) (statement_tokens tree s) ≡ true → IsRefusedByServer tree s

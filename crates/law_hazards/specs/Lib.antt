@@ -1,0 +1,9 @@
+pub mod Additions
+pub mod Builds
+pub mod Inside
+pub mod Laws
+pub mod Rewriting
+pub mod Silence
+pub mod Tables
+pub mod Views
+pub mod Words

@@ -1,0 +1,20 @@
+//! How a checker is entered.
+ghost use Rattle.std.specs.Prelude.{ℕ, List, Option, IfOk, MatchOption};
+
+use lint_base::Text;
+use std::alloc::Global;
+use text_pos::NoMemory;
+
+/// A checker that settles what it shows of texts when a session begins, from the root of the workspace.
+pub trait Enter {
+    /// Entered at this root, the first is the second.
+    ghost enters: { Self → Option (List ℕ) → Self → Type 0 };
+
+    /// The first can't be entered at this root, as this line says, and is the second after it was tried.
+    ghost refuses: { Self → Option (List ℕ) → List ℕ → Self → Type 0 };
+
+    /// Enters the workspace that has this root, a path; `None` is a workspace without one. What comes is the line that says why it can't
+    /// be entered, with no line feed; it may be tried again then. The error comes when memory runs out.
+    fn enter(&mut self, alloc: Global, root: &Option<Text>) -> Result<Option<Text>, NoMemory>
+        ensures { IfOk result (λ refused. MatchOption refused (enters self.old root.now self.new) (λ line. refuses self.old root.now line self.new)) };
+}
