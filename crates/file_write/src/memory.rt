@@ -1,5 +1,5 @@
 //! Files that are written in memory, at calls that fail where they are to fail.
-ghost use Rattle.std.specs.Prelude.{◌≡◌, ◌++◌, ◌∷◌, [], IfOk, OnErr, OnOk, string_bytes};
+ghost use Rattle.std.specs.Prelude.{◌≡◌, ◌++◌, ◌∷◌, [], IfOk, OnErr, OnOk, map, string_bytes};
 
 use crate::writer::{FileWriter, WriteError};
 use std::alloc::{AllocError, Global};
