@@ -95,9 +95,9 @@ def comment_of(crate, module, name):
     for at, line in enumerate(lines):
         if re.match(DEFINED + rf"{re.escape(name)}\b", line):
             first = at
-            while first > 0 and lines[first - 1].startswith("-- ") and not lines[first - 1].startswith("-- ----"):
+            while first > 0 and re.match(r" *-- (?!----)", lines[first - 1]):
                 first -= 1
-            return " ".join(text[3:].strip() for text in lines[first:at]).replace("|", "\\|")
+            return " ".join(text.strip()[3:].strip() for text in lines[first:at]).replace("|", "\\|")
     return ""
 
 

@@ -24,6 +24,7 @@ module _ {C : Type 0} (Enters : C → Option (List ℕ) → C → Type 0) (Refus
   IsCallAs Fresh call taken old new = BeginsAs call taken old new
   IsCallAs stage call taken old new = (taken ≡ call) × (new ≡ old)
 
+  -- What a session takes a message for, by its stage, and what its checker is before and after.
   abbrev pub IsTakenAs : Stage → Message → Message → C → C → Type 0
   IsTakenAs stage (Request id call) (Request name taken) old new = (name ≡ id) × IsCallAs stage call taken old new
   IsTakenAs stage (Request id call) other old new = ⊥
