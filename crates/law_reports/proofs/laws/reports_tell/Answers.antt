@@ -1,0 +1,14 @@
+use Rattle.std.proofs.Common.{◌+◌, length}
+use Rattle.squawk_linter.specs.Answers.{reports}
+use Rattle.hazard_find.specs.Findings.{findings_of}
+use Rattle.text_reports.specs.Reports.{start_of, with_hazards}
+use Rattle.law_reports.proofs.Ascending.{by_key_rises}
+use Rattle.law_reports.proofs.Silence.{not_reported_is_not_found}
+use Rattle.law_reports.proofs.laws.reports_tell.Goals as goal
+
+pub returns-clause-order : goal.returns-clause-order
+returns-clause-order c tree rules hazards settings =
+    by_key_rises start_of (length tree.text + 1) (with_hazards settings tree rules hazards (reports tree rules settings) (findings_of hazards settings tree))
+
+pub returns-clause-silence : goal.returns-clause-silence
+returns-clause-silence c = not_reported_is_not_found

@@ -1,0 +1,2 @@
+pub mod NotReported
+pub mod Order
