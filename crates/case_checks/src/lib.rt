@@ -1,4 +1,4 @@
-//! Runs of `lavkheto check` and `lavkheto gate` over the files that a text holds, and of `lavkheto explain`. Used by tests only.
+//! Runs of `lavkheto check`, `lavkheto fix` and `lavkheto gate` over the files that a text holds, and of `lavkheto explain`. Used by tests only.
 //!
 //! What comes before the first file is standard input. These lines begin a file:
 //!
@@ -13,6 +13,7 @@ mod read;
 use case_format::{Answer, Fault};
 use check_command::run;
 use check_progress::Meter;
+use file_write::{MemWriter, Written};
 pub use files::CaseFiles;
 pub use read::read_files;
 use squawk_stream::{MemSink, SliceSource};
@@ -72,6 +73,43 @@ pub fn explained(alloc: Global, words: &[String]) -> Result<Answer, Fault> {
         Err(failure) => failure.code(),
     };
     answer_of(alloc, code, out.bytes(), err.bytes())
+}
+
+// Adds files that were written, each after a line of its name.
+fn push_written(to: &mut Vec<u8>, files: &[Written]) -> Result<(), Fault> {
+    for file in files {
+        to.extend_from_slice(b"> ")?;
+        to.extend_from_slice(file.name.as_bytes())?;
+        to.extend_from_slice(b"\n")?;
+        to.extend_from_slice(file.bytes.as_slice())?;
+    }
+    Ok(())
+}
+
+/// A run with these words, the first of which is `fix`, over the files of a text. The files that are written come after what is printed,
+/// each after a line `> NAME`.
+pub fn fixed(alloc: Global, words: &[String], text: &[u8]) -> Result<Answer, Fault> {
+    let words = words_of(alloc, words)?;
+    let (input, mut files) = read_files(alloc, text)?;
+    let mut writer = MemWriter::new(alloc, &[]);
+    let mut src = SliceSource::new(input.as_slice());
+    let mut out = MemSink::new(alloc, ROOM, &[])?;
+    let mut err = MemSink::new(alloc, ROOM, &[])?;
+    let code = match fix_command::run(
+        alloc,
+        &words,
+        &mut files,
+        &mut writer,
+        &mut src,
+        &mut out,
+        &mut err,
+    ) {
+        Ok(status) => status.code(),
+        Err(failure) => failure.code(),
+    };
+    let mut shown = Vec::from_slice(alloc, out.bytes())?;
+    push_written(&mut shown, writer.files())?;
+    answer_of(alloc, code, shown.as_slice(), err.bytes())
 }
 
 /// A run of the gate with these words, the first of which stands for its name, over the files of a text.

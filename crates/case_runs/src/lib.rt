@@ -1,14 +1,14 @@
 //! The linter's programs over memory, as what cases are about. The first word of a case chooses: `tree` is the printed tree,
 //! `words` is the configuration that a row of words names, `works` and `plain` are what `--locks` adds to a run with the other
 //! words, `gate` is a run of the gate and `diag` one of the diagnostics, `check` is a run of `lavkheto` over the files that the text
-//! holds, `explain` is a run of it that explains a rule, `gate_files` is a run of its gate over such files, `server` is a talk with it, and
-//! anything else is a run of the command with those words.
+//! holds, `explain` is a run of it that explains a rule, `fix` one that makes fixes and `gate_files` one of its gate over such files, `server`
+//! is a talk with it, and anything else is a run of the command with those words.
 #![tactic(auto)]
 
 mod config;
 mod runs;
 
-use case_checks::{checked, explained, gated};
+use case_checks::{checked, explained, fixed, gated};
 use case_format::{Answer, Fault, Subject};
 use case_server::served;
 use case_trees::Trees;
@@ -104,6 +104,7 @@ impl Subject for Programs {
             ("diag", rest) => diag_ran(alloc, rest, text),
             ("check", _) => checked(alloc, words, text),
             ("explain", _) => explained(alloc, words),
+            ("fix", _) => fixed(alloc, words, text),
             ("gate_files", _) => gated(alloc, words, text),
             ("server", _) => served(alloc, words, text),
             _ => ran(alloc, &words_of(alloc, words)?, text),

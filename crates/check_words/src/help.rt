@@ -7,6 +7,7 @@ pub const VERSION: &str = "lavkheto 0.1.0\n";
 pub const HELP: &str = "Lints migrations of PostgreSQL. Its answers are theorems.
 
 Usage: lavkheto check [OPTIONS] [FILES]..
+       lavkheto fix [OPTIONS] [FILES]..  what the safe fixes change, as a diff; with --write the files are written
        lavkheto gate [FILES]             whether the migrations may be run
        lavkheto explain [RULE]           what a rule or a hazard reports, why, its lock, and what to write instead
        lavkheto server [OPTIONS]         a language server over standard input and output

@@ -3,6 +3,7 @@
 
 use check_progress::Meter;
 use file_store::SystemFiles;
+use file_write::SystemWriter;
 use squawk_run::{say_stop, take_words};
 use squawk_stream::{StdSink, StdSource};
 use squawk_words::Words;
@@ -49,6 +50,28 @@ fn explain(rt: &HostRuntime, words: &Words) -> u8 {
     }
 }
 
+// A run of `fix`. The exit status.
+fn fix(rt: &HostRuntime, words: &Words) -> u8 {
+    let mut files = SystemFiles::new(rt);
+    let mut writer = SystemWriter::new(rt);
+    let mut src = StdSource::new(rt.stdin());
+    let mut out = StdSink::new(rt.stdout());
+    let mut err = StdSink::new(rt.stderr());
+    let done = fix_command::run(
+        rt.alloc(),
+        words,
+        &mut files,
+        &mut writer,
+        &mut src,
+        &mut out,
+        &mut err,
+    );
+    match done {
+        Ok(status) => status.code(),
+        Err(failure) => failure.code(),
+    }
+}
+
 // A run of `gate`. The exit status.
 fn gate(rt: &HostRuntime, words: &Words) -> u8 {
     let mut files = SystemFiles::new(rt);
@@ -79,6 +102,7 @@ fn first(words: &Words) -> &str {
 fn run_words(rt: &HostRuntime, words: &Words) -> u8 {
     match first(words) {
         "explain" => explain(rt, words),
+        "fix" => fix(rt, words),
         "gate" => gate(rt, words),
         "server" => serve(rt, words),
         _ => check(rt, words),

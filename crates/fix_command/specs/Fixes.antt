@@ -1,0 +1,37 @@
+-- What is made of a text.
+use Rattle.std.specs.Prelude.{◌≡◌, Bool}
+use Rattle.fix_asked.specs.Command.{AnswersBy}
+use Rattle.fix_run.specs.declared.mender.Made.{Made}
+use Rattle.fix_run.specs.declared.mender.Made.TheVariants.{Mended, Refused}
+use Rattle.fix_text.specs.Fixing.{FixedValue, IsFixedText}
+use Rattle.source_file.specs.declared.refusal.Refusal.TheVariants as refusal
+use Rattle.sql_token.specs.Token.{OpenAt, Text}
+use Rattle.sql_tree.specs.Statement.{IsSyntaxAt}
+use Rattle.squawk_linter.specs.declared.linter.Linter.{Linter}
+use Rattle.squawk_words.specs.declared.choices.Choices.{Choices}
+
+-- The new text is reached from the old one by steps, each of which makes one fix that the classes allow, until no such fix is left: the safe
+-- fixes, and the unsafe ones too where `wide` says so.
+pub record IsReached (wide : Bool) (linter : Linter) (old new : Text) : Type 0 where
+  pub fixed : FixedValue
+  pub by_steps : IsFixedText old wide linter.rules linter.settings fixed
+  pub text : new ≡ fixed.text
+
+-- This comes of a text: the text that is reached from it, or where it can't be parsed.
+abbrev pub IsAnswerOf : Bool → Linter → Text → Made → Type 0
+IsAnswerOf wide linter text (Mended new) = IsReached wide linter text new
+IsAnswerOf wide linter text (Refused refusal.Missing) = ⊥
+IsAnswerOf wide linter text (Refused refusal.Unreadable) = ⊥
+IsAnswerOf wide linter text (Refused (refusal.NotUtf8 at)) = ⊥
+IsAnswerOf wide linter text (Refused refusal.TooLong) = ⊥
+IsAnswerOf wide linter text (Refused (refusal.Unterminated at)) = OpenAt text at
+IsAnswerOf wide linter text (Refused (refusal.Syntax at)) = IsSyntaxAt text at
+
+-- the linter with the rules and settings that are chosen
+abbrev pub linter_by : Choices → Linter
+linter_by c = record { rules = c.rules; settings = c.settings }
+
+-- What comes of each text, by what is chosen: each text that is made is reached from the text that it is made of by steps of the fixes that the
+-- classes allow.
+abbrev pub fixes_by : AnswersBy
+fixes_by c wide = IsAnswerOf wide (linter_by c)

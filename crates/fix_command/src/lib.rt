@@ -1,0 +1,11 @@
+//! The command `fix`: `fix_asked` with the linter as what fixes texts.
+//!
+//! `specs/Fixes.antt` says what is made of a text.
+#![tactic(auto)]
+
+mod command;
+mod mender;
+
+pub use command::run;
+pub use fix_asked::Failure;
+pub use mender::FixLinter;

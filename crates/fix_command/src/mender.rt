@@ -1,0 +1,119 @@
+//! The linter as what fixes texts.
+ghost use Rattle.std.specs.Prelude.{◌≡◌, ◌<◌, ◌^◌, Bool, IfOk, length};
+ghost use Rattle.fix_command.specs.Fixes.{IsAnswerOf};
+ghost use Rattle.fix_run.specs.Mending.{IsPlacedIn};
+ghost use Rattle.squawk_linter.specs.declared.linter.Linter.{Linter as AnyLinter};
+ghost use Rattle.sql_read.specs.Cause.{IsCause};
+
+use fix_asked::Chosen;
+use fix_run::{Made, Mender};
+use fix_text::fix_text;
+use lint_base::{LinterSettings, Names, Text};
+use source_file::Refusal;
+use squawk_linter::{LintError, Linter};
+use squawk_words::Choices;
+use std::alloc::Global;
+use text_pos::{NoMemory, TextSize};
+
+/// A linter that fixes texts. No text changes it.
+#[derive(Drop)]
+pub struct FixLinter {
+    /// The linter.
+    pub linter: Linter,
+    /// Whether unsafe fixes are made too.
+    pub with_unsafe: bool,
+}
+
+// A copy of names.
+fn copied_names(alloc: Global, names: &Names) -> Result<Names, NoMemory>
+    ensures { IfOk result (λ copy. copy ≡ names.now) }
+{
+    let mut copy = Names::new(alloc);
+    for i in 0..names.len() {
+        copy.push(names.get(i))?;
+    }
+    Ok(copy)
+}
+
+// A copy of settings.
+fn copied_settings(alloc: Global, settings: &LinterSettings) -> Result<LinterSettings, NoMemory>
+    ensures { IfOk result (λ copy. copy ≡ settings.now) }
+{
+    let non_volatile = copied_names(alloc, &settings.non_volatile)?;
+    Ok(LinterSettings {
+        pg_version: settings.pg_version,
+        assume_in_transaction: settings.assume_in_transaction,
+        non_volatile,
+    })
+}
+
+// A copy of a linter.
+fn copied(alloc: Global, linter: &Linter) -> Result<Linter, NoMemory>
+    ensures { IfOk result (λ copy. copy ≡ linter.now) }
+{
+    let settings = copied_settings(alloc, &linter.settings)?;
+    Ok(Linter {
+        rules: linter.rules,
+        settings,
+    })
+}
+
+// What comes of a text that is refused.
+#[tactic(auto, using(crate::proofs::Placing::open_in, crate::proofs::Placing::syntax_in))]
+fn refused(text: &str, error: LintError) -> Result<Made, NoMemory>
+    requires short { length text.now < 2 ^ 32 }
+    requires cause { IsCause text.now error }
+    ensures answer { IfOk result (λ made. (wide : Bool) (linter : AnyLinter) → IsAnswerOf wide linter text.now made) }
+    ensures placed { IfOk result (IsPlacedIn text.now) }
+{
+    match error {
+        LintError::TooLong => unreachable!(),
+        LintError::Unterminated { at } => Ok(Made::Refused(Refusal::Unterminated {
+            at: TextSize::new(at),
+        })),
+        LintError::Syntax { at } => Ok(Made::Refused(Refusal::Syntax {
+            at: TextSize::new(at),
+        })),
+        LintError::NoMemory => Err(NoMemory),
+    }
+}
+
+// What comes of a text. The linter is of no more use.
+fn mend_text(alloc: Global, linter: &mut Linter, wide: bool, text: &str) -> Result<Made, NoMemory>
+    requires { length text.now < 2 ^ 32 }
+    ensures answer { IfOk result (IsAnswerOf wide linter.old text.now) }
+    ensures placed { IfOk result (IsPlacedIn text.now) }
+{
+    match fix_text(linter, alloc, wide, text) {
+        Ok(fixed) => Ok(Made::Mended(Text::made(fixed.text))),
+        Err(error) => {
+            let made = refused(text, error)?;
+            Ok(made)
+        }
+    }
+}
+
+impl Mender for FixLinter {
+    ghost answers = { λ mender text made. IsAnswerOf mender.with_unsafe mender.linter text made };
+
+    fn mend(&self, alloc: Global, text: &str) -> Result<Made, NoMemory> {
+        let mut linter = copied(alloc, &self.linter)?;
+        mend_text(alloc, &mut linter, self.with_unsafe, text)
+    }
+}
+
+impl Chosen for FixLinter {
+    ghost use Rattle.fix_command.specs.Fixes.{linter_by};
+
+    ghost by = { λ choices with_unsafe. record { linter = linter_by choices; with_unsafe = with_unsafe } };
+
+    fn by_choices(choices: Choices, with_unsafe: bool) -> FixLinter {
+        FixLinter {
+            linter: Linter {
+                rules: choices.rules,
+                settings: choices.settings,
+            },
+            with_unsafe,
+        }
+    }
+}
