@@ -1,9 +1,9 @@
 -- A hazard that is not reported is not found.
-use Rattle.std.proofs.Common.{◌≡◌, ◌≢◌, ◌∙◌, sym, ap, subst, refl, rules, arith, eq-eqb, eq-or-lt_of_le, ℕ, zero, suc, ◌+◌, ◌<◌, ◌≤◌, ◌⊎◌, inl, inr, Bool, true, false, cond, ◌&&◌, not, List, [], ◌∷◌, ◌++◌, length, get_or, map, filter, All, Contains}
+use Rattle.std.proofs.Common.{◌≡◌, ◌≢◌, ◌∙◌, sym, ap, subst, rules, arith, eq-eqb, eq-or-lt_of_le, ℕ, zero, suc, ◌+◌, ◌<◌, ◌≤◌, inl, inr, Bool, true, false, cond, not, List, [], ◌∷◌, length, map, filter, Contains}
 use Rattle.std.specs.Prelude.{nat_eq}
 use Rattle.std.specs.List.{list_any}
 use Rattle.std.specs.Str.{IsUtf8}
-use Rattle.std.proofs.lemmas.Bool.{and_parts, cases_Bool, false_from_ne_true, not_from_false, or_from}
+use Rattle.std.proofs.lemmas.Bool.{and_parts, false_from_ne_true, not_from_false, or_from}
 use Rattle.std.proofs.lemmas.List.Elements.{All-contains, All-nil, Contains-append_left, Contains-append_right, Contains-get_or}
 use Rattle.std.proofs.lemmas.List.Folds.{list_any_none}
 use denote.Enum.Bare.{same_true}
@@ -13,7 +13,7 @@ use Rattle.hazard_base.specs.declared.hazard.Hazard.{Hazard}
 use Rattle.hazard_base.specs.declared.hazard_set.HazardSet.{HazardSet}
 use Rattle.hazard_base.specs.Hazards.{same_hazard}
 use Rattle.hazard_find.specs.Findings.{findings_of}
-use Rattle.hazard_ignore.specs.Covered.{covers, is_bare, is_covered, named, reaches}
+use Rattle.hazard_ignore.specs.Covered.{covers, is_bare, is_covered, named}
 use Rattle.lint_base.specs.declared.settings.LinterSettings.{LinterSettings}
 use Rattle.lint_base.specs.declared.violation.Violation.{Violation}
 use Rattle.lint_base.specs.RuleSets.{Rules}

@@ -4,6 +4,8 @@
 #[cfg(test)]
 mod columns;
 #[cfg(test)]
+mod ignores;
+#[cfg(test)]
 mod indexes;
 #[cfg(test)]
 mod migrations;

@@ -65,6 +65,11 @@ const MIGRATIONS: &[(&str, &str)] = &[
         "SET lock_timeout = '2s';\nSET statement_timeout = '10s';\nALTER TABLE products ADD COLUMN IF NOT EXISTS score int DEFAULT -1 NOT NULL;\nALTER TABLE products ADD COLUMN IF NOT EXISTS expires timestamptz DEFAULT now() + interval '30 days';\nALTER TABLE products ADD COLUMN IF NOT EXISTS tags text[] DEFAULT '{}'::text[] NOT NULL;\nALTER TABLE products ADD COLUMN IF NOT EXISTS seq bigserial NOT NULL;\nALTER TABLE products ADD COLUMN IF NOT EXISTS mail email_domain;\nALTER TABLE products ADD COLUMN IF NOT EXISTS doc json;\nALTER TABLE products ADD COLUMN IF NOT EXISTS code varchar(10) CHECK (length(code) > 2);\nALTER TABLE products ALTER COLUMN name TYPE text;\nALTER TABLE products ADD CONSTRAINT no_overlap EXCLUDE USING gist (room WITH =, during WITH &&);\nCREATE TABLE order_items (id bigint GENERATED ALWAYS AS IDENTITY PRIMARY KEY, order_id bigint REFERENCES orders, product_id bigint NOT NULL);\nALTER TABLE order_items ADD CONSTRAINT oi_product FOREIGN KEY (product_id) REFERENCES products (id);\nCREATE INDEX order_items_order ON order_items (order_id);\nDROP INDEX IF EXISTS old_idx;\n",
         "345..392 table-rewrite; 509..513 json-column; 578..602 column-with-check",
     ),
+    // A dump of pg_dump. The data of its COPY are blank, as in the text that is judged of a file that was made for psql.
+    (
+        "SET statement_timeout = 0;\nSET lock_timeout = 0;\nSET client_encoding = 'UTF8';\nSET standard_conforming_strings = on;\nSELECT pg_catalog.set_config('search_path', '', false);\nCREATE TABLE public.t (id integer NOT NULL, name text);\nALTER TABLE public.t OWNER TO app;\nCREATE SEQUENCE public.t_id_seq AS integer START WITH 1 INCREMENT BY 1 NO MINVALUE NO MAXVALUE CACHE 1;\nALTER SEQUENCE public.t_id_seq OWNED BY public.t.id;\nALTER TABLE ONLY public.t ALTER COLUMN id SET DEFAULT nextval('public.t_id_seq'::regclass);\nCOPY public.t (id, name) FROM stdin;\n \t    \n \t \n  \nSELECT pg_catalog.setval('public.t_id_seq', 2, true);\nALTER TABLE ONLY public.t ADD CONSTRAINT t_pkey PRIMARY KEY (id);\nCREATE INDEX t_name ON public.t USING btree (name);\n",
+        "",
+    ),
 ];
 
 #[test]

@@ -2,7 +2,7 @@
 
 use hazard_base::{Finding, HazardSet};
 use hazard_find::find;
-use lint_base::{LinterSettings, Names};
+use lint_base::{LinterSettings, Names, Violation};
 use sql_read::parse;
 use std::alloc::Global;
 use std::process::Abort;
@@ -18,7 +18,7 @@ pub(crate) fn settings(alloc: Global, assume_in_transaction: bool, major: i32) -
 }
 
 /// The range and the name of each finding.
-fn shown(alloc: Global, findings: &[Finding]) -> Result<String, Fail> {
+pub(crate) fn shown(alloc: Global, findings: &[Finding]) -> Result<String, Fail> {
     let mut line = String::new(alloc);
     for f in findings {
         if !line.is_empty() {
@@ -27,6 +27,37 @@ fn shown(alloc: Global, findings: &[Finding]) -> Result<String, Fail> {
         let start = f.range.start().raw();
         let end = f.range.end().raw();
         line.push_str(format!(in alloc; "{start}..{end} {}", f.hazard)?.as_str())?;
+    }
+    Ok(line)
+}
+
+/// The range and the name of the rule of each report.
+pub(crate) fn shown_reports(alloc: Global, reports: &[Violation]) -> Result<String, Fail> {
+    let mut line = String::new(alloc);
+    for v in reports {
+        if !line.is_empty() {
+            line.push_str("; ")?;
+        }
+        let start = v.text_range.start().raw();
+        let end = v.text_range.end().raw();
+        line.push_str(format!(in alloc; "{start}..{end} {}", v.code.name())?.as_str())?;
+    }
+    Ok(line)
+}
+
+/// Three lines as one, without those that are empty.
+pub(crate) fn joined(
+    alloc: Global,
+    first: &str,
+    second: &str,
+    third: &str,
+) -> Result<String, Fail> {
+    let mut line = String::new(alloc);
+    for part in [first, second, third] {
+        if !line.is_empty() && !part.is_empty() {
+            line.push_str("; ")?;
+        }
+        line.push_str(part)?;
     }
     Ok(line)
 }
