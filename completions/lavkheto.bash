@@ -28,7 +28,7 @@ _lavkheto() {
     fi
     COMPREPLY=()
     if ((COMP_CWORD == 1)); then
-        _lavkheto_words 'check gate explain server --help --version'
+        _lavkheto_words 'check fix gate explain server --help --version'
         return
     fi
     case $command:$before in
@@ -45,6 +45,14 @@ _lavkheto() {
     check:--pg-major) :; return ;;
     check:--pg-minor) :; return ;;
     check:--pg-patch) :; return ;;
+    fix:--config) _lavkheto_files; return ;;
+    fix:--only) _lavkheto_rules; return ;;
+    fix:--include) _lavkheto_rules; return ;;
+    fix:--exclude) _lavkheto_rules; return ;;
+    fix:--non-volatile) :; return ;;
+    fix:--pg-major) :; return ;;
+    fix:--pg-minor) :; return ;;
+    fix:--pg-patch) :; return ;;
     gate:--order) _lavkheto_words 'given name'; return ;;
     gate:--include) _lavkheto_rules; return ;;
     gate:--non-volatile) :; return ;;
@@ -62,11 +70,13 @@ _lavkheto() {
     case $command:$cur in
     check:-*) _lavkheto_words '--format --color --quiet --statistics --stdin-filename --config --fail-on --baseline --write-baseline --strict -- --only --include --exclude --no-hazards --non-volatile --assume-in-transaction --pg-major --pg-minor --pg-patch --help --version' ;;
     check:*) _lavkheto_files '*.sql' ;;
+    fix:-*) _lavkheto_words '--write --unsafe --config -- --only --include --exclude --non-volatile --assume-in-transaction --pg-major --pg-minor --pg-patch --help' ;;
+    fix:*) _lavkheto_files '*.sql' ;;
     gate:-*) _lavkheto_words '--order --works --one-session -- --include --non-volatile --assume-in-transaction --pg-major --pg-minor --pg-patch --help' ;;
     gate:*) _lavkheto_files '*.sql' ;;
     explain:-*) _lavkheto_words '--help' ;;
     explain:*) _lavkheto_rules ;;
-    server:-*) _lavkheto_words '--only --include --exclude --non-volatile --assume-in-transaction --pg-major --pg-minor --pg-patch --help' ;;
+    server:-*) _lavkheto_words '--only --include --exclude --no-hazards --non-volatile --assume-in-transaction --pg-major --pg-minor --pg-patch --help' ;;
     server:*) : ;;
     esac
 }
