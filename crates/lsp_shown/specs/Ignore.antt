@@ -3,7 +3,9 @@ use Rattle.std.specs.Prelude.{ℕ, Bool, true, false, not, ◌&&◌, nat_le, nat
 use Rattle.std.specs.List.{list_any}
 use Rattle.lint_base.specs.declared.rule.Rule.{Rule}
 use Rattle.lint_base.specs.declared.rule.Rule.TheVariants.{UnusedIgnore}
-use Rattle.lint_base.specs.Rules.{name_of}
+use Rattle.lint_report.specs.Codes.{name_of}
+use Rattle.lint_report.specs.declared.code.Code.{Code}
+use Rattle.lint_report.specs.declared.code.Code.TheVariants as by
 use Rattle.lsp_report.specs.Remedy.{RemedyValue}
 use Rattle.lsp_shown.specs.declared.ignore.Lines.{Lines}
 
@@ -12,25 +14,31 @@ abbrev pub goes_over : ℕ → Lines → Bool
 goes_over line lines = nat_lt lines.first line && nat_le line lines.last
 
 -- the comment, on a line of its own
-abbrev pub comment : Rule → List ℕ
-comment rule = codes "-- squawk-ignore " ++ name_of rule ++ codes "\n"
+abbrev pub comment : Code → List ℕ
+comment code = codes "-- squawk-ignore " ++ name_of code ++ codes "\n"
 
-abbrev pub title : Rule → List ℕ
-title rule = codes "Ignore `" ++ name_of rule ++ codes "` here"
+-- what the comment does, in a few words
+abbrev pub title : Code → List ℕ
+title code = codes "Ignore `" ++ name_of code ++ codes "` here"
 
 -- the comment put before a line
-abbrev pub remedy : Rule → ℕ → RemedyValue
-remedy rule line = record {
-  title = title rule;
+abbrev pub remedy : Code → ℕ → RemedyValue
+remedy code line = record {
+  title = title code;
   is_preferred = false;
-  changes = record { start = record { line = line; col = 0 }; end = record { line = line; col = 0 }; text = Some (comment rule) } ∷ [];
+  changes = record { start = record { line = line; col = 0 }; end = record { line = line; col = 0 }; text = Some (comment code) } ∷ [];
 }
 
 -- a comment can name the rule
-abbrev pub is_named : Rule → Bool
-is_named UnusedIgnore = false
-is_named rule = true
+abbrev pub is_rule_named : Rule → Bool
+is_rule_named UnusedIgnore = false
+is_rule_named rule = true
+
+-- a comment can name the rule or the hazard
+abbrev pub is_named : Code → Bool
+is_named (by.Rule rule) = is_rule_named rule
+is_named (by.Hazard hazard) = true
 
 -- none where the line begins inside of one of these tokens, and none for the one rule that no comment names
-abbrev pub ignore_if : List Lines → Rule → ℕ → Option RemedyValue
-ignore_if tokens rule line = if is_named rule && not (list_any (goes_over line) tokens) then Some (remedy rule line) else None
+abbrev pub ignore_if : List Lines → Code → ℕ → Option RemedyValue
+ignore_if tokens code line = if is_named code && not (list_any (goes_over line) tokens) then Some (remedy code line) else None

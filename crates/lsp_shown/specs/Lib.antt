@@ -1,3 +1,4 @@
 pub mod Ignore
+pub mod Places
 pub mod Shown
 pub mod Tokens

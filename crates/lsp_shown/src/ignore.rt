@@ -4,6 +4,7 @@ ghost use Rattle.std.specs.List.{list_any};
 ghost use Rattle.lsp_shown.specs.Ignore as spec;
 
 use lint_base::{Rule, Text};
+use lint_report::Code;
 use lsp_report::{Change, Remedy};
 use std::alloc::{AllocError, Global};
 use text_pos::NoMemory;
@@ -32,63 +33,63 @@ fn is_inside(tokens: &[Lines], line: u32) -> bool
     tokens.iter().any(|lines| goes_over(lines, line))
 }
 
-// Whether a comment can name the rule.
-fn is_named(rule: Rule) -> bool
-    ensures { result ≡ spec.is_named rule }
+// Whether a comment can name the rule or the hazard.
+fn is_named(code: Code) -> bool
+    ensures { result ≡ spec.is_named code }
 {
-    !matches!(rule, Rule::UnusedIgnore)
+    !matches!(code, Code::Rule(Rule::UnusedIgnore))
 }
 
 // The comment, on a line of its own.
-fn comment(alloc: Global, rule: Rule) -> Result<String, AllocError>
-    ensures { IfOk result (λ s. string_bytes s ≡ spec.comment rule) }
+fn comment(alloc: Global, code: Code) -> Result<String, AllocError>
+    ensures { IfOk result (λ s. string_bytes s ≡ spec.comment code) }
 {
     let mut text = String::from_str(alloc, "-- squawk-ignore ")?;
-    text.push_str(rule.name())?;
+    text.push_str(code.name())?;
     text.push_str("\n")?;
     Ok(text)
 }
 
 // What is said of it.
-fn title(alloc: Global, rule: Rule) -> Result<String, AllocError>
-    ensures { IfOk result (λ s. string_bytes s ≡ spec.title rule) }
+fn title(alloc: Global, code: Code) -> Result<String, AllocError>
+    ensures { IfOk result (λ s. string_bytes s ≡ spec.title code) }
 {
     let mut text = String::from_str(alloc, "Ignore `")?;
-    text.push_str(rule.name())?;
+    text.push_str(code.name())?;
     text.push_str("` here")?;
     Ok(text)
 }
 
 // The comment put before a line.
-fn remedy(alloc: Global, rule: Rule, line: u32) -> Result<Remedy, NoMemory>
-    ensures { IfOk result (λ made. made ≡ spec.remedy rule line) }
+fn remedy(alloc: Global, code: Code, line: u32) -> Result<Remedy, NoMemory>
+    ensures { IfOk result (λ made. made ≡ spec.remedy code line) }
 {
     let at = Pos { line, col: 0 };
     let mut changes = Vec::new(alloc);
     changes.push(Change {
         start: at,
         end: at,
-        text: Some(Text::made(comment(alloc, rule)?)),
+        text: Some(Text::made(comment(alloc, code)?)),
     })?;
     Ok(Remedy {
-        title: Text::made(title(alloc, rule)?),
+        title: Text::made(title(alloc, code)?),
         is_preferred: false,
         changes,
     })
 }
 
-/// The comment that tells the linter to leave the reports of a rule that begin on a line, on a line of its own above it; none where that
-/// line begins inside of one of these tokens, or no comment names the rule. The error comes when memory runs out.
+/// The comment that tells the linter to leave the reports of a rule or a hazard that begin on a line, on a line of its own above it; none
+/// where that line begins inside of one of these tokens, or no comment names the rule. The error comes when memory runs out.
 pub(crate) fn ignore_if(
     alloc: Global,
     tokens: &[Lines],
-    rule: Rule,
+    code: Code,
     line: u32,
 ) -> Result<Option<Remedy>, NoMemory>
-    ensures { IfOk result (λ made. made ≡ spec.ignore_if tokens.now rule line) }
+    ensures { IfOk result (λ made. made ≡ spec.ignore_if tokens.now code line) }
 {
-    if is_named(rule) && !is_inside(tokens, line) {
-        Ok(Some(remedy(alloc, rule, line)?))
+    if is_named(code) && !is_inside(tokens, line) {
+        Ok(Some(remedy(alloc, code, line)?))
     } else {
         Ok(None)
     }

@@ -1,7 +1,7 @@
-//! Reports of the linter as an editor shows them: each range of bytes is put as two positions, and each report has what can be done about
-//! it, its fix and a comment that tells the linter to leave it.
+//! Reports of rules and hazards as an editor shows them: each range of bytes is put as two positions, and each report has what can be done
+//! about it, its fix and a comment that tells the linter to leave it.
 //!
-//! `specs/Shown.antt` says what is shown of reports and of a text that is refused.
+//! `specs/Shown.antt` says what is shown of reports and of a text that is refused, and `specs/Places.antt` what is asked of reports.
 #![tactic(auto)]
 
 mod ignore;

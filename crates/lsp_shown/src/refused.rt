@@ -13,7 +13,7 @@ pub fn refused_at(message: &'static str, at: Pos) -> Report
     Report {
         start: at,
         end: at,
-        rule: None,
+        code: None,
         message: Text::fixed(message),
         note: None,
         help: None,

@@ -1,21 +1,15 @@
 //! Reports at positions.
-ghost use Rattle.std.specs.Prelude.{◌≡◌, ◌<◌, ◌^◌, All, IfSome, length, map, option_map, IfOk};
-ghost use Rattle.diag_report.specs.Places.{EditIn, EditsIn, ReportIn};
+ghost use Rattle.std.specs.Prelude.{◌≡◌, ◌<◌, ◌^◌, All, IfSome, length, map, IfOk};
+ghost use Rattle.lsp_shown.specs.Places.{EditIn, EditsIn, FixIn, ReportIn};
 ghost use Rattle.lsp_shown.specs.Shown as spec;
 
 use crate::ignore::{Lines, ignore_if};
-use lint_base::{Edit, Fix, Rule, Violation};
+use lint_base::{Edit, Fix};
+use lint_report::{FixClass, ReportFix};
 use lsp_report::{Change, Remedy, Report};
 use std::alloc::Global;
 use text_pos::NoMemory;
 use text_utf16::PosIndex;
-
-// Whether the fix of a rule may be made unseen.
-fn is_safe(rule: Rule) -> bool
-    ensures { result ≡ spec.is_safe rule }
-{
-    matches!(rule, Rule::IdentifierTooLong)
-}
 
 fn change_of(index: &PosIndex<'_>, edit: Edit) -> Change
     requires { EditIn index.now edit }
@@ -43,28 +37,49 @@ fn changes_of(
     Ok(made)
 }
 
-fn remedy_of(alloc: Global, index: &PosIndex<'_>, rule: Rule, fix: Fix) -> Result<Remedy, NoMemory>
+fn remedy_of(
+    alloc: Global,
+    index: &PosIndex<'_>,
+    is_preferred: bool,
+    fix: Fix,
+) -> Result<Remedy, NoMemory>
     requires { EditsIn index.now fix }
-    ensures { IfOk result (λ made. made ≡ spec.remedy_of index.now rule fix) }
+    ensures { IfOk result (λ made. made ≡ spec.remedy_of index.now is_preferred fix) }
 {
     Ok(Remedy {
         title: fix.title,
-        is_preferred: is_safe(rule),
+        is_preferred,
         changes: changes_of(alloc, index, fix.edits)?,
     })
+}
+
+// A fix of a class, where it is offered.
+fn remedy_by(
+    alloc: Global,
+    index: &PosIndex<'_>,
+    class: FixClass,
+    fix: Fix,
+) -> Result<Option<Remedy>, NoMemory>
+    requires { EditsIn index.now fix }
+    ensures { IfOk result (λ made. made ≡ spec.remedy_by index.now class fix) }
+{
+    match class {
+        FixClass::Safe => Ok(Some(remedy_of(alloc, index, true, fix)?)),
+        FixClass::Unsafe => Ok(Some(remedy_of(alloc, index, false, fix)?)),
+        FixClass::Template => Ok(None),
+    }
 }
 
 fn remedy_if(
     alloc: Global,
     index: &PosIndex<'_>,
-    rule: Rule,
-    fix: Option<Fix>,
+    fix: Option<ReportFix>,
 ) -> Result<Option<Remedy>, NoMemory>
-    requires { IfSome fix (EditsIn index.now) }
-    ensures { IfOk result (λ made. made ≡ option_map (spec.remedy_of index.now rule) fix) }
+    requires { IfSome fix (FixIn index.now) }
+    ensures { IfOk result (λ made. made ≡ spec.remedy_if index.now fix) }
 {
     match fix {
-        Some(fix) => Ok(Some(remedy_of(alloc, index, rule, fix)?)),
+        Some(fix) => remedy_by(alloc, index, fix.class, fix.fix),
         None => Ok(None),
     }
 }
@@ -73,7 +88,7 @@ fn report_of(
     alloc: Global,
     index: &PosIndex<'_>,
     tokens: &[Lines],
-    report: Violation,
+    report: lint_report::Report,
 ) -> Result<Report, NoMemory>
     requires { ReportIn index.now report }
     ensures { IfOk result (λ made. made ≡ spec.report_of index.now tokens.now report) }
@@ -82,11 +97,11 @@ fn report_of(
     Ok(Report {
         start,
         end: index.pos(report.text_range.end()),
-        rule: Some(report.code),
+        code: Some(report.code),
         message: report.message,
         note: report.note,
         help: report.help,
-        fix: remedy_if(alloc, index, report.code, report.fix)?,
+        fix: remedy_if(alloc, index, report.fix)?,
         ignore: ignore_if(alloc, tokens, report.code, start.line)?,
     })
 }
@@ -97,7 +112,7 @@ pub fn shown(
     alloc: Global,
     index: &PosIndex<'_>,
     tokens: &[Lines],
-    reports: Vec<Violation>,
+    reports: Vec<lint_report::Report>,
 ) -> Result<Vec<Report>, NoMemory>
     requires { All (ReportIn index.now) reports.items }
     ensures { IfOk result (λ made. made.items ≡ spec.shown index.now tokens.now reports.items) }

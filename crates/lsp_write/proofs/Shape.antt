@@ -5,7 +5,8 @@ use Rattle.serde_json.specs.View.{items_of}
 use Rattle.serde_json.specs.Written.{has_float}
 use Rattle.text_utf16.specs.declared.position.Pos.{Pos}
 use Rattle.diag_json.specs.Json.{position_json, range_json}
-use Rattle.lint_base.specs.declared.rule.Rule.{Rule}
+use Rattle.lint_report.specs.declared.code.Code.{Code}
+use Rattle.lint_report.specs.declared.code.Code.TheVariants as by
 use Rattle.lsp_message.specs.declared.message.Id.{Id}
 use Rattle.lsp_message.specs.declared.message.Id.TheVariants.{Null, Number, Text}
 use Rattle.lsp_message.specs.declared.reply.Answer as answer
@@ -17,7 +18,7 @@ use Rattle.lsp_report.specs.declared.report.Report.{Report}
 use Rattle.lsp_report.specs.Remedy.{RemedyValue}
 use Rattle.lsp_write.proofs.Fits.{Fits, ItemsFit, MembersFit, both, ends, in_array, in_list, in_object, integer, leaf, null_fits, one_item, next, then_if, truth, whole}
 use Rattle.lsp_write.specs.Action.{action_if, action_json, actions_of, change_json, edit_json, meets}
-use Rattle.lsp_write.specs.Diagnostic.{diagnostic_by, diagnostic_json, from_message, integer_json, published_json, published_params}
+use Rattle.lsp_write.specs.Diagnostic.{diagnostic_by, diagnostic_json, from_message, integer_json, published_json, published_params, unlinked}
 use Rattle.lsp_write.specs.Hover.{explanations, hover_json, hover_of}
 use Rattle.lsp_write.specs.Reply.{reply_json}
 use Rattle.lsp_write.specs.Response.{capabilities, capabilities_json, error_json, failed_number, id_json, number_of, response_json, result_json, sync_json, words_of}
@@ -31,14 +32,18 @@ range_fits start end = record { plain = refl; shallow = omega arith }
 message_fits : (severity : ℕ) (r : Report) → MembersFit 2 (from_message severity r)
 message_fits severity r = next 2 _ _ _ (leaf 2 r.message) (next 2 _ _ _ (range_fits r.start r.end) (next 2 _ _ _ (whole 2 severity) (next 2 _ _ _ (leaf 2 _) (ends 2))))
 
-by_rule : (rule : Option Rule) (r : Report) → Fits 3 (diagnostic_by rule r)
-by_rule (Some rule) r =
+unlinked_fits : (severity : ℕ) (r : Report) → Fits 3 (unlinked severity r)
+unlinked_fits severity r = in_object 2 3 _ (omega arith) (next 2 _ _ _ (leaf 2 _) (message_fits severity r))
+
+by_code : (code : Option Code) (r : Report) → Fits 3 (diagnostic_by code r)
+by_code (Some (by.Rule rule)) r =
     in_object 2 3 _ (omega arith) (next 2 _ _ _ (leaf 2 _) (next 2 _ _ _ (in_object 1 2 _ (omega arith) (next 1 _ _ _ (leaf 1 _) (ends 1))) (message_fits 2 r)))
-by_rule None r = in_object 2 3 _ (omega arith) (next 2 _ _ _ (leaf 2 _) (message_fits 1 r))
+by_code (Some (by.Hazard hazard)) r = unlinked_fits 2 r
+by_code None r = unlinked_fits 1 r
 
 diagnostic_fits : (r : Report) → Fits 3 (diagnostic_json r)
 unfolding diagnostic_json
-diagnostic_fits r = by_rule r.rule r
+diagnostic_fits r = by_code r.code r
 
 version_fits : (version : Option ℤ) (d : Data) → option_map integer_json version ≡ Some d → Fits 4 d
 version_fits None d e = absurd (cc)

@@ -1,6 +1,7 @@
 -- What is to be known of reports, as hovers of the protocol.
 use Rattle.std.specs.Prelude.{ℕ, List, [], ◌∷◌, ◌++◌, Option, Some, None, codes, flat_map, if◌then◌else◌}
-use Rattle.lint_base.specs.declared.rule.Rule.{Rule}
+use Rattle.lint_report.specs.declared.code.Code.{Code}
+use Rattle.lint_report.specs.declared.code.Code.TheVariants as by
 use Rattle.lsp_report.specs.declared.report.Report.{Report}
 use Rattle.lsp_write.specs.Action.{meets}
 use Rattle.lsp_write.specs.Diagnostic.{address_of, code_of}
@@ -19,22 +20,23 @@ line_if head None = []
 line_if head (Some part) = line head part
 
 -- the line with the address of a rule's page
-abbrev pub see_line : Option Rule → List ℕ
+abbrev pub see_line : Option Code → List ℕ
+see_line (Some (by.Rule rule)) = line (codes "see: ") (address_of rule)
+see_line (Some (by.Hazard hazard)) = []
 see_line None = []
-see_line (Some rule) = line (codes "see: ") (address_of rule)
 
 -- what a report says
 abbrev pub message_lines : Report → List ℕ
-message_lines r = line (codes "") (code_of r.rule) ++ line (codes "") r.message ++ line_if (codes "note: ") r.note ++ line_if (codes "help: ") r.help ++ see_line r.rule
+message_lines r = line (codes "") (code_of r.code) ++ line (codes "") r.message ++ line_if (codes "note: ") r.note ++ line_if (codes "help: ") r.help ++ see_line r.code
 
--- a line feed, and what `lavkheto explain` prints of a rule
-abbrev pub page_lines : Option Rule → List ℕ
+-- a line feed, and what `lavkheto explain` prints of a rule or a hazard
+abbrev pub page_lines : Option Code → List ℕ
 page_lines None = []
-page_lines (Some rule) = codes "\n" ++ pages.page_of rule
+page_lines (Some code) = codes "\n" ++ pages.code_page_of code
 
--- what is to be known of a report: what it says, and the page of its rule
+-- what is to be known of a report: what it says, and the page of its rule or its hazard
 abbrev pub explanation : Report → List ℕ
-explanation r = message_lines r ++ page_lines r.rule
+explanation r = message_lines r ++ page_lines r.code
 
 -- what is to be known of the reports at a place, each in a block
 abbrev pub explanations : List Report → Pos → List ℕ

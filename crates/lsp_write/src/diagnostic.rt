@@ -1,13 +1,14 @@
 //! Reports as diagnostics of the protocol.
-ghost use Rattle.std.specs.Prelude.{◌≡◌, ◌++◌, IfOk, None, OnOk, Some, codes, map, option_map, string_bytes};
+ghost use Rattle.std.specs.Prelude.{◌≡◌, ◌++◌, IfOk, OnOk, codes, map, option_map, string_bytes};
 ghost use Rattle.diag_json.specs.Json.{list_json};
 ghost use Rattle.diag_json.specs.Putting.{put_if};
 ghost use Rattle.serde_json.specs.Data.{string};
 ghost use Rattle.serde_json.specs.View.{items_of, items_view, members_view, view};
-ghost use Rattle.lsp_write.specs.Diagnostic.{code_of, diagnostic_by, diagnostic_json, integer_json, address_of, published_json, published_params, unversioned};
+ghost use Rattle.lsp_write.specs.Diagnostic.{address_of, code_of, diagnostic_by, diagnostic_json, integer_json, linked, published_json, published_params, unlinked, unversioned};
 
 use crate::place::range_value;
 use lint_base::Rule;
+use lint_report::Code;
 use lsp_report::Report;
 use serde_json::{Map, Value, json};
 use std::alloc::{AllocError, Global};
@@ -31,22 +32,23 @@ pub(crate) fn address_of(alloc: Global, rule: Rule) -> Result<String, AllocError
 }
 
 /// The name of what a report is about.
-pub(crate) fn code_of(rule: Option<Rule>) -> &'static str
-    ensures { result.now ≡ code_of rule }
+pub(crate) fn code_of(code: Option<Code>) -> &'static str
+    ensures { result.now ≡ code_of code }
 {
-    match rule {
-        Some(rule) => rule.name(),
+    match code {
+        Some(code) => code.name(),
         None => "syntax",
     }
 }
 
-fn warning(alloc: Global, report: &Report, rule: Rule) -> Result<Value, AllocError>
-    ensures { IfOk result (λ v. view v ≡ diagnostic_by (Some rule) report.now) }
+/// A warning that links to the page of a rule.
+fn linked(alloc: Global, report: &Report, rule: Rule) -> Result<Value, AllocError>
+    ensures { IfOk result (λ v. view v ≡ linked rule report.now) }
 {
     let page = address_of(alloc, rule)?;
     let range = range_value(alloc, report.start, report.end)?;
     json!(in alloc; {
-        "code": (rule.name()),
+        "code": (code_of(report.code)),
         "codeDescription": {"href": page},
         "message": (report.message.as_str()),
         "range": range,
@@ -55,15 +57,16 @@ fn warning(alloc: Global, report: &Report, rule: Rule) -> Result<Value, AllocErr
     })
 }
 
-fn error(alloc: Global, report: &Report) -> Result<Value, AllocError>
-    ensures { IfOk result (λ v. view v ≡ diagnostic_by None report.now) }
+/// A report that links to nothing.
+fn unlinked(alloc: Global, report: &Report, severity: u64) -> Result<Value, AllocError>
+    ensures { IfOk result (λ v. view v ≡ unlinked severity report.now) }
 {
     let range = range_value(alloc, report.start, report.end)?;
     json!(in alloc; {
-        "code": "syntax",
+        "code": (code_of(report.code)),
         "message": (report.message.as_str()),
         "range": range,
-        "severity": ERROR,
+        "severity": severity,
         "source": "lavkheto"
     })
 }
@@ -73,9 +76,10 @@ fn error(alloc: Global, report: &Report) -> Result<Value, AllocError>
 pub(crate) fn diagnostic_value(alloc: Global, report: &Report) -> Result<Value, AllocError>
     ensures { IfOk result (λ v. view v ≡ diagnostic_json report.now) }
 {
-    match report.rule {
-        Some(rule) => warning(alloc, report, rule),
-        None => error(alloc, report),
+    match report.code {
+        Some(Code::Rule(rule)) => linked(alloc, report, rule),
+        Some(Code::Hazard(_)) => unlinked(alloc, report, WARNING),
+        None => unlinked(alloc, report, ERROR),
     }
 }
 

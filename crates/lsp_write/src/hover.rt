@@ -8,9 +8,10 @@ ghost use Rattle.lsp_write.specs.Hover.{explanation, explanations, hover_json, h
 use crate::diagnostic::{address_of, code_of};
 use crate::fence::push_block;
 use crate::place::meets;
-use lint_base::{Rule, Text};
+use lint_base::Text;
+use lint_report::Code;
 use lsp_report::Report;
-use rule_pages::rule_page;
+use rule_pages::code_page;
 use serde_json::{Value, json};
 use std::alloc::{AllocError, Global};
 use text_utf16::Pos;
@@ -32,11 +33,13 @@ fn push_line_if(out: &mut String, head: &str, part: &Option<Text>) -> Result<(),
     }
 }
 
-fn push_see(out: &mut String, alloc: Global, rule: Option<Rule>) -> Result<(), AllocError>
-    ensures { OnOk result (string_bytes out.new ≡ string_bytes out.old ++ see_line rule) }
+/// Adds where a rule has a page.
+fn push_see(out: &mut String, alloc: Global, code: Option<Code>) -> Result<(), AllocError>
+    ensures { OnOk result (string_bytes out.new ≡ string_bytes out.old ++ see_line code) }
 {
-    match rule {
-        Some(rule) => push_line(out, "see: ", address_of(alloc, rule)?.as_str()),
+    match code {
+        Some(Code::Rule(rule)) => push_line(out, "see: ", address_of(alloc, rule)?.as_str()),
+        Some(Code::Hazard(_)) => Ok(()),
         None => Ok(()),
     }
 }
@@ -45,21 +48,21 @@ fn push_see(out: &mut String, alloc: Global, rule: Option<Rule>) -> Result<(), A
 fn push_message(out: &mut String, alloc: Global, report: &Report) -> Result<(), AllocError>
     ensures { OnOk result (string_bytes out.new ≡ string_bytes out.old ++ message_lines report.now) }
 {
-    push_line(out, "", code_of(report.rule))?;
+    push_line(out, "", code_of(report.code))?;
     push_line(out, "", report.message.as_str())?;
     push_line_if(out, "note: ", &report.note)?;
     push_line_if(out, "help: ", &report.help)?;
-    push_see(out, alloc, report.rule)
+    push_see(out, alloc, report.code)
 }
 
-/// Adds what `lavkheto explain` prints of a rule.
-fn push_page(out: &mut String, rule: Option<Rule>) -> Result<(), AllocError>
-    ensures { OnOk result (string_bytes out.new ≡ string_bytes out.old ++ page_lines rule) }
+/// Adds what `lavkheto explain` prints of a rule or a hazard.
+fn push_page(out: &mut String, code: Option<Code>) -> Result<(), AllocError>
+    ensures { OnOk result (string_bytes out.new ≡ string_bytes out.old ++ page_lines code) }
 {
-    match rule {
-        Some(rule) => {
+    match code {
+        Some(code) => {
             out.push_str("\n")?;
-            out.push_str(rule_page(rule))
+            out.push_str(code_page(code))
         }
         None => Ok(()),
     }
@@ -70,7 +73,7 @@ fn explanation(alloc: Global, report: &Report) -> Result<String, AllocError>
 {
     let mut out = String::new(alloc);
     push_message(&mut out, alloc, report)?;
-    push_page(&mut out, report.rule)?;
+    push_page(&mut out, report.code)?;
     Ok(out)
 }
 

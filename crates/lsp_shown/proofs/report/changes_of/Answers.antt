@@ -1,7 +1,7 @@
 use Rattle.std.proofs.Common.{subst, ◌≡◌, ◌∙◌, ◌∷◌, [], ◌++◌, All, List, map, ap, arith, sym, suc}
 use Rattle.std.proofs.lemmas.List.{map-append}
 use Rattle.lsp_shown.specs.Shown.{change_of}
-use Rattle.diag_report.specs.Places.{EditIn}
+use Rattle.lsp_shown.specs.Places.{EditIn}
 use Rattle.lsp_shown.proofs.report.changes_of.Goals as goal
 
 -- what holds of all holds of those after the first

@@ -1,6 +1,6 @@
 use Rattle.std.proofs.Common.{◌≡◌, All, map}
 use Rattle.lsp_shown.specs.Shown.{change_of}
-use Rattle.diag_report.specs.Places.{EditIn}
+use Rattle.lsp_shown.specs.Places.{EditIn}
 use Rattle.lsp_shown.proofs.report.changes_of.Given as goal
 
 -- the edits made so far; those still to be made are in the text

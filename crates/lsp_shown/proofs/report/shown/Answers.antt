@@ -1,6 +1,6 @@
 use Rattle.std.proofs.Common.{subst, ◌≡◌, ◌∙◌, ◌∷◌, [], ◌++◌, All, List, map, ap, arith, sym, suc}
 use Rattle.std.proofs.lemmas.List.{map-append}
-use Rattle.diag_report.specs.Places.{ReportIn}
+use Rattle.lsp_shown.specs.Places.{ReportIn}
 use Rattle.lsp_shown.specs.Shown.{report_of}
 use Rattle.lsp_shown.proofs.report.shown.Goals as goal
 

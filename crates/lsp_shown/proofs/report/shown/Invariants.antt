@@ -1,5 +1,5 @@
 use Rattle.std.proofs.Common.{◌≡◌, All, map}
-use Rattle.diag_report.specs.Places.{ReportIn}
+use Rattle.lsp_shown.specs.Places.{ReportIn}
 use Rattle.lsp_shown.specs.Shown.{report_of}
 use Rattle.lsp_shown.proofs.report.shown.Given as goal
 
