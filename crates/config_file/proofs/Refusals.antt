@@ -4,9 +4,9 @@ use Rattle.std.specs.Prelude.{codes}
 use Rattle.std.specs.Str.{IsUtf8}
 use Rattle.check_config.specs.Readings.{IsReading}
 use Rattle.check_config.specs.declared.fault.ConfigFault.{ConfigFault}
-use Rattle.config_file.specs.Found.{IsNamed}
+use Rattle.config_file.specs.Found.{IsFound, IsNamed, most_folders}
 use Rattle.config_file.specs.Lines.{IsFaultLine, opening}
-use Rattle.config_file.specs.Loaded.{AreRefused, Faulty, IsRefusal, IsRefusedFile, IsRefusedLoad, IsRefusedText, NoText, Read, Unread}
+use Rattle.config_file.specs.Loaded.{AreRefused, Faulty, IsRefusal, IsRefusedFile, IsRefusedFolder, IsRefusedLoad, IsRefusedText, NoText, Read, Unread}
 use Rattle.config_file.specs.declared.error.LoadError.{LoadError}
 use Rattle.config_file.specs.declared.error.LoadError.TheVariants.{Refused, NoMemory}
 use Rattle.file_store.specs.Contents.{Content, IsBytes}
@@ -42,3 +42,8 @@ pub load_refused : (content : Text → Content) (before now : ℕ) (given : Opti
     → IsRefusedLoad content before now given e
 load_refused content before now given name (Refused line) named h = record { name = name; named = named; why = h }
 load_refused content before now given name NoMemory named h = tt
+
+pub folder_refused : (content : Text → Content) (before now : ℕ) (folder name : Text) (e : LoadError) → IsFound content most_folders folder (Some name) → IsRefusedFile (content name) before now name e
+    → IsRefusedFolder content before now folder e
+folder_refused content before now folder name (Refused line) named h = record { name = name; named = named; why = h }
+folder_refused content before now folder name NoMemory named h = tt

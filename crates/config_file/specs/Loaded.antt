@@ -8,7 +8,7 @@ use Rattle.check_config.specs.Config.{empty}
 use Rattle.check_config.specs.Readings.{IsReading}
 use Rattle.config_file.specs.declared.error.LoadError.{LoadError}
 use Rattle.config_file.specs.declared.error.LoadError.TheVariants.{Refused, NoMemory}
-use Rattle.config_file.specs.Found.{IsNamed}
+use Rattle.config_file.specs.Found.{IsFound, IsNamed, most_folders}
 use Rattle.config_file.specs.Lines.{IsFaultLine, opening}
 use Rattle.file_store.specs.Contents.{Content, IsBytes}
 use Rattle.file_store.specs.declared.store.FileError.{FileError}
@@ -84,6 +84,25 @@ pub record IsRefusedFor (content : Text → Content) (before now : ℕ) (given :
 abbrev pub IsRefusedLoad : (Text → Content) → ℕ → ℕ → Option Text → LoadError → Type 0
 IsRefusedLoad content before now given (Refused line) = IsRefusedFor content before now given line.items
 IsRefusedLoad content before now given NoMemory = ⊤
+
+-- ---- the configuration of a folder
+
+-- it is that of the file that is found from the folder on, or the empty one where there is none
+pub record IsLoadedIn (content : Text → Content) (folder : Text) (config : Config) : Type 0 where
+  pub found : Option Text
+  pub named : IsFound content most_folders folder found
+  pub loaded : IsLoadedFrom content found config
+
+-- why it is refused
+pub record IsRefusedIn (content : Text → Content) (before now : ℕ) (folder : Text) (line : List ℕ) : Type 0 where
+  pub name : Text
+  pub named : IsFound content most_folders folder (Some name)
+  pub why : IsFaulty (content name) before now name line
+
+-- why a folder has none: the file that is found is refused, with its line
+abbrev pub IsRefusedFolder : (Text → Content) → ℕ → ℕ → Text → LoadError → Type 0
+IsRefusedFolder content before now folder (Refused line) = IsRefusedIn content before now folder line.items
+IsRefusedFolder content before now folder NoMemory = ⊤
 
 -- the error with a line, if there was memory for it
 abbrev pub IsRefusal : Result (Vec ℕ Global) MemoryError → LoadError → Type 0

@@ -1,5 +1,5 @@
 //! Which file is the configuration.
-ghost use Rattle.std.specs.Prelude.{◌≡◌, [], IfOk, option_map, string_bytes};
+ghost use Rattle.std.specs.Prelude.{◌≡◌, IfOk, option_map, string_bytes};
 ghost use Rattle.config_file.specs.Found as spec;
 ghost use Rattle.file_store.specs.Contents.{IsThere};
 
@@ -35,11 +35,15 @@ fn has<F: FileStore>(files: &F, name: &String) -> bool
     files.is_there(name.as_str())
 }
 
-// The configuration in the working directory or in the first folder above it that has one, up to that of the repository.
-fn found<F: FileStore>(alloc: Global, files: &F) -> Result<Option<String>, AllocError>
-    ensures { IfOk result (λ name. spec.IsFound (F.content files.now) spec.most_folders [] (option_map string_bytes name)) }
+/// The configuration in a folder or in the first one above it that has one, up to that of the repository.
+pub(crate) fn found<F: FileStore>(
+    alloc: Global,
+    files: &F,
+    start: &str,
+) -> Result<Option<String>, AllocError>
+    ensures { IfOk result (λ name. spec.IsFound (F.content files.now) spec.most_folders start.now (option_map string_bytes name)) }
 {
-    let mut folder = String::new(alloc);
+    let mut folder = String::from_str(alloc, start)?;
     for _turn in 0..MOST_FOLDERS {
         let name = config_in(alloc, &folder)?;
         let has_config = has(files, &name);
@@ -66,6 +70,6 @@ pub(crate) fn config_name<F: FileStore>(
 {
     match given {
         Some(name) => Ok(Some(String::from_str(alloc, name.as_str())?)),
-        None => found(alloc, files),
+        None => found(alloc, files, ""),
     }
 }

@@ -10,4 +10,4 @@ mod load;
 
 pub use error::{LoadError, refused};
 pub use line::{file_line, line_at};
-pub use load::load_config;
+pub use load::{folder_config, load_config};

@@ -1,10 +1,10 @@
 //! From files to a configuration.
 ghost use Rattle.std.specs.Prelude.{◌≡◌, ◌<◌, ◌≤◌, ◌^◌, IfErr, IfOk, length, string_bytes};
 ghost use Rattle.file_store.specs.Contents.{KeepsContents};
-ghost use Rattle.config_file.specs.Loaded.{AreRefused, AreTaken, IsLoaded, IsRefusedFile, IsRefusedLoad, IsRefusedText, IsTaken, IsTextTaken};
+ghost use Rattle.config_file.specs.Loaded.{AreRefused, AreTaken, IsLoaded, IsLoadedIn, IsRefusedFile, IsRefusedFolder, IsRefusedLoad, IsRefusedText, IsTaken, IsTextTaken};
 
 use crate::error::{LoadError, refused};
-use crate::find::config_name;
+use crate::find::{config_name, found};
 use crate::line::{file_line, text_line};
 use check_config::{Config, ConfigError, ConfigFault, read_config};
 use file_store::{FileError, FileStore};
@@ -67,6 +67,26 @@ pub fn load_config<F: FileStore>(
     ensures later { F.faults files.old ≤ F.faults files.new }
 {
     match config_name(alloc, files, given) {
+        Ok(Some(name)) => file_config(alloc, files, name.as_str()),
+        Ok(None) => Ok(Config::empty(alloc)),
+        Err(_) => Err(LoadError::NoMemory),
+    }
+}
+
+/// The configuration of a folder: that of the `.squawk.toml` in it or in the first folder above it that has one, up to the folder that has
+/// a `.git`; where there is none, the empty one. The folder's name ends in a slash, or is empty for the working directory. At most 64 folders
+/// are looked into.
+pub fn folder_config<F: FileStore>(
+    alloc: Global,
+    files: &mut F,
+    folder: &str,
+) -> Result<Config, LoadError>
+    ensures loaded { IfOk result (IsLoadedIn (F.content files.old) folder.now) }
+    ensures refused { IfErr result (IsRefusedFolder (F.content files.old) (F.faults files.old) (F.faults files.new) folder.now) }
+    ensures kept { KeepsContents (F.content files.old) (F.content files.new) }
+    ensures later { F.faults files.old ≤ F.faults files.new }
+{
+    match found(alloc, files, folder) {
         Ok(Some(name)) => file_config(alloc, files, name.as_str()),
         Ok(None) => Ok(Config::empty(alloc)),
         Err(_) => Err(LoadError::NoMemory),

@@ -36,4 +36,4 @@ returns g c =
     l.invariant None (nothing_left (g.F.FileStore.content c.args.files.now) (most_folders - l._turn) (string_bytes l.folder) none)
 
 pub loop-turn-init : goal.loop-turn-init
-loop-turn-init g c = λ name h. subst (λ (folder : List ℕ). IsFound (g.F.FileStore.content c.args.files.now) most_folders folder name) c.new-folder.ensures.bytes h
+loop-turn-init g c = λ name h. subst (λ (folder : List ℕ). IsFound (g.F.FileStore.content c.args.files.now) most_folders folder name) c.in_ok-folder.ensures.ok h
