@@ -1,3 +1,2 @@
 mod Placing
-mod Settings
 mod Linted

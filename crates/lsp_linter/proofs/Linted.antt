@@ -1,8 +1,9 @@
 -- The reports of a text that has a tree.
 use Rattle.std.proofs.Common.{◌≡◌, ◌∙◌, ℕ, List, ap, refl}
+use Rattle.hazard_base.specs.declared.hazard_set.HazardSet.{HazardSet}
 use Rattle.lint_base.specs.declared.settings.LinterSettings.{LinterSettings}
-use Rattle.lint_base.specs.declared.violation.Violation.{Violation}
 use Rattle.lint_base.specs.RuleSets.{Rules}
+use Rattle.lint_report.specs.declared.report.Report as by
 use Rattle.lsp_report.specs.declared.report.Report.{Report}
 use Rattle.lsp_linter.specs.Shown.{Lints}
 use Rattle.lsp_shown.specs.declared.ignore.Lines.{Lines}
@@ -10,18 +11,18 @@ use Rattle.lsp_shown.specs.Shown.{shown}
 use Rattle.lsp_shown.specs.Tokens.{long_tokens}
 use Rattle.sql_token.specs.declared.token.Tok.{Tok}
 use Rattle.sql_tree.specs.Statement.{IsTree, Tree}
-use Rattle.squawk_linter.specs.Answers.{reports}
+use Rattle.text_reports.specs.Reports.{all_reports}
 
 -- an index of the text, and the lines of its long tokens
-pub shown_same : (index text : List ℕ) (tokens : List Tok) (lines : List Lines) (vs : List Violation) → index ≡ text → lines ≡ long_tokens index tokens
-    → shown index lines vs ≡ shown text (long_tokens text tokens) vs
-shown_same index text tokens lines vs e f = ap (λ (ls : List Lines). shown index ls vs) f ∙ ap (λ (t : List ℕ). shown t (long_tokens t tokens) vs) e
+pub shown_same : (index text : List ℕ) (tokens : List Tok) (lines : List Lines) (rs : List by.Report) → index ≡ text → lines ≡ long_tokens index tokens
+    → shown index lines rs ≡ shown text (long_tokens text tokens) rs
+shown_same index text tokens lines rs e f = ap (λ (ls : List Lines). shown index ls rs) f ∙ ap (λ (t : List ℕ). shown t (long_tokens t tokens) rs) e
 
-pub linted : (tree : Tree) (rules : Rules) (settings : LinterSettings) (text : List ℕ) (tokens : List Tok) (vs : List Violation) (found : List Report) → IsTree tree → text ≡ tree.text → tokens ≡ tree.toks
-    → vs ≡ reports tree rules settings → found ≡ shown text (long_tokens text tokens) vs → Lints rules settings tree.text found
-linted tree rules settings text tokens vs found is e f g h = record {
+pub linted : (tree : Tree) (rules : Rules) (hazards : HazardSet) (settings : LinterSettings) (text : List ℕ) (tokens : List Tok) (rs : List by.Report) (found : List Report) → IsTree tree → text ≡ tree.text → tokens ≡ tree.toks
+    → rs ≡ all_reports tree rules hazards settings → found ≡ shown text (long_tokens text tokens) rs → Lints rules hazards settings tree.text found
+linted tree rules hazards settings text tokens rs found is e f g h = record {
   tree = tree;
   of_text = (refl, is);
-  are = h ∙ ap (λ (t : List ℕ). shown t (long_tokens t tokens) vs) e ∙ ap (λ (ks : List Tok). shown tree.text (long_tokens tree.text ks) vs) f
-      ∙ ap (λ (v : List Violation). shown tree.text (long_tokens tree.text tree.toks) v) g;
+  are = h ∙ ap (λ (t : List ℕ). shown t (long_tokens t tokens) rs) e ∙ ap (λ (ks : List Tok). shown tree.text (long_tokens tree.text ks) rs) f
+      ∙ ap (λ (l : List by.Report). shown tree.text (long_tokens tree.text tree.toks) l) g;
 }

@@ -2,20 +2,21 @@
 use Rattle.std.proofs.Common.{◌≡◌, ℕ, List, Option, None, Some, IfSome, All, subst, sym}
 use Rattle.std.proofs.lemmas.List.Elements.{All-weaker}
 use Rattle.std.specs.Str.{IsCharBoundary, IsUtf8}
-use Rattle.diag_report.specs.Places.{EditIn, EditsIn, RangeIn, ReportIn}
 use Rattle.law_fault_places.proofs.Places.{open_between, syntax_between}
 use Rattle.lint_base.specs.declared.edit.Edit.{Edit}
-use Rattle.lint_base.specs.declared.violation.Violation.{Violation}
-use Rattle.lint_base.specs.Fixes.{FixValue}
 use Rattle.lint_ignore.specs.Places.{IsPlace}
 use Rattle.lint_pass.specs.Laws.{AreEdits}
+use Rattle.lint_report.specs.declared.report.Report.{Report}
+use Rattle.lint_report.specs.declared.report.ReportFix.{ReportFix}
+use Rattle.lsp_shown.specs.Places.{EditIn, FixIn, ReportIn}
 use Rattle.lsp_shown.specs.Tokens.{TokenIn}
+use Rattle.source_file.specs.File.{IsRangeIn}
 use Rattle.sql_token.proofs.Boundaries.{token_between}
 use Rattle.sql_token.specs.declared.token.Tok.{Tok}
 use Rattle.sql_token.specs.Token.{Lexed, OpenAt, Text}
 use Rattle.sql_tree.specs.Statement.{IsSyntaxAt}
-use Rattle.squawk_linter.specs.Placed.{IsPlaced}
 use Rattle.text_pos.specs.Range.{Range}
+use Rattle.text_reports.specs.Placed.{IsReportPlaced}
 
 -- ---- tokens
 
@@ -28,20 +29,20 @@ lexed_of t text toks tokens e f lexed = subst (λ (x : Text). Lexed x tokens) (s
 
 -- ---- reports
 
-range_in : (t : Text) (range : Range) → IsPlace t range → RangeIn t range
-range_in t range place = record { start = place.start; end = place.end }
+range_in : (t : Text) (range : Range) → IsPlace t range → IsRangeIn t range
+range_in t range place = record { ordered = place.ordered; start = place.start; end = place.end }
 
-fix_in : (t : Text) (fix : Option FixValue) → IfSome fix (λ f. AreEdits t f.edits) → IfSome fix (EditsIn t)
+fix_in : (t : Text) (fix : Option ReportFix) → IfSome fix (λ f. AreEdits t f.fix.edits) → IfSome fix (FixIn t)
 fix_in t None h = tt
-fix_in t (Some f) h = All-weaker (λ (e : Edit). IsPlace t e.text_range) (EditIn t) (λ e place. range_in t e.text_range place) f.edits h.places
+fix_in t (Some f) h = All-weaker (λ (e : Edit). IsPlace t e.text_range) (EditIn t) (λ e place. range_in t e.text_range place) f.fix.edits h.places
 
-report_in : (t : Text) (v : Violation) → IsPlaced t v → ReportIn t v
-report_in t v placed = record { range = range_in t v.text_range placed.range; fix = fix_in t v.fix placed.edits }
+report_in : (t : Text) (r : Report) → IsReportPlaced t r → ReportIn t r
+report_in t r placed = record { range = range_in t r.text_range placed.range; fix = fix_in t r.fix placed.edits }
 
-pub reports_in : (t : Text) (reports : List Violation) → All (IsPlaced t) reports → All (ReportIn t) reports
-reports_in t reports placed = All-weaker (IsPlaced t) (ReportIn t) (report_in t) reports placed
+pub reports_in : (t : Text) (reports : List Report) → All (IsReportPlaced t) reports → All (ReportIn t) reports
+reports_in t reports placed = All-weaker (IsReportPlaced t) (ReportIn t) (report_in t) reports placed
 
-pub reports_of : (t text : Text) (reports : List Violation) → text ≡ t → All (IsPlaced t) reports → All (ReportIn text) reports
+pub reports_of : (t text : Text) (reports : List Report) → text ≡ t → All (IsReportPlaced t) reports → All (ReportIn text) reports
 reports_of t text reports e placed = subst (λ (x : Text). All (ReportIn x) reports) (sym e) (reports_in t reports placed)
 
 -- ---- faults

@@ -1,5 +1,6 @@
 -- Which reports a text has for an editor.
 use Rattle.std.specs.Prelude.{◌≡◌, ◌⊎◌, ℕ, List, [], ◌∷◌, Option, Some, None, codes}
+use Rattle.hazard_base.specs.declared.hazard_set.HazardSet.{HazardSet}
 use Rattle.lint_base.specs.RuleSets.{Rules}
 use Rattle.lint_base.specs.declared.settings.LinterSettings.{LinterSettings}
 use Rattle.lsp_report.specs.declared.report.Report.{Report}
@@ -9,16 +10,17 @@ use Rattle.sql_read.specs.Cause.{IsCause, IsTreeOf}
 use Rattle.sql_read.specs.declared.error.LintError.{LintError}
 use Rattle.sql_read.specs.declared.error.LintError.TheVariants.{TooLong, Unterminated, Syntax, NoMemory}
 use Rattle.sql_tree.specs.Statement.{Tree}
-use Rattle.squawk_linter.specs.Answers.{reports}
+use Rattle.text_reports.specs.Reports.{all_reports}
 use Rattle.text_utf16.specs.Position.{position_of}
 use Rattle.text_utf16.specs.declared.position.Pos.{Pos}
 
--- a text with a tree, and the linter's reports of it at positions
-pub record Lints (rules : Rules) (settings : LinterSettings) (t : List ℕ) (found : List Report) : Type 0 where
+-- a text with a tree, and all that is reported of it, at positions
+pub record Lints (rules : Rules) (hazards : HazardSet) (settings : LinterSettings) (t : List ℕ) (found : List Report) : Type 0 where
   pub tree : Tree
   pub of_text : IsTreeOf t tree
-  pub are : found ≡ shown t (long_tokens t tree.toks) (reports tree rules settings)
+  pub are : found ≡ shown t (long_tokens t tree.toks) (all_reports tree rules hazards settings)
 
+-- where a text begins
 abbrev pub start : Pos
 start = record { line = 0; col = 0 }
 
@@ -38,9 +40,5 @@ pub record Refuses (t : List ℕ) (found : List Report) : Type 0 where
   pub are : found ≡ report ∷ []
 
 -- the reports of a text
-abbrev pub Shows : Rules → LinterSettings → List ℕ → List Report → Type 0
-Shows rules settings t found = Lints rules settings t found ⊎ Refuses t found
-
--- the settings are as before, but for the flag
-abbrev pub SameButFlag : LinterSettings → LinterSettings → Type 0
-SameButFlag old new = record new { assume_in_transaction = old.assume_in_transaction } ≡ old
+abbrev pub Shows : Rules → HazardSet → LinterSettings → List ℕ → List Report → Type 0
+Shows rules hazards settings t found = Lints rules hazards settings t found ⊎ Refuses t found

@@ -1,6 +1,6 @@
 //! The linter as what finds the reports of a text for a language server.
 //!
-//! `specs/Shown.antt` says which reports a text has: those of the linter, or one where the text is refused.
+//! `specs/Shown.antt` says which reports a text has: those of rules and hazards, or one where the text is refused.
 #![tactic(auto)]
 
 mod linting;

@@ -1,8 +1,8 @@
 //! The reports of a text.
 ghost use Rattle.std.specs.Prelude.{◌≡◌, ◌<◌, ◌^◌, ◌∷◌, [], All, IfErr, IfOk, Some, length};
-ghost use Rattle.diag_report.specs.Places.{ReportIn};
 ghost use Rattle.lsp_linter.specs.Shown as spec;
-ghost use Rattle.lsp_linter.specs.Shown.{Lints, Refuses, SameButFlag, Shows};
+ghost use Rattle.lsp_linter.specs.Shown.{Lints, Refuses, Shows};
+ghost use Rattle.lsp_shown.specs.Places.{ReportIn};
 ghost use Rattle.lsp_shown.specs.Shown.{shown};
 ghost use Rattle.lsp_shown.specs.Tokens.{long_tokens};
 ghost use Rattle.sql_read.specs.Cause.{IsCause};
@@ -10,15 +10,14 @@ ghost use Rattle.sql_token.specs.Token.{Lexed};
 ghost use Rattle.std.specs.Str.{IsCharBoundary};
 ghost use Rattle.text_utf16.specs.Position.{position_of};
 
-use lint_base::Violation;
 use lsp_report::Report;
 use lsp_shown::{long_tokens, refused_at, shown};
 use sql_read::{LintError, parse};
 use sql_token::Tok;
 use sql_tree::Parse;
-use squawk_linter::Linter;
 use std::alloc::Global;
 use text_pos::{NoMemory, TextSize};
+use text_reports::{TextLinter, find_reports};
 use text_utf16::{Pos, PosIndex};
 
 // Reports of a text with these tokens, at positions.
@@ -26,7 +25,7 @@ fn shown_of(
     alloc: Global,
     text: &str,
     tokens: &[Tok],
-    reports: Vec<Violation>,
+    reports: Vec<lint_report::Report>,
 ) -> Result<Vec<Report>, NoMemory>
     requires short { length text.now < 2 ^ 32 }
     requires tokens { Lexed text.now tokens.now }
@@ -38,16 +37,18 @@ fn shown_of(
     shown(alloc, &index, long.as_slice(), reports)
 }
 
-// The reports of a text that has a tree. The flag of the linter may be cleared.
-#[tactic(auto, using(crate::proofs::Settings::same_cleared))]
-fn lint_tree(alloc: Global, linter: &mut Linter, file: &Parse<'_>) -> Result<Vec<Report>, NoMemory>
-    ensures lints { IfOk result (λ found. Lints linter.old.rules linter.old.settings file.now.text found.items) }
-    ensures rules { linter.new.rules ≡ linter.old.rules }
-    ensures settings { SameButFlag linter.old.settings linter.new.settings }
+// The reports of a text that has a tree.
+fn lint_tree(
+    alloc: Global,
+    linter: &mut TextLinter,
+    file: &Parse<'_>,
+) -> Result<Vec<Report>, NoMemory>
+    ensures lints { IfOk result (λ found. Lints linter.old.linter.rules linter.old.hazards linter.old.linter.settings file.now.text found.items) }
+    ensures same { linter.new ≡ linter.old }
 {
     let text = file.text();
     let tokens = file.tokens();
-    let reports = linter.lint(alloc, file)?;
+    let reports = find_reports(alloc, linter, file)?;
     shown_of(alloc, text, tokens, reports)
 }
 
@@ -102,27 +103,18 @@ fn refusals_of(alloc: Global, text: &str, error: LintError) -> Result<Vec<Report
     alone(alloc, report)
 }
 
-// The reports of a text. The flag of the linter may be cleared.
-#[tactic(auto, using(crate::proofs::Settings::same_kept))]
-fn reports_of(alloc: Global, linter: &mut Linter, text: &str) -> Result<Vec<Report>, NoMemory>
-    ensures shows { IfOk result (λ found. Shows linter.old.rules linter.old.settings text.now found.items) }
-    ensures rules { linter.new.rules ≡ linter.old.rules }
-    ensures settings { SameButFlag linter.old.settings linter.new.settings }
+/// The reports of a text: those of rules and hazards, or one where the text is refused. The linter stays as it was. The error comes when
+/// memory runs out.
+pub fn check_text(
+    alloc: Global,
+    linter: &mut TextLinter,
+    text: &str,
+) -> Result<Vec<Report>, NoMemory>
+    ensures shows { IfOk result (λ found. Shows linter.old.linter.rules linter.old.hazards linter.old.linter.settings text.now found.items) }
+    ensures same { linter.new ≡ linter.old }
 {
     match parse(alloc, text) {
         Ok(file) => lint_tree(alloc, linter, &file),
         Err(error) => refusals_of(alloc, text, error),
     }
-}
-
-/// The reports of a text: those of the linter, which is left as it was, or one where the text is refused. The error comes when memory runs
-/// out.
-pub fn check_text(alloc: Global, linter: &mut Linter, text: &str) -> Result<Vec<Report>, NoMemory>
-    ensures shows { IfOk result (λ found. Shows linter.old.rules linter.old.settings text.now found.items) }
-    ensures same { linter.new ≡ linter.old }
-{
-    let assumed = linter.settings.assume_in_transaction;
-    let found = reports_of(alloc, linter, text);
-    linter.settings.assume_in_transaction = assumed;
-    found
 }

@@ -9,11 +9,11 @@ shown_of-requires-clause-tokens c =
 
 pub shown_of-requires-clause-reports : goal.shown_of-requires-clause-reports
 shown_of-requires-clause-reports c =
-    reports_of c.args.file.now.text c.text-text.result.now c.in_ok-reports.reports.items c.text-text.ensures.value c.in_ok-reports.ensures.places
+    reports_of c.args.file.now.text c.text-text.result.now c.in_ok-reports.reports.items c.text-text.ensures.value c.in_ok-reports.ensures.placed
 
 pub returns-clause-lints : goal.returns-clause-lints
 returns-clause-lints c =
     IfOk-weaker c.shown_of.result _ _
-    (λ found h. linted c.args.file.now c.args.linter.now.rules c.args.linter.now.settings c.text-text.result.now c.tokens-tokens.result.now c.in_ok-reports.reports.items found.items
-    c.text-text.ensures.tree c.text-text.ensures.value c.tokens-tokens.ensures.value c.in_ok-reports.ensures.ok h)
+    (λ found h. linted c.args.file.now c.args.linter.now.linter.rules c.args.linter.now.hazards c.args.linter.now.linter.settings c.text-text.result.now c.tokens-tokens.result.now c.in_ok-reports.reports.items found.items
+    c.text-text.ensures.tree c.text-text.ensures.value c.tokens-tokens.ensures.value c.in_ok-reports.ensures.reports h)
     c.shown_of.ensures

@@ -1,12 +1,12 @@
 use Rattle.std.proofs.Common.{List, ℕ, inl, inr, subst}
 use Rattle.std.proofs.lemmas.Result.{IfOk-weaker}
 use Rattle.lsp_linter.specs.Shown.{Lints}
-use Rattle.lsp_linter.proofs.text.reports_of.Goals as goal
+use Rattle.lsp_linter.proofs.text.check_text.Goals as goal
 
 pub returns-in-Ok-clause-shows : goal.returns-in-Ok-clause-shows
 returns-in-Ok-clause-shows c =
     IfOk-weaker c.lint_tree.result _ _
-    (λ found h. inl (subst (λ (t : List ℕ). Lints c.args.linter.now.rules c.args.linter.now.settings t found.items) c.in-Ok.ensures.ok.0 h))
+    (λ found h. inl (subst (λ (t : List ℕ). Lints c.args.linter.now.linter.rules c.args.linter.now.hazards c.args.linter.now.linter.settings t found.items) c.in-Ok.ensures.ok.0 h))
     c.lint_tree.ensures.lints
 
 pub returns-in-Err-clause-shows : goal.returns-in-Err-clause-shows
