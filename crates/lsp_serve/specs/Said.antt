@@ -29,6 +29,13 @@ pub record AreSaidTo (Shows : List ℕ → List Report → Type 0) (messages : L
   pub answered : all_answered replies ≡ all_asked messages
   pub told : (uri : List ℕ) → TellsNow Shows None (document_behind Fresh messages uri None) (last_told uri replies)
 
+-- These messages of a client are taken for those, one by one, and the checker becomes the other.
+unfoldable pub AreTaken : {C : Type 0} → (Stage → Message → Message → C → C → Type 0) → Stage → List Message → List Message → C → C → Type 0
+AreTaken Takes stage [] [] old new = new ≡ old
+AreTaken Takes stage [] (t ∷ ts) old new = ⊥
+AreTaken Takes stage (m ∷ ms) [] old new = ⊥
+AreTaken {C} Takes stage (m ∷ ms) (t ∷ ts) old new = (mid : C) × Takes stage m t old mid × AreTaken Takes (stage_after stage t) ms ts mid new
+
 -- The session has not ended.
 abbrev pub IsOpen : Stage → Type 0
 IsOpen stage = exit_at stage ≡ None

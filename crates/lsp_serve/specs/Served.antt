@@ -9,7 +9,7 @@ use Rattle.lsp_message.specs.declared.message.Message.{Message}
 use Rattle.lsp_message.specs.declared.reply.Reply.{Reply}
 use Rattle.lsp_read.specs.Message.{message_of}
 use Rattle.lsp_report.specs.declared.report.Report.{Report}
-use Rattle.lsp_serve.specs.Said.{AreSaidTo, IsOpen, IsOpenBefore, all_bytes}
+use Rattle.lsp_serve.specs.Said.{AreSaidTo, AreTaken, IsOpen, IsOpenBefore, all_bytes}
 use Rattle.lsp_serve.specs.declared.end.End.{End}
 use Rattle.lsp_serve.specs.declared.end.End.TheVariants.{Exited, EndOfInput, BadFrame, CutOff, ReadFault, WriteFault, NoMemory}
 use Rattle.lsp_session.specs.Conversation.{stage_behind}
@@ -75,14 +75,18 @@ WroteFor ReadFault old new bytes = Appends old.held new.held bytes
 WroteFor WriteFault old new bytes = AppendsPart old.held new.held bytes
 WroteFor NoMemory old new bytes = Appends old.held new.held bytes
 
--- What a server did: the messages that it heard are those of the frames of the input, in turn; the session was open before each of them; the
--- replies are what is said to them; and the sink has their frames.
-pub record Served (Shows : List ℕ → List Report → Type 0) (input : Option (List ℕ)) (old new : Streams) (end : End) : Type 0 where
+-- What a server did: the messages that it heard are those of the frames of the input, in turn; it took them for these, and its checker became
+-- the last one; the session was open before each of them; the replies are what is said to them, with the reports that the last checker shows;
+-- and the sink has their frames.
+pub record Served {C : Type 0} (Shows : C → List ℕ → List Report → Type 0) (Takes : Stage → Message → Message → C → C → Type 0) (first : C) (input : Option (List ℕ)) (old new : Streams) (end : End) : Type 0 where
+  pub last : C
+  pub heard : List Message
   pub messages : List Message
   pub replies : List Reply
   pub rest : Option (List ℕ)
-  pub read : AreRead input messages rest
+  pub read : AreRead input heard rest
+  pub taken : AreTaken Takes Fresh heard messages first last
   pub open_before : IsOpenBefore Fresh messages
-  pub said : AreSaidTo Shows messages replies
+  pub said : AreSaidTo (Shows last) messages replies
   pub wrote : WroteFor end old new (all_bytes replies)
   pub cause : EndsFor end (stage_behind Fresh messages) rest old new

@@ -3,6 +3,7 @@ ghost use Rattle.std.specs.Prelude.{◌≡◌, ◌≤◌, IfErr, IfOk, OnOk};
 ghost use Rattle.std.specs.Io.KnownBytes.{Appends};
 ghost use Rattle.lsp_read.specs.Message.{message_of};
 ghost use Rattle.lsp_serve.specs.Said.{said_bytes};
+ghost use Rattle.lsp_session.specs.Entry.{IsTakenAs};
 ghost use Rattle.lsp_serve.specs.Turns.{Hears, Responds, StopsResponding, StopsSaying};
 
 use crate::end::End;
@@ -10,7 +11,7 @@ use lsp_frame::push_frame;
 use lsp_message::Reply;
 use lsp_read::read_message;
 use lsp_report::Checker;
-use lsp_session::Session;
+use lsp_session::{Enter, Session};
 use lsp_write::write_reply;
 use squawk_stream::{Sink, write_all};
 use std::alloc::Global;
@@ -44,27 +45,28 @@ fn write_said<K: Sink>(alloc: Global, said: &Option<Reply>, out: &mut K) -> Resu
 }
 
 // Hears the message that a content is.
-fn hear<C: Checker>(
+fn hear<C: Checker + Enter>(
     alloc: Global,
     session: &mut Session<C>,
     content: &[u8],
 ) -> Result<Option<Reply>, NoMemory>
-    ensures { IfOk result (Hears (C.shows session.old.checker) session.old session.new (message_of content.now)) }
+    ensures { IfOk result (Hears C.shows (IsTakenAs C.enters C.refuses) session.old session.new (message_of content.now)) }
 {
-    let message = read_message(alloc, content)?;
+    let heard = read_message(alloc, content)?;
+    let message = session.take(heard)?;
     let said = session.step(message)?;
     Ok(said)
 }
 
 /// Hears the message that a content is, and writes what is said to it. The error is `WriteFault` or `NoMemory`.
-pub(crate) fn respond<C: Checker, K: Sink>(
+pub(crate) fn respond<C: Checker + Enter, K: Sink>(
     alloc: Global,
     session: &mut Session<C>,
     content: &[u8],
     out: &mut K,
 ) -> Result<(), End>
-    ensures done { OnOk result (Responds (C.shows session.old.checker) session.old session.new (message_of content.now) (K.held out.old) (K.held out.new)) }
-    ensures stop { IfErr result (λ end. StopsResponding end (C.shows session.old.checker) session.old session.new (message_of content.now)
+    ensures done { OnOk result (Responds C.shows (IsTakenAs C.enters C.refuses) session.old session.new (message_of content.now) (K.held out.old) (K.held out.new)) }
+    ensures stop { IfErr result (λ end. StopsResponding end C.shows (IsTakenAs C.enters C.refuses) session.old session.new (message_of content.now)
         (K.held out.old) (K.held out.new) (K.faults out.old) (K.faults out.new)) }
     ensures later { K.faults out.old ≤ K.faults out.new }
 {

@@ -3,6 +3,7 @@ ghost use Rattle.std.specs.Prelude.{◌≡◌, ◌≤◌, ℕ, List, None, IfErr
 ghost use Rattle.lsp_frame.specs.Reading.{coming};
 ghost use Rattle.lsp_serve.specs.Served.{Served};
 ghost use Rattle.lsp_serve.specs.Turns.{StopsTurn, TakesTurn};
+ghost use Rattle.lsp_session.specs.Entry.{IsTakenAs};
 ghost use Rattle.lsp_session.specs.Session.{document_of};
 ghost use Rattle.lsp_session.specs.declared.stage.Stage.TheVariants.{Fresh};
 
@@ -10,24 +11,24 @@ use crate::end::{End, end_of, exit_at};
 use crate::respond::respond;
 use lsp_frame::Frames;
 use lsp_report::Checker;
-use lsp_session::Session;
+use lsp_session::{Enter, Session};
 use squawk_stream::{Sink, Source};
 use std::alloc::Global;
 use text_pos::NoMemory;
 
 // Reads the next message, and writes what is said to it.
-fn take_turn<C: Checker, S: Source, K: Sink>(
+fn take_turn<C: Checker + Enter, S: Source, K: Sink>(
     alloc: Global,
     session: &mut Session<C>,
     frames: &mut Frames,
     source: &mut S,
     out: &mut K,
 ) -> Result<(), End>
-    ensures done { OnOk result (TakesTurn (C.shows session.old.checker) session.old session.new
+    ensures done { OnOk result (TakesTurn C.shows (IsTakenAs C.enters C.refuses) session.old session.new
         (coming frames.old (S.left source.old)) (coming frames.new (S.left source.new))
         (record { read_faults = S.faults source.old; held = K.held out.old; write_faults = K.faults out.old })
         (record { read_faults = S.faults source.new; held = K.held out.new; write_faults = K.faults out.new })) }
-    ensures stop { IfErr result (λ end. StopsTurn end (C.shows session.old.checker) session.old session.new
+    ensures stop { IfErr result (λ end. StopsTurn end C.shows (IsTakenAs C.enters C.refuses) session.old session.new
         (coming frames.old (S.left source.old)) (coming frames.new (S.left source.new))
         (record { read_faults = S.faults source.old; held = K.held out.old; write_faults = K.faults out.old })
         (record { read_faults = S.faults source.new; held = K.held out.new; write_faults = K.faults out.new })) }
@@ -42,7 +43,7 @@ fn take_turn<C: Checker, S: Source, K: Sink>(
 }
 
 // Takes turns until the server ends.
-fn serve_all<C: Checker, S: Source, K: Sink>(
+fn serve_all<C: Checker + Enter, S: Source, K: Sink>(
     alloc: Global,
     session: &mut Session<C>,
     frames: &mut Frames,
@@ -51,7 +52,7 @@ fn serve_all<C: Checker, S: Source, K: Sink>(
 ) -> End
     requires fresh { session.old.stage ≡ Fresh }
     requires none { (uri : List ℕ) → document_of uri session.old ≡ None }
-    ensures { Served (C.shows session.old.checker)
+    ensures { Served C.shows (IsTakenAs C.enters C.refuses) session.old.checker
         (coming frames.old (S.left source.old))
         (record { read_faults = S.faults source.old; held = K.held out.old; write_faults = K.faults out.old })
         (record { read_faults = S.faults source.new; held = K.held out.new; write_faults = K.faults out.new })
@@ -71,16 +72,16 @@ fn serve_all<C: Checker, S: Source, K: Sink>(
 }
 
 /// Serves a new session: reads messages from a source, and writes to a sink what is said to them, until the client asks to exit, the input
-/// ends, or something fails. Reports are those of the checker.
+/// ends, or something fails. Reports are those of the checker, which is entered at the root of the workspace when the client begins.
 ///
 /// A message is answered before the next one is read, so there is never a request to cancel. `specs/Served.antt` says what was done by then.
-pub fn serve<C: Checker + Drop, S: Source, K: Sink>(
+pub fn serve<C: Checker + Enter + Drop, S: Source, K: Sink>(
     alloc: Global,
     checker: C,
     source: &mut S,
     out: &mut K,
 ) -> End
-    ensures { Served (C.shows checker)
+    ensures { Served C.shows (IsTakenAs C.enters C.refuses) checker
         (S.left source.old)
         (record { read_faults = S.faults source.old; held = K.held out.old; write_faults = K.faults out.old })
         (record { read_faults = S.faults source.new; held = K.held out.new; write_faults = K.faults out.new })

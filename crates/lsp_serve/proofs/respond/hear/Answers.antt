@@ -1,10 +1,17 @@
 use Rattle.std.proofs.Common.{subst}
 use Rattle.lsp_message.specs.declared.message.Message.{Message}
 use Rattle.lsp_serve.specs.Turns.{Hears}
+use Rattle.lsp_serve.proofs.Hearing.{heard_as}
+use Rattle.lsp_session.specs.Entry.{IsTakenAs}
 use Rattle.lsp_serve.proofs.respond.hear.Goals as goal
 
 pub returns : goal.returns
 returns g c =
+    let take = c.in_ok-message.ensures in
     let step = c.in_ok-said.ensures in
-    subst (λ (m : Message). Hears (g.C.Checker.shows c.args.session.now.checker) c.args.session.now c.step.new.self m c.in_ok-said.said) c.in_ok-message.ensures
-    (record { checker = step.checker; stage = step.stage; documents = step.documents; told = step.told; answered = step.answered })
+    let shows = g.C.Checker.shows in
+    let enters = g.C.Enter.enters in
+    let refuses = g.C.Enter.refuses in
+    subst (λ (m : Message). Hears shows (IsTakenAs enters refuses) c.args.session.now c.step.new.self m c.in_ok-said.said) c.in_ok-heard.ensures
+    (heard_as enters refuses shows c.args.session.now c.take.new.self c.step.new.self c.in_ok-heard.heard c.in_ok-message.message c.in_ok-said.said
+    take.taken take.stage take.documents step.checker step.stage step.documents step.told step.answered step.silent)
