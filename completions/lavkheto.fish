@@ -46,9 +46,10 @@ complete -c lavkheto -n '__fish_seen_subcommand_from gate' -l pg-patch -x -d 'it
 complete -c lavkheto -n '__fish_seen_subcommand_from gate' -l help -d 'this help'
 complete -c lavkheto -n '__fish_seen_subcommand_from explain' -k -a "$__lavkheto_rules"
 complete -c lavkheto -n '__fish_seen_subcommand_from explain' -l help -d 'this help'
-complete -c lavkheto -n '__fish_seen_subcommand_from server' -l only -x -a '(__lavkheto_list)' -d 'exactly these rules, with commas between them'
-complete -c lavkheto -n '__fish_seen_subcommand_from server' -l include -x -a '(__lavkheto_list)' -d 'these rules too'
-complete -c lavkheto -n '__fish_seen_subcommand_from server' -l exclude -x -a '(__lavkheto_list)' -d 'without these rules'
+complete -c lavkheto -n '__fish_seen_subcommand_from server' -l only -x -a '(__lavkheto_list)' -d 'exactly these rules and hazards, with commas between them'
+complete -c lavkheto -n '__fish_seen_subcommand_from server' -l include -x -a '(__lavkheto_list)' -d 'these rules and hazards too'
+complete -c lavkheto -n '__fish_seen_subcommand_from server' -l exclude -x -a '(__lavkheto_list)' -d 'without these rules and hazards'
+complete -c lavkheto -n '__fish_seen_subcommand_from server' -l no-hazards -d 'Squawk\'s rules alone'
 complete -c lavkheto -n '__fish_seen_subcommand_from server' -l non-volatile -x -d 'functions that count as not volatile'
 complete -c lavkheto -n '__fish_seen_subcommand_from server' -l assume-in-transaction -d 'the migration runs in a transaction that was begun before it'
 complete -c lavkheto -n '__fish_seen_subcommand_from server' -l pg-major -x -d 'the version of PostgreSQL (default: 15)'

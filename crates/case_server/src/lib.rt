@@ -66,12 +66,12 @@ fn lines_of(alloc: Global, output: &[u8]) -> Result<Vec<u8>, Fault> {
 /// A talk with these words, the first of which is `server`.
 pub fn served(alloc: Global, words: &[String], text: &[u8]) -> Result<Answer, Fault> {
     let words = words_of(alloc, words)?;
-    let (talk, mut files) = read_files(alloc, text)?;
+    let (talk, files) = read_files(alloc, text)?;
     let input = input_of(alloc, talk.as_slice())?;
     let mut src = SliceSource::new(input.as_slice());
     let mut out = MemSink::new(alloc, ROOM, &[])?;
     let mut err = MemSink::new(alloc, ROOM, &[])?;
-    let outcome = run(alloc, &words, &mut files, &mut src, &mut out, &mut err);
+    let outcome = run(alloc, &words, files, &mut src, &mut out, &mut err);
     Ok(Answer {
         status: outcome.code(),
         out: lines_of(alloc, out.bytes())?,

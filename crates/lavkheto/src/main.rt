@@ -62,11 +62,11 @@ fn gate(rt: &HostRuntime, words: &Words) -> u8 {
 
 // A run of `server`. The exit status.
 fn serve(rt: &HostRuntime, words: &Words) -> u8 {
-    let mut files = SystemFiles::new(rt);
+    let files = SystemFiles::new(rt);
     let mut src = StdSource::new(rt.stdin());
     let mut out = StdSink::new(rt.stdout());
     let mut err = StdSink::new(rt.stderr());
-    let outcome = server_command::run(rt.alloc(), words, &mut files, &mut src, &mut out, &mut err);
+    let outcome = server_command::run(rt.alloc(), words, files, &mut src, &mut out, &mut err);
     outcome.code()
 }
 

@@ -10,10 +10,6 @@ use Rattle.server_command.specs.declared.outcome.Outcome.TheVariants.{Printed, S
 use Rattle.squawk_run.specs.declared.stop.Stop.TheVariants as stop
 use Rattle.squawk_run.specs.Stops as stops
 
-abbrev pub failure_code : Failure → ℕ
-failure_code (Stop why) = stops.code_of why
-failure_code (Config line) = 2
-
 abbrev pub failure_line : Failure → List ℕ
 failure_line (Stop why) = stops.line_of why
 failure_line (Config line) = line.items
@@ -22,15 +18,15 @@ failure_line (Config line) = line.items
 abbrev pub code_of : Outcome → ℕ
 code_of Printed = 0
 code_of (Served end) = ends.code_of end
-code_of (Failed failure) = failure_code failure
+code_of (Failed why) = stops.code_of why
 
 -- the line of an outcome on the error sink
 abbrev pub line_of : Outcome → List ℕ
 line_of Printed = []
 line_of (Served end) = ends.line_of end
-line_of (Failed failure) = failure_line failure
+line_of (Failed why) = stops.line_of why
 
--- the failure of a run that has no configuration
+-- the failure of a workspace that has no configuration
 abbrev pub failure_of : LoadError → Failure
 failure_of (load.Refused line) = Config line
 failure_of load.NoMemory = Stop stop.NoMemory

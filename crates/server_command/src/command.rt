@@ -9,8 +9,8 @@ ghost use Rattle.squawk_stream.specs.Parts.{AppendsPart};
 
 use crate::asked::asks_for_help;
 use crate::help::HELP;
-use crate::outcome::{Failure, Outcome};
-use crate::settled::settled;
+use crate::outcome::Outcome;
+use crate::rooted::first_linter;
 use file_store::FileStore;
 use lsp_serve::serve;
 use squawk_run::Stop;
@@ -24,48 +24,44 @@ fn write_help<K: Sink>(out: &mut K) -> Outcome
 {
     match write_all(out, HELP.as_bytes()) {
         Ok(()) => Outcome::Printed,
-        Err(_) => Outcome::Failed(Failure::Stop(Stop::WriteFault)),
+        Err(_) => Outcome::Failed(Stop::WriteFault),
     }
 }
 
 // Serves with the linter that the words choose.
-fn serve_words<F: FileStore, S: Source, K: Sink>(
+fn serve_words<F: FileStore + Drop, S: Source, K: Sink>(
     alloc: Global,
     words: &Words,
-    files: &mut F,
+    files: F,
     src: &mut S,
     out: &mut K,
 ) -> Outcome
-    ensures { HasRunFor (drop 1 words.now)
+    ensures { HasRunFor F.content F.faults (drop 1 words.now)
         (record {
-          content = F.content files.old;
-          files_before = F.faults files.old;
-          files_now = F.faults files.new;
+          files = files;
           input = S.left src.old;
           old = record { read_faults = S.faults src.old; held = K.held out.old; write_faults = K.faults out.old };
           new = record { read_faults = S.faults src.new; held = K.held out.new; write_faults = K.faults out.new };
         })
         result }
 {
-    match settled(alloc, words, files) {
-        Ok(linting) => Outcome::Served(serve(alloc, linting, src, out)),
-        Err(failure) => Outcome::Failed(failure),
+    match first_linter(alloc, words, files) {
+        Ok(checker) => Outcome::Served(serve(alloc, checker, src, out)),
+        Err(stop) => Outcome::Failed(stop),
     }
 }
 
 // All of a run but the line on the error sink.
-fn work<F: FileStore, S: Source, K: Sink>(
+fn work<F: FileStore + Drop, S: Source, K: Sink>(
     alloc: Global,
     words: &Words,
-    files: &mut F,
+    files: F,
     src: &mut S,
     out: &mut K,
 ) -> Outcome
-    ensures { HasRun (asks_for_help words.now) HELP.now (drop 1 words.now)
+    ensures { HasRun F.content F.faults (asks_for_help words.now) HELP.now (drop 1 words.now)
         (record {
-          content = F.content files.old;
-          files_before = F.faults files.old;
-          files_now = F.faults files.new;
+          files = files;
           input = S.left src.old;
           old = record { read_faults = S.faults src.old; held = K.held out.old; write_faults = K.faults out.old };
           new = record { read_faults = S.faults src.new; held = K.held out.new; write_faults = K.faults out.new };
@@ -80,19 +76,17 @@ fn work<F: FileStore, S: Source, K: Sink>(
 
 /// Does what the words after the program's name ask for, where the first one is `server`: serves from `src` to `out`, or prints to `out`.
 /// Why it ended goes to `err` where it did not end in good order, and a failure there changes nothing else.
-pub fn run<F: FileStore, S: Source, K: Sink, E: Sink>(
+pub fn run<F: FileStore + Drop, S: Source, K: Sink, E: Sink>(
     alloc: Global,
     words: &Words,
-    files: &mut F,
+    files: F,
     src: &mut S,
     out: &mut K,
     err: &mut E,
 ) -> Outcome
-    ensures run { HasRun (asks_for_help words.now) HELP.now (drop 1 words.now)
+    ensures run { HasRun F.content F.faults (asks_for_help words.now) HELP.now (drop 1 words.now)
         (record {
-          content = F.content files.old;
-          files_before = F.faults files.old;
-          files_now = F.faults files.new;
+          files = files;
           input = S.left src.old;
           old = record { read_faults = S.faults src.old; held = K.held out.old; write_faults = K.faults out.old };
           new = record { read_faults = S.faults src.new; held = K.held out.new; write_faults = K.faults out.new };

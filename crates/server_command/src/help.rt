@@ -6,12 +6,14 @@ pub const HELP: &str =
 
 Usage: lavkheto server [OPTIONS]
 
-It shows what lavkheto check finds in each open document, with what is to be known of it and how to mend it. A .squawk.toml in this folder
-or one above it, up to the repository's, counts as it does for lavkheto check.
+It shows what lavkheto check finds in each open document, with what is to be known of it and how to mend it. A .squawk.toml in the root of
+the workspace that the editor names, or else in this folder, or in one above it, up to the repository's, counts as it does for lavkheto check.
+Where it is refused, the editor is told why, and nothing is shown.
 
-  --only RULES             exactly these rules, with commas between them
-  --include RULES          these rules too
-  --exclude RULES          without these rules
+  --only RULES             exactly these rules and hazards, with commas between them
+  --include RULES          these rules and hazards too
+  --exclude RULES          without these rules and hazards
+  --no-hazards             Squawk's rules alone
   --non-volatile NAMES     functions that count as not volatile
   --assume-in-transaction  the migration runs in a transaction that was begun before it
   --pg-major N             the version of PostgreSQL (default: 15)
@@ -20,6 +22,6 @@ or one above it, up to the repository's, counts as it does for lavkheto check.
 
   --help                   this help
 
-Status: 0 the client asked to shut down, and then to exit; 1 it ended without asking; 2 the words or the configuration are not accepted;
+Status: 0 the client asked to shut down, and then to exit; 1 it ended without asking; 2 the words are not accepted;
 3 the input has no header; 4 a message is too long or cut off; 5 a read failed; 6 a write failed; 7 out of memory.
 ";

@@ -6,7 +6,7 @@ use config_file::LoadError;
 use lsp_serve::End;
 use squawk_run::Stop;
 
-/// Why a run serves nothing.
+/// Why the linter of a workspace is not settled.
 #[derive(Debug, Drop)]
 pub enum Failure {
     /// A stop that every program has.
@@ -23,22 +23,12 @@ pub enum Outcome {
     /// It served, and this is how that ended.
     Served(End),
     /// It served nothing.
-    Failed(Failure),
+    Failed(Stop),
 }
 
 impl Failure {
-    // The exit status of the program.
-    fn code(&self) -> u8
-        ensures { result ≡ spec.failure_code self.now }
-    {
-        match self {
-            Failure::Stop(stop) => stop.code(),
-            Failure::Config(_) => 2,
-        }
-    }
-
-    // The line that is written to the error sink.
-    fn line(&self) -> &[u8]
+    /// The line that says why, with its line feed.
+    pub(crate) fn line(&self) -> &[u8]
         ensures { result.now ≡ spec.failure_line self.now }
     {
         match self {
@@ -56,7 +46,7 @@ impl Outcome {
         match self {
             Outcome::Printed => 0,
             Outcome::Served(end) => end.code(),
-            Outcome::Failed(failure) => failure.code(),
+            Outcome::Failed(stop) => stop.code(),
         }
     }
 
@@ -67,12 +57,12 @@ impl Outcome {
         match self {
             Outcome::Printed => b"",
             Outcome::Served(end) => end.line().as_bytes(),
-            Outcome::Failed(failure) => failure.line(),
+            Outcome::Failed(stop) => stop.line().as_bytes(),
         }
     }
 }
 
-// The failure of a run that has no configuration.
+// The failure of a workspace that has no configuration.
 pub(crate) fn failure_of(error: LoadError) -> Failure
     ensures { result ≡ spec.failure_of error }
 {

@@ -1,8 +1,10 @@
 //! A talk with a server, and a checker for it.
 ghost use Rattle.std.specs.Prelude.{◌≡◌, []};
 
+use lint_base::Text;
 use lsp_report::{Checker, Report};
 use lsp_serve::{End, serve};
+use lsp_session::Enter;
 use squawk_stream::{MemSink, MemSource};
 use std::alloc::{AllocError, Global};
 use std::process::Abort;
@@ -38,6 +40,16 @@ impl Checker for Silent {
 
     fn check(&mut self, alloc: Global, _text: &str) -> Result<Vec<Report>, NoMemory> {
         Ok(Vec::new(alloc))
+    }
+}
+
+impl Enter for Silent {
+    ghost enters = { λ old _ new. new ≡ old };
+
+    ghost refuses = { λ _ _ _ _. ⊥ };
+
+    fn enter(&mut self, _alloc: Global, _root: &Option<Text>) -> Result<Option<Text>, NoMemory> {
+        Ok(None)
     }
 }
 

@@ -1,0 +1,125 @@
+//! The linter of a workspace.
+ghost use Rattle.std.specs.Prelude.{◌≡◌, ◌≤◌, IfErr, IfOk, drop, string_bytes};
+ghost use Rattle.file_store.specs.Contents.{KeepsContents};
+ghost use Rattle.server_command.specs.Rooted.{Enters, IsFirst, Refuses, RootedShows};
+ghost use Rattle.server_command.specs.Settled.{IsSaidOf, IsSettled, IsText, IsUnchosen, IsUnsettled, folder_of};
+ghost use Rattle.check_config.specs.Config.{empty};
+
+use crate::asked::words_after_first;
+use crate::outcome::Failure;
+use crate::settled::{alone, settled_in};
+use file_store::FileStore;
+use lint_base::Text;
+use lsp_linter::Linting;
+use lsp_report::{Checker, Report};
+use lsp_session::Enter;
+use squawk_run::{Stop, text_in};
+use squawk_words::Words;
+use std::alloc::Global;
+use text_pos::NoMemory;
+
+/// What finds the reports of a workspace: a linter that the words choose, and from the entry of the workspace on the configuration too.
+#[derive(Drop)]
+pub struct Rooted<F> {
+    files: F,
+    line: Words,
+    linting: Linting,
+}
+
+// The folder of a root, with a slash at its end.
+fn folder_of(alloc: Global, root: &Option<Text>) -> Result<String, NoMemory>
+    ensures { IfOk result (λ folder. string_bytes folder ≡ folder_of root.now) }
+{
+    let mut folder = String::new(alloc);
+    if let Some(root) = root {
+        folder.push_str(root.as_str())?;
+        folder.push_str("/")?;
+    }
+    Ok(folder)
+}
+
+// What finds reports in the workspace of a root, by the words of the line and its configuration.
+fn settled_at<F: FileStore>(
+    alloc: Global,
+    line: &Words,
+    files: &mut F,
+    root: &Option<Text>,
+) -> Result<Linting, Failure>
+    ensures settled { IfOk result (IsSettled (F.content files.old) (folder_of root.now) line.now) }
+    ensures unsettled { IfErr result (IsUnsettled (F.content files.old) (F.faults files.old) (F.faults files.new) (folder_of root.now) line.now) }
+    ensures kept { KeepsContents (F.content files.old) (F.content files.new) }
+    ensures later { F.faults files.old ≤ F.faults files.new }
+{
+    match folder_of(alloc, root) {
+        Ok(folder) => settled_in(alloc, line, files, folder.as_str()),
+        Err(NoMemory) => Err(Failure::Stop(Stop::NoMemory)),
+    }
+}
+
+// A text of these bytes, or words in place of it.
+fn text_of(alloc: Global, bytes: &[u8]) -> Result<Text, NoMemory>
+    ensures { IfOk result (IsText bytes.now) }
+{
+    match text_in(bytes) {
+        Ok(text) => Ok(Text::made(String::from_str(alloc, text)?)),
+        Err(_) => Ok(Text::fixed("error: the configuration is refused")),
+    }
+}
+
+// What is said of a failure: its line, without the line feed. That memory ran out is an error.
+fn said_of(alloc: Global, failure: &Failure) -> Result<Text, NoMemory>
+    ensures { IfOk result (IsSaidOf failure.now) }
+{
+    match failure {
+        Failure::Stop(Stop::NoMemory) => Err(NoMemory),
+        Failure::Stop(_) | Failure::Config(_) => {
+            let line = failure.line();
+            text_of(alloc, &line[..line.len().saturating_sub(1)])
+        }
+    }
+}
+
+impl<F: FileStore> Checker for Rooted<F> {
+    ghost shows = { λ rooted text found. RootedShows rooted text found };
+
+    fn check(&mut self, alloc: Global, text: &str) -> Result<Vec<Report>, NoMemory> {
+        self.linting.check(alloc, text)
+    }
+}
+
+impl<F: FileStore> Enter for Rooted<F> {
+    ghost enters = { Enters F.content F.faults };
+
+    ghost refuses = { Refuses F.content F.faults };
+
+    fn enter(&mut self, alloc: Global, root: &Option<Text>) -> Result<Option<Text>, NoMemory> {
+        match settled_at(alloc, &self.line, &mut self.files, root) {
+            Ok(linting) => {
+                self.linting = linting;
+                Ok(None)
+            }
+            Err(failure) => Ok(Some(said_of(alloc, &failure)?)),
+        }
+    }
+}
+
+/// The linter of a workspace that is not entered, by the words after the first.
+pub(crate) fn first_linter<F: FileStore + Drop>(
+    alloc: Global,
+    words: &Words,
+    files: F,
+) -> Result<Rooted<F>, Stop>
+    ensures first { IfOk result (IsFirst files (drop 1 words.now)) }
+    ensures unchosen { IfErr result (IsUnchosen empty (drop 1 words.now)) }
+{
+    let line = match words_after_first(alloc, words) {
+        Ok(line) => line,
+        Err(NoMemory) => return Err(Stop::NoMemory),
+    };
+    let linting = alone(alloc, &line)?;
+    Ok(Rooted {
+        files,
+        line,
+        linting,
+    })
+}
