@@ -5,7 +5,7 @@ use Rattle.fix_command.proofs.mender.copied_names.Goals as goal
 pub loop-i-preserved : goal.loop-i-preserved
 loop-i-preserved c =
     let l = c.loop-i in
-    next_copied c.args.names.now l.i c.get.result.now l.copy c.push.new.self c.get.ensures c.in_ok-push.ensures l.invariant
+    next_copied c.args.names.now l.i c.get.result.now l.copy c.push.new.self c.get.ensures c.in_ok-push.ensures.ok l.invariant
 
 pub returns : goal.returns
 returns c = all_copied c.args.names.now c.loop-i.i c.loop-i.copy (omega arith) c.loop-i.invariant
