@@ -33,8 +33,8 @@ def comment_end(text, at):
 
 
 def tokens_of(text):
-    """The tokens of a text, without white space and comments."""
-    at, found = 0, []
+    """The tokens of a text, without white space, comments and a byte order mark at its start."""
+    at, found = 3 * text.startswith(b"\xef\xbb\xbf"), []
     while at < len(text):
         match = TOKEN.match(text, at)
         kind, end = match.lastgroup, match.end()
