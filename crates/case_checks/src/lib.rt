@@ -39,7 +39,7 @@ fn answer_of(alloc: Global, status: u8, out: &[u8], err: &[u8]) -> Result<Answer
     })
 }
 
-/// A run with these words, the first of which is `check`, over the files of a text.
+/// A run with these words, the first of which is `check`, over the files of a text. Used by tests only; no contract.
 pub fn checked(alloc: Global, words: &[String], text: &[u8]) -> Result<Answer, Fault> {
     let words = words_of(alloc, words)?;
     let (input, mut files) = read_files(alloc, text)?;
@@ -63,7 +63,7 @@ pub fn checked(alloc: Global, words: &[String], text: &[u8]) -> Result<Answer, F
     answer_of(alloc, code, out.bytes(), err.bytes())
 }
 
-/// A run with these words, the first of which is `explain`.
+/// A run with these words, the first of which is `explain`. Used by tests only; no contract.
 pub fn explained(alloc: Global, words: &[String]) -> Result<Answer, Fault> {
     let words = words_of(alloc, words)?;
     let mut out = MemSink::new(alloc, ROOM, &[])?;
@@ -87,7 +87,7 @@ fn push_written(to: &mut Vec<u8>, files: &[Written]) -> Result<(), Fault> {
 }
 
 /// A run with these words, the first of which is `fix`, over the files of a text. The files that are written come after what is printed,
-/// each after a line `> NAME`.
+/// each after a line `> NAME`. Used by tests only; no contract.
 pub fn fixed(alloc: Global, words: &[String], text: &[u8]) -> Result<Answer, Fault> {
     let words = words_of(alloc, words)?;
     let (input, mut files) = read_files(alloc, text)?;
@@ -112,7 +112,7 @@ pub fn fixed(alloc: Global, words: &[String], text: &[u8]) -> Result<Answer, Fau
     answer_of(alloc, code, shown.as_slice(), err.bytes())
 }
 
-/// A run of the gate with these words, the first of which stands for its name, over the files of a text.
+/// A run with these words, the first of which is `gate`, over the files of a text. Used by tests only; no contract.
 pub fn gated(alloc: Global, words: &[String], text: &[u8]) -> Result<Answer, Fault> {
     let words = words_of(alloc, words)?;
     let (_, mut files) = read_files(alloc, text)?;

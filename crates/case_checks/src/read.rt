@@ -57,7 +57,7 @@ fn push_line(input: &mut Vec<u8>, entries: &mut [Entry], line: &[u8]) -> Result<
     Ok(())
 }
 
-/// Standard input and the files that a text holds.
+/// Standard input and the files that a text holds. Used by tests only; no contract.
 pub fn read_files(alloc: Global, text: &[u8]) -> Result<(Vec<u8>, CaseFiles), Fault> {
     let mut input = Vec::new(alloc);
     let mut entries = Vec::new(alloc);

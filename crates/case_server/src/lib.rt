@@ -63,7 +63,7 @@ fn lines_of(alloc: Global, output: &[u8]) -> Result<Vec<u8>, Fault> {
     Ok(lines)
 }
 
-/// A talk with these words, the first of which is `server`.
+/// A talk with these words, the first of which is `server`. Used by tests only; no contract.
 pub fn served(alloc: Global, words: &[String], text: &[u8]) -> Result<Answer, Fault> {
     let words = words_of(alloc, words)?;
     let (talk, files) = read_files(alloc, text)?;
