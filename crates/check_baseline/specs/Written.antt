@@ -9,7 +9,7 @@ use Rattle.lint_report.specs.declared.report.Report.{Report}
 use Rattle.lint_report.specs.Codes.{name_of}
 use Rattle.source_file.specs.declared.refusal.Refusal.{Refusal}
 use Rattle.source_file.specs.Refusals.{message_of}
-use Rattle.source_file.specs.Shown.{shown}
+use Rattle.source_file.specs.Escaped.{escaped}
 use Rattle.check_baseline.specs.Known.{Text}
 use Rattle.report_gitlab.specs.Issues.{report_fingerprint}
 
@@ -17,16 +17,16 @@ use Rattle.report_gitlab.specs.Issues.{report_fingerprint}
 abbrev pub heading : Text
 heading = codes "# Reports that lavkheto lets pass: fingerprint, rule, file. Written by --write-baseline.\n"
 
--- the line of a report: its fingerprint, and for people the rule and the file, as it is shown on a terminal
+-- the line of a report: its fingerprint, and for people the rule and the file, as it is written on a line
 unfoldable pub report_line : Text → Text → Report → Text
-report_line name text v = report_fingerprint name text v ++ codes " " ++ name_of v.code ++ codes " " ++ shown name ++ codes "\n"
+report_line name text v = report_fingerprint name text v ++ codes " " ++ name_of v.code ++ codes " " ++ escaped name ++ codes "\n"
 
 unfoldable pub refusal_mark : Text
 refusal_mark = codes "# not linted: "
 
 -- the comment on a file that could not be linted, for people
 unfoldable pub refusal_line : Text → Refusal → Text
-refusal_line name r = refusal_mark ++ shown name ++ codes ": " ++ message_of r ++ codes "\n"
+refusal_line name r = refusal_mark ++ escaped name ++ codes ": " ++ message_of r ++ codes "\n"
 
 -- the lines of an answer
 abbrev pub answer_lines : Text → Text → Answer → Text

@@ -7,7 +7,7 @@ ghost use Rattle.check_baseline.specs.Written.{answer_lines, file_lines, heading
 use crate::known::print_of;
 use checked_file::{Answer, Checked, readable};
 use lint_report::Report;
-use source_file::{Refusal, push_shown};
+use source_file::{Refusal, push_escaped};
 use std::alloc::Global;
 use text_pos::NoMemory;
 
@@ -32,7 +32,7 @@ fn push_line(
     to.push(b' ')?;
     to.extend_from_slice(report.code.name().as_bytes())?;
     to.push(b' ')?;
-    push_shown(to, name.as_bytes())?;
+    push_escaped(to, name.as_bytes())?;
     to.push(b'\n')?;
     Ok(())
 }
@@ -69,7 +69,7 @@ fn push_refusal(to: &mut Vec<u8>, name: &str, refusal: &Refusal) -> Result<(), N
     ensures { OnOk result (to.new.items ≡ to.old.items ++ refusal_line name.now refusal.now) }
 {
     push_refusal_mark(to)?;
-    push_shown(to, name.as_bytes())?;
+    push_escaped(to, name.as_bytes())?;
     to.extend_from_slice(b": ")?;
     to.extend_from_slice(refusal.message().as_bytes())?;
     to.push(b'\n')?;

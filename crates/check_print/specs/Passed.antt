@@ -4,10 +4,10 @@ use Rattle.checked_file.specs.declared.checked.Checked.{Checked}
 use Rattle.checked_file.specs.declared.checked.Passed.{Passed}
 use Rattle.checked_file.specs.Files.{readable_of}
 use Rattle.source_file.specs.File.{FileValue, line_number}
-use Rattle.source_file.specs.Shown.{shown}
+use Rattle.source_file.specs.Escaped.{escaped_name}
 
 unfoldable pub passed_place : FileValue → Passed → List ℕ
-passed_place file p = codes "note: " ++ shown file.name ++ codes ":" ++ decimal (line_number file.text p.first)
+passed_place file p = codes "note: " ++ escaped_name file.name ++ codes ":" ++ decimal (line_number file.text p.first)
 
 unfoldable pub passed_counts : Passed → List ℕ
 passed_counts p =

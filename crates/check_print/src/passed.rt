@@ -5,7 +5,7 @@ ghost use Rattle.check_print.specs.Passed.{passed_counts, passed_in, passed_line
 
 use checked_file::{Checked, Passed, readable};
 use report_lines::{push, push_number};
-use source_file::{SourceFile, push_shown};
+use source_file::{SourceFile, push_escaped_name};
 use std::alloc::Global;
 use text_pos::NoMemory;
 
@@ -15,7 +15,7 @@ fn push_place(to: &mut Vec<u8>, file: &SourceFile<'_>, passed: &Passed) -> Resul
     ensures { OnOk result (to.new.items ≡ to.old.items ++ passed_place file.now passed.now) }
 {
     push(to, b"note: ")?;
-    push_shown(to, file.name().as_bytes())?;
+    push_escaped_name(to, file.name().as_bytes())?;
     push(to, b":")?;
     push_number(to, file.line(passed.first))
 }

@@ -5,12 +5,12 @@ use Rattle.check_config.specs.declared.fault.ConfigFault.{ConfigFault}
 use Rattle.check_config.specs.Faults.{fault_place, message_of}
 use Rattle.source_file.specs.declared.place.Place.{Place}
 use Rattle.source_file.specs.File.{location}
-use Rattle.source_file.specs.Shown.{shown}
+use Rattle.source_file.specs.Escaped.{escaped, escaped_name}
 use Rattle.squawk_words.specs.Words.{Text}
 
 -- the beginning of a line about a file: `error: .squawk.toml:`
 abbrev pub opening : Text → List ℕ
-opening name = codes "error: " ++ shown name ++ codes ":"
+opening name = codes "error: " ++ escaped_name name ++ codes ":"
 
 abbrev pub start : Place
 start = record { line = 1; column = 1 }
@@ -21,7 +21,7 @@ IsPlaceOf text at place = (IsCharBoundary text at × (place ≡ location text at
 
 -- `error: .squawk.toml:3:1: unknown key: exclude_rules`
 abbrev pub fault_line : Text → Place → Text → List ℕ
-fault_line name place message = opening name ++ decimal place.line ++ codes ":" ++ decimal place.column ++ codes ": " ++ shown message ++ codes "\n"
+fault_line name place message = opening name ++ decimal place.line ++ codes ":" ++ decimal place.column ++ codes ": " ++ escaped message ++ codes "\n"
 
 abbrev pub IsFaultLine : Text → Text → ConfigFault → List ℕ → Type 0
 IsFaultLine name text fault line = (place : Place) × IsPlaceOf text (fault_place fault text) place × (line ≡ fault_line name place (message_of fault))

@@ -4,7 +4,7 @@ ghost use Rattle.config_file.specs.Lines.{IsFaultLine, IsPlaceOf, fault_line, op
 
 use check_config::{ConfigFault, fault_place};
 use report_lines::{push, push_number};
-use source_file::{Place, SourceFile, push_shown};
+use source_file::{Place, SourceFile, push_escaped, push_escaped_name};
 use std::alloc::Global;
 use text_pos::{NoMemory, TextSize};
 
@@ -14,7 +14,7 @@ fn opened(alloc: Global, name: &str) -> Result<Vec<u8>, NoMemory>
 {
     let mut line = Vec::new(alloc);
     push(&mut line, b"error: ")?;
-    push_shown(&mut line, name.as_bytes())?;
+    push_escaped_name(&mut line, name.as_bytes())?;
     push(&mut line, b":")?;
     Ok(line)
 }
@@ -49,7 +49,7 @@ pub fn line_at(alloc: Global, name: &str, place: Place, message: &str) -> Result
     push(&mut line, b":")?;
     push_number(&mut line, place.column)?;
     push(&mut line, b": ")?;
-    push_shown(&mut line, message.as_bytes())?;
+    push_escaped(&mut line, message.as_bytes())?;
     push(&mut line, b"\n")?;
     Ok(line)
 }

@@ -3,7 +3,7 @@ use Rattle.std.specs.Prelude.{◌≡◌, ℕ, List, ◌++◌, codes, ⊤}
 use Rattle.lint_report.specs.declared.code.Code.{Code}
 use Rattle.lint_report.specs.Codes.{name_of}
 use Rattle.nearest_code.specs.Nearest.{IsNearest}
-use Rattle.source_file.specs.Shown.{shown}
+use Rattle.source_file.specs.Escaped.{escaped}
 use Rattle.squawk_run.specs.declared.stop.Stop.TheVariants.{BadArguments, NotUtf8, TooLong, ReadFault, WriteFault, NoMemory}
 use Rattle.squawk_words.specs.Words.{Text}
 use Rattle.explain_command.specs.declared.failure.Failure.{Failure}
@@ -11,7 +11,7 @@ use Rattle.explain_command.specs.declared.failure.Failure.TheVariants.{Stop, Unk
 
 -- `error: explain: unknown rule: ban-drop-tabel; the nearest name is ban-drop-table`
 abbrev pub unknown_line : Text → Code → List ℕ
-unknown_line name nearest = codes "error: explain: unknown rule: " ++ shown name ++ codes "; the nearest name is " ++ name_of nearest ++ codes "\n"
+unknown_line name nearest = codes "error: explain: unknown rule: " ++ escaped name ++ codes "; the nearest name is " ++ name_of nearest ++ codes "\n"
 
 abbrev pub IsUnknownLine : Text → List ℕ → Type 0
 IsUnknownLine name line = (nearest : Code) × IsNearest name nearest × (line ≡ unknown_line name nearest)

@@ -5,7 +5,7 @@ ghost use Rattle.explain_command.specs.Unknown.{IsUnknown, IsUnknownLine, unknow
 use crate::failure::Failure;
 use lint_report::Code;
 use nearest_code::nearest_code;
-use source_file::push_shown;
+use source_file::push_escaped;
 use squawk_run::Stop;
 use std::alloc::Global;
 use text_pos::NoMemory;
@@ -16,7 +16,7 @@ fn line_with(alloc: Global, name: &str, nearest: Code) -> Result<Vec<u8>, NoMemo
 {
     let mut line = Vec::new(alloc);
     line.extend_from_slice(b"error: explain: unknown rule: ")?;
-    push_shown(&mut line, name.as_bytes())?;
+    push_escaped(&mut line, name.as_bytes())?;
     line.extend_from_slice(b"; the nearest name is ")?;
     line.extend_from_slice(nearest.name().as_bytes())?;
     line.push(b'\n')?;

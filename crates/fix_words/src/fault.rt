@@ -4,7 +4,7 @@ ghost use Rattle.fix_words.specs.Faults as spec;
 
 use lint_base::Text;
 use report_lines::push;
-use source_file::push_shown;
+use source_file::push_escaped;
 use squawk_words::Words;
 use std::alloc::Global;
 use text_pos::NoMemory;
@@ -25,7 +25,7 @@ fn push_word(to: &mut Vec<u8>, word: &str) -> Result<(), NoMemory>
     ensures { OnOk result (to.new.items ≡ to.old.items ++ spec.word_part word.now) }
 {
     push(to, b" ")?;
-    push_shown(to, word.as_bytes())
+    push_escaped(to, word.as_bytes())
 }
 
 // Adds words, each after a blank.

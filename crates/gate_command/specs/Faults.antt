@@ -1,12 +1,12 @@
 -- The line about words that are refused.
 use Rattle.std.specs.Prelude.{ℕ, List, ◌++◌, codes, flat_map}
-use Rattle.source_file.specs.Shown.{shown}
+use Rattle.source_file.specs.Escaped.{escaped}
 use Rattle.squawk_words.specs.Words.{Text}
 use Rattle.gate_command.specs.declared.fault.Fault.{Fault}
 use Rattle.gate_command.specs.declared.fault.Fault.TheVariants.{Word, NoValue, NoFiles, Linter, Beside}
 
 abbrev pub word_part : Text → List ℕ
-word_part word = codes " " ++ shown word
+word_part word = codes " " ++ escaped word
 
 -- what a fault is about
 unfoldable pub fault_part : Fault → List ℕ

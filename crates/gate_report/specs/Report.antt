@@ -6,6 +6,7 @@ use Rattle.source_file.specs.Columns.{width_of}
 use Rattle.source_file.specs.declared.place.Place.{Place}
 use Rattle.source_file.specs.File.{FileValue, line_number, location}
 use Rattle.source_file.specs.Line.{Text, block_of, front_of}
+use Rattle.source_file.specs.Escaped.{escaped}
 use Rattle.source_file.specs.Shown.{shown}
 use Rattle.gate_report.specs.declared.cause.Cause.{Cause}
 use Rattle.gate_report.specs.Causes.{help_of, message_of, name_of, rule_of}
@@ -22,7 +23,7 @@ title name message = codes "error[" ++ name ++ codes "]: " ++ message ++ codes "
 
 -- ` --> file`
 abbrev pub name_row : Text → List ℕ
-name_row name = codes " --> " ++ shown name ++ codes "\n"
+name_row name = codes " --> " ++ escaped name ++ codes "\n"
 
 -- `:line:column`
 unfoldable pub place_part : Place → List ℕ
@@ -30,7 +31,7 @@ place_part place = codes ":" ++ decimal place.line ++ codes ":" ++ decimal place
 
 -- ` --> file:line:column`
 abbrev pub arrow : ℕ → Text → Place → List ℕ
-arrow gutter name place = blanks gutter ++ codes "--> " ++ shown name ++ place_part place
+arrow gutter name place = blanks gutter ++ codes "--> " ++ escaped name ++ place_part place
 
 -- `  |`
 abbrev pub bar_row : ℕ → List ℕ

@@ -5,7 +5,7 @@ ghost use Rattle.gate_report.specs.Report as spec;
 
 use itoa::Buffer;
 use report_lines::{push, push_number};
-use source_file::{Place, SourceFile, block, front, push_shown, width};
+use source_file::{Place, SourceFile, block, front, push_escaped, push_shown, width};
 use text_pos::{NoMemory, TextSize};
 
 // How many digits a number has.
@@ -41,7 +41,7 @@ pub(crate) fn push_name(to: &mut Vec<u8>, name: &str) -> Result<(), NoMemory>
     ensures { OnOk result (to.new.items ≡ to.old.items ++ spec.name_row name.now) }
 {
     push(to, b" --> ")?;
-    push_shown(to, name.as_bytes())?;
+    push_escaped(to, name.as_bytes())?;
     push(to, b"\n")
 }
 
@@ -63,7 +63,7 @@ fn push_arrow(to: &mut Vec<u8>, gutter: usize, name: &str, place: Place) -> Resu
 {
     push_blanks(to, gutter)?;
     push(to, b"--> ")?;
-    push_shown(to, name.as_bytes())?;
+    push_escaped(to, name.as_bytes())?;
     push_place(to, place)
 }
 

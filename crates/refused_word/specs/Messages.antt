@@ -9,7 +9,7 @@ use Rattle.check_words.specs.Names.{flag_name, name_of}
 use Rattle.lint_report.specs.declared.code.Code.{Code}
 use Rattle.lint_report.specs.Codes as reports
 use Rattle.nearest_code.specs.Nearest.{near_code}
-use Rattle.source_file.specs.Shown.{shown}
+use Rattle.source_file.specs.Escaped.{escaped}
 use Rattle.squawk_words.specs.Words.{Text}
 
 -- of a word that there isn't
@@ -56,4 +56,4 @@ message_of OnlyBesideLists = of_choice choice.Only (codes "not beside --include 
 
 -- the line, as it is shown
 abbrev pub line_of : WordFault → List ℕ
-line_of fault = codes "error: " ++ shown (message_of fault) ++ codes "\n"
+line_of fault = codes "error: " ++ escaped (message_of fault) ++ codes "\n"

@@ -5,7 +5,7 @@ ghost use Rattle.refused_word.specs.Messages.{line_of};
 use crate::message::message;
 use check_words::WordFault;
 use report_lines::push;
-use source_file::push_shown;
+use source_file::push_escaped;
 use std::alloc::Global;
 use text_pos::NoMemory;
 
@@ -16,7 +16,7 @@ pub fn fault_line(alloc: Global, fault: &WordFault) -> Result<Vec<u8>, NoMemory>
     let text = message(alloc, fault)?;
     let mut line = Vec::new(alloc);
     push(&mut line, b"error: ")?;
-    push_shown(&mut line, text.as_str().as_bytes())?;
+    push_escaped(&mut line, text.as_str().as_bytes())?;
     push(&mut line, b"\n")?;
     Ok(line)
 }

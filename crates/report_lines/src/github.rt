@@ -5,7 +5,7 @@ ghost use Rattle.report_lines.specs.Github.{columns_part, command, detail, escap
 
 use crate::piece::{push, push_number};
 use lint_base::Text;
-use source_file::{Level, Place, SourceFile, push_shown};
+use source_file::{Level, Place, SourceFile, push_escaped};
 use std::alloc::Global;
 use text_pos::{NoMemory, TextRange};
 
@@ -59,7 +59,7 @@ fn push_escaped(to: &mut Vec<u8>, alloc: Global, text: &[u8]) -> Result<(), NoMe
 {
     let mut piece = Vec::new(alloc);
     push_escaped_bytes(&mut piece, text)?;
-    push_shown(to, piece.as_slice())
+    push_escaped(to, piece.as_slice())
 }
 
 // Adds the value of a property.
@@ -69,7 +69,7 @@ fn push_property(to: &mut Vec<u8>, alloc: Global, text: &[u8]) -> Result<(), NoM
 {
     let mut piece = Vec::new(alloc);
     push_property_bytes(&mut piece, text)?;
-    push_shown(to, piece.as_slice())
+    push_escaped(to, piece.as_slice())
 }
 
 // Adds the lines of a range.

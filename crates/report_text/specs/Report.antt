@@ -12,7 +12,7 @@ use Rattle.source_file.specs.Hints.{hint_of, text_of}
 use Rattle.source_file.specs.Levels.{word_of}
 use Rattle.source_file.specs.Line.{Text}
 use Rattle.source_file.specs.Refusals as refusals
-use Rattle.source_file.specs.Shown.{shown}
+use Rattle.source_file.specs.Escaped.{escaped}
 use Rattle.report_text.specs.declared.layout.Layout.{Layout}
 use Rattle.report_text.specs.declared.paint.Style.TheVariants.{Bold, Frame}
 use Rattle.report_text.specs.Excerpt.{excerpt}
@@ -31,13 +31,13 @@ label color level name = painted color (style_of level) (word_of level ++ codes 
 
 -- `warning[name]: message`
 unfoldable pub title : Bool → Level → List ℕ → List ℕ → List ℕ
-title color level name message = label color level name ++ painted color Bold (codes ": " ++ shown message) ++ codes "\n"
+title color level name message = label color level name ++ painted color Bold (codes ": " ++ escaped message) ++ codes "\n"
 
 -- `  --> file:line:column`
 abbrev pub arrow : Layout → FileValue → ℕ → List ℕ
 arrow l file at =
     let place = location file.text at in
-    blanks l.gutter ++ painted l.color Frame (codes "-->") ++ codes " " ++ shown file.name ++ codes ":" ++ decimal place.line ++ codes ":" ++ decimal place.column ++ codes "\n"
+    blanks l.gutter ++ painted l.color Frame (codes "-->") ++ codes " " ++ escaped file.name ++ codes ":" ++ decimal place.line ++ codes ":" ++ decimal place.column ++ codes "\n"
 
 -- where it is there, and the lines
 unfoldable pub head : Layout → Level → FileValue → Range → List ℕ
@@ -45,7 +45,7 @@ head l level file range = arrow l file range.start ++ bar_line l ++ excerpt l (s
 
 -- `   = note: text`
 unfoldable pub note_row : Layout → List ℕ → Text → List ℕ
-note_row l label text = point l ++ painted l.color Bold label ++ codes ": " ++ shown text ++ codes "\n"
+note_row l label text = point l ++ painted l.color Bold label ++ codes ": " ++ escaped text ++ codes "\n"
 
 -- the same, where there is a text
 abbrev pub note : Layout → List ℕ → Option Text → List ℕ
@@ -75,7 +75,7 @@ printed_report color file r =
 
 -- `  --> file`, of a file without a text
 abbrev pub name_arrow : Layout → FileValue → List ℕ
-name_arrow l file = blanks l.gutter ++ painted l.color Frame (codes "-->") ++ codes " " ++ shown file.name ++ codes "\n"
+name_arrow l file = blanks l.gutter ++ painted l.color Frame (codes "-->") ++ codes " " ++ escaped file.name ++ codes "\n"
 
 -- where a fault is, with its line; of a file without a text, its name
 abbrev pub refusal_head : Layout → FileValue → Refusal → List ℕ

@@ -12,7 +12,7 @@ use crate::layout::{Layout, digits, push_number};
 use crate::paint::{Style, push, push_closed, push_opened, push_painted, push_repeated};
 use lint_base::Text;
 use lint_report::Report;
-use source_file::{Hint, Level, Refusal, SourceFile, hint_for, push_shown};
+use source_file::{Hint, Level, Refusal, SourceFile, hint_for, push_escaped};
 use std::alloc::Global;
 use text_pos::{NoMemory, TextRange, TextSize};
 
@@ -54,7 +54,7 @@ fn push_title(
     push_label(to, color, level, name)?;
     push_opened(to, color, Style::Bold)?;
     push(to, b": ")?;
-    push_shown(to, message)?;
+    push_escaped(to, message)?;
     push_closed(to, color)?;
     push(to, b"\n")
 }
@@ -73,7 +73,7 @@ fn push_arrow(
     push_repeated(to, b' ', layout.gutter)?;
     push_painted(to, layout.color, Style::Frame, b"-->")?;
     push(to, b" ")?;
-    push_shown(to, file.name().as_bytes())?;
+    push_escaped(to, file.name().as_bytes())?;
     push(to, b":")?;
     push_number(to, place.line)?;
     push(to, b":")?;
@@ -107,7 +107,7 @@ fn push_note_row(to: &mut Vec<u8>, layout: Layout, label: &[u8], text: &str) -> 
     layout.push_point(to)?;
     push_painted(to, layout.color, Style::Bold, label)?;
     push(to, b": ")?;
-    push_shown(to, text.as_bytes())?;
+    push_escaped(to, text.as_bytes())?;
     push(to, b"\n")
 }
 
@@ -204,7 +204,7 @@ fn push_name_arrow(to: &mut Vec<u8>, layout: Layout, file: &SourceFile<'_>) -> R
     push_repeated(to, b' ', layout.gutter)?;
     push_painted(to, layout.color, Style::Frame, b"-->")?;
     push(to, b" ")?;
-    push_shown(to, file.name().as_bytes())?;
+    push_escaped(to, file.name().as_bytes())?;
     push(to, b"\n")
 }
 

@@ -4,3 +4,4 @@ pub mod Blocks
 pub mod Widths
 pub mod Showing
 pub mod Hinting
+pub mod Escaping

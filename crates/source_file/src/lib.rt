@@ -3,6 +3,7 @@
 #![tactic(auto)]
 
 mod columns;
+mod escaped;
 mod file;
 mod hints;
 mod level;
@@ -12,6 +13,7 @@ mod refusal;
 mod shown;
 
 pub use columns::width;
+pub use escaped::{push_escaped, push_escaped_name};
 pub use file::SourceFile;
 pub use hints::{Hint, begins_with, hint_for};
 pub use level::Level;

@@ -27,7 +27,7 @@ fn hex_digit(n: u8) -> u8
 }
 
 // Adds an escape, by its first digits and its last one.
-fn push_escape(to: &mut Vec<u8>, first: &[u8], last: u8) -> Result<(), NoMemory>
+pub(crate) fn push_escape(to: &mut Vec<u8>, first: &[u8], last: u8) -> Result<(), NoMemory>
     requires { last < 16 }
     ensures { OnOk result (to.new.items ≡ to.old.items ++ escape first.now last) }
 {
@@ -39,7 +39,7 @@ fn push_escape(to: &mut Vec<u8>, first: &[u8], last: u8) -> Result<(), NoMemory>
 }
 
 // Whether these bytes are a C1 control character, U+0080 to U+009F.
-fn is_c1(a: u8, b: u8) -> bool
+pub(crate) fn is_c1(a: u8, b: u8) -> bool
     ensures value { result ≡ is_c1 a b }
     ensures range { IsTrue result → (128 ≤ b) × (b ≤ 159) }
 {
@@ -47,7 +47,7 @@ fn is_c1(a: u8, b: u8) -> bool
 }
 
 // Whether these bytes are one of U+202A to U+202E, which turn the direction of a text.
-fn is_embedding(a: u8, b: u8, c: u8) -> bool
+pub(crate) fn is_embedding(a: u8, b: u8, c: u8) -> bool
     ensures value { result ≡ is_embedding a b c }
     ensures range { IsTrue result → (170 ≤ c) × (c ≤ 174) }
 {
@@ -55,7 +55,7 @@ fn is_embedding(a: u8, b: u8, c: u8) -> bool
 }
 
 // Whether these bytes are one of U+2066 to U+2069, which turn the direction of a text.
-fn is_isolate(a: u8, b: u8, c: u8) -> bool
+pub(crate) fn is_isolate(a: u8, b: u8, c: u8) -> bool
     ensures value { result ≡ is_isolate a b c }
     ensures range { IsTrue result → (166 ≤ c) × (c ≤ 169) }
 {
@@ -63,7 +63,7 @@ fn is_isolate(a: u8, b: u8, c: u8) -> bool
 }
 
 // Adds the escape of a C1 control character, by its second byte.
-fn push_c1(to: &mut Vec<u8>, b: u8) -> Result<(), NoMemory>
+pub(crate) fn push_c1(to: &mut Vec<u8>, b: u8) -> Result<(), NoMemory>
     requires { (128 ≤ b) × (b ≤ 159) }
     ensures { OnOk result (to.new.items ≡ to.old.items ++ c1_escape b) }
 {
@@ -91,7 +91,7 @@ fn push_first(to: &mut Vec<u8>, a: u8, b: u8, c: u8) -> Result<(), NoMemory>
 }
 
 // How many bytes more than one that shows.
-fn more_len(a: u8, b: u8, c: u8) -> usize
+pub(crate) fn more_len(a: u8, b: u8, c: u8) -> usize
     ensures value { result ≡ more_len a b c }
     ensures few { result ≤ 2 }
 {
@@ -105,7 +105,7 @@ fn more_len(a: u8, b: u8, c: u8) -> usize
 }
 
 // A byte of a text, or 0 after its end.
-fn byte_at(text: &[u8], at: usize) -> u8
+pub(crate) fn byte_at(text: &[u8], at: usize) -> u8
     ensures { result ≡ get_or text.now at 0 }
 {
     if at < text.len() { text[at] } else { 0 }

@@ -1,7 +1,7 @@
 -- The unified format (GNU diffutils manual, "Detailed Description of Unified Format").
 use Rattle.std.specs.Prelude.{◌≡◌, ℕ, ◌+◌, ◌==◌, Bool, false, not, List, [], ◌∷◌, ◌++◌, length, codes, decimal, nat_eq, if◌then◌else◌}
 use Rattle.std.specs.List.{ends_with}
-use Rattle.source_file.specs.Shown.{shown}
+use Rattle.source_file.specs.Escaped.{escaped}
 use Rattle.text_diff.specs.declared.step.Mark.{Mark}
 use Rattle.text_diff.specs.declared.step.Mark.TheVariants.{Kept, Hidden, Removed, Added}
 use Rattle.text_diff.specs.declared.step.Step.{Step}
@@ -11,7 +11,7 @@ use Rattle.text_diff.specs.Script.{is_hidden, new_lines, new_part, old_lines, ol
 
 -- the names of the texts, as they are shown
 abbrev pub heading : List ℕ → List ℕ
-heading name = codes "--- " ++ shown name ++ codes "\n+++ " ++ shown name ++ codes "\n"
+heading name = codes "--- " ++ escaped name ++ codes "\n+++ " ++ escaped name ++ codes "\n"
 
 -- ---- a line
 

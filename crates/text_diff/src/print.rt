@@ -5,7 +5,7 @@ ghost use Rattle.text_diff.specs.Unified as spec;
 
 use crate::step::{Mark, Step};
 use itoa::Buffer;
-use source_file::push_shown;
+use source_file::push_escaped;
 use text_pos::NoMemory;
 
 // How many lines of each text there are.
@@ -29,9 +29,9 @@ fn push_heading(to: &mut Vec<u8>, name: &str) -> Result<(), NoMemory>
     ensures { OnOk result (to.new.items ≡ to.old.items ++ spec.heading name.now) }
 {
     to.extend_from_slice(b"--- ")?;
-    push_shown(to, name.as_bytes())?;
+    push_escaped(to, name.as_bytes())?;
     to.extend_from_slice(b"\n+++ ")?;
-    push_shown(to, name.as_bytes())?;
+    push_escaped(to, name.as_bytes())?;
     to.extend_from_slice(b"\n")?;
     Ok(())
 }
