@@ -1,7 +1,7 @@
 //! A finding as a workflow command of GitHub.
 ghost use Rattle.std.specs.Prelude.{◌≡◌, ◌++◌, OnOk, flat_map};
 ghost use Rattle.source_file.specs.File.{IsRangeIn};
-ghost use Rattle.report_lines.specs.Github.{columns_part, command, detail, escaped, escaped_byte, lines_part, opening, property, property_byte, span, titled};
+ghost use Rattle.report_lines.specs.Github.{columns_part, command, detail, encoded, encoded_byte, lines_part, opening, property, property_byte, span, titled};
 
 use crate::piece::{push, push_number};
 use lint_base::Text;
@@ -10,8 +10,8 @@ use std::alloc::Global;
 use text_pos::{NoMemory, TextRange};
 
 // Adds a byte of a message.
-fn push_escaped_byte(to: &mut Vec<u8>, byte: u8) -> Result<(), NoMemory>
-    ensures { OnOk result (to.new.items ≡ to.old.items ++ escaped_byte byte) }
+fn push_encoded_byte(to: &mut Vec<u8>, byte: u8) -> Result<(), NoMemory>
+    ensures { OnOk result (to.new.items ≡ to.old.items ++ encoded_byte byte) }
 {
     match byte {
         b'%' => push(to, b"%25"),
@@ -28,16 +28,16 @@ fn push_property_byte(to: &mut Vec<u8>, byte: u8) -> Result<(), NoMemory>
     match byte {
         b':' => push(to, b"%3A"),
         b',' => push(to, b"%2C"),
-        _ => push_escaped_byte(to, byte),
+        _ => push_encoded_byte(to, byte),
     }
 }
 
 // Adds the bytes of a message, or of a part of one.
-fn push_escaped_bytes(to: &mut Vec<u8>, text: &[u8]) -> Result<(), NoMemory>
-    ensures { OnOk result (to.new.items ≡ to.old.items ++ flat_map escaped_byte text.now) }
+fn push_encoded_bytes(to: &mut Vec<u8>, text: &[u8]) -> Result<(), NoMemory>
+    ensures { OnOk result (to.new.items ≡ to.old.items ++ flat_map encoded_byte text.now) }
 {
     for byte in text {
-        push_escaped_byte(to, *byte)?;
+        push_encoded_byte(to, *byte)?;
     }
     Ok(())
 }
@@ -53,12 +53,12 @@ fn push_property_bytes(to: &mut Vec<u8>, text: &[u8]) -> Result<(), NoMemory>
 }
 
 // Adds a message, or a part of one.
-#[tactic(auto, unfolding(crate::specs::Github::escaped))]
-fn push_escaped(to: &mut Vec<u8>, alloc: Global, text: &[u8]) -> Result<(), NoMemory>
-    ensures { OnOk result (to.new.items ≡ to.old.items ++ escaped text.now) }
+#[tactic(auto, unfolding(crate::specs::Github::encoded))]
+fn push_encoded(to: &mut Vec<u8>, alloc: Global, text: &[u8]) -> Result<(), NoMemory>
+    ensures { OnOk result (to.new.items ≡ to.old.items ++ encoded text.now) }
 {
     let mut piece = Vec::new(alloc);
-    push_escaped_bytes(&mut piece, text)?;
+    push_encoded_bytes(&mut piece, text)?;
     push_escaped(to, piece.as_slice())
 }
 
@@ -131,7 +131,7 @@ fn push_titled(to: &mut Vec<u8>, alloc: Global, name: &[u8], message: &[u8]) -> 
     push(to, b",title=")?;
     push_property(to, alloc, name)?;
     push(to, b"::")?;
-    push_escaped(to, alloc, message)
+    push_encoded(to, alloc, message)
 }
 
 /// Adds what a finding says beside its message, on a line of its own where it says that. The error comes when memory runs out.
@@ -149,7 +149,7 @@ pub fn push_detail(
     push(to, b"%0A")?;
     push(to, label)?;
     push(to, b": ")?;
-    push_escaped(to, alloc, text.as_str().as_bytes())
+    push_encoded(to, alloc, text.as_str().as_bytes())
 }
 
 /// Adds a finding as a workflow command, but for its details and the end of the line. The error comes when memory runs out.

@@ -1,6 +1,0 @@
-use Rattle.std.proofs.Common.{◌≡◌, ◌++◌, drop, flat_map}
-use Rattle.report_lines.specs.Github.{escaped_byte}
-use Rattle.report_lines.proofs.github.push_escaped_bytes.Given as goal
-
-abbrev pub invariant-loop-byte : goal.invariant-loop-byte
-invariant-loop-byte l = l.to.items ++ flat_map escaped_byte (drop l.byte-index l.text) ≡ l.initial.to.items ++ flat_map escaped_byte l.text
