@@ -3,3 +3,4 @@ pub mod Statistics
 pub mod Findings
 pub mod Passed
 pub mod Printed
+pub mod Found

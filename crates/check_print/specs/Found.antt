@@ -1,0 +1,70 @@
+-- The findings of files, in order: what is printed of a run is printed of these.
+use Rattle.std.specs.Prelude.{ℕ, List, [], ◌∷◌, Option, Some, None, flat_map, map, option_map}
+use Rattle.checked_file.specs.declared.answer.Answer.{Answer}
+use Rattle.checked_file.specs.declared.answer.Answer.TheVariants.{Reports, Refused}
+use Rattle.checked_file.specs.declared.checked.Checked.{Checked}
+use Rattle.lint_report.specs.declared.report.Report.{Report}
+use Rattle.lint_report.specs.declared.report.ReportFix.{ReportFix}
+use Rattle.lint_report.specs.Codes.{name_of}
+use Rattle.report_gitlab.specs.Issues.{statement_text}
+use Rattle.source_file.specs.declared.level.Level.{Level}
+use Rattle.source_file.specs.declared.level.Level.TheVariants as levels
+use Rattle.source_file.specs.declared.refusal.Refusal.{Refusal}
+use Rattle.source_file.specs.File.{FileValue}
+use Rattle.source_file.specs.Hints.{hint_of, text_of}
+use Rattle.source_file.specs.Refusals as refusals
+use Rattle.text_pos.specs.Range.{Range}
+use Rattle.check_print.specs.Printed.{source_of}
+
+-- A finding: its file, its range, its level, the name of its rule or hazard and its message; its note, its help and its fix, where it has
+-- them; and the text of its statement.
+pub record Found : Type 0 where
+  pub file : FileValue
+  pub range : Range
+  pub level : Level
+  pub rule : List ℕ
+  pub message : List ℕ
+  pub note : Option (List ℕ)
+  pub help : Option (List ℕ)
+  pub fix : Option ReportFix
+  pub statement : List ℕ
+
+-- a report
+abbrev pub found_report : FileValue → Report → Found
+found_report file v = record {
+  file = file;
+  range = v.text_range;
+  level = levels.Warning;
+  rule = name_of v.code;
+  message = v.message;
+  note = v.note;
+  help = v.help;
+  fix = v.fix;
+  statement = statement_text file.text v;
+}
+
+-- why a file could not be linted
+abbrev pub found_refusal : FileValue → Refusal → Found
+found_refusal file r = record {
+  file = file;
+  range = record { start = refusals.place_of r; end = refusals.place_of r };
+  level = levels.Error;
+  rule = refusals.name_of r;
+  message = refusals.message_of r;
+  note = None;
+  help = option_map text_of (hint_of file.text r);
+  fix = None;
+  statement = [];
+}
+
+abbrev pub found_by : FileValue → Answer → List Found
+found_by file (Reports reports) = map (found_report file) reports.items
+found_by file (Refused r) = found_refusal file r ∷ []
+
+-- the findings of a file
+abbrev pub found_in : Checked → List Found
+found_in file = found_by (source_of file) file.answer
+
+-- those of files, in order
+abbrev pub all_found : List Checked → List Found
+all_found files = flat_map found_in files
