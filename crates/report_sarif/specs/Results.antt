@@ -1,7 +1,7 @@
 -- Findings as results of SARIF 2.1.0: 3.8 property bags, 3.27 result, 3.11 message, 3.28 location, 3.55 fix, 3.56 artifactChange, 3.57 replacement.
-use Rattle.std.specs.Prelude.{ℕ, Bool, if◌then◌else◌, List, [], codes, map, Option, Some, None, unwrap_or}
+use Rattle.std.specs.Prelude.{ℕ, Bool, if◌then◌else◌, List, [], codes, map, Option, Some, None, option_map, unwrap_or}
 use Rattle.std.specs.List.{list_all}
-use Rattle.serde_json.specs.Data.{Data, array, item, member, no_items, no_members, object, string}
+use Rattle.serde_json.specs.Data.{Data, array, item, member, no_items, no_members, null, object, string}
 use Rattle.serde_json.specs.View.{items_of}
 use Rattle.text_pos.specs.Range.{Range}
 use Rattle.lint_base.specs.declared.edit.Edit.{Edit}
@@ -13,6 +13,7 @@ use Rattle.lint_report.specs.FixClasses as classes
 use Rattle.source_file.specs.declared.level.Level.TheVariants as level
 use Rattle.source_file.specs.declared.refusal.Refusal.{Refusal}
 use Rattle.source_file.specs.File.{FileValue}
+use Rattle.source_file.specs.Hints.{hint_of, text_of}
 use Rattle.source_file.specs.Levels.{word_of}
 use Rattle.source_file.specs.Line.{Text}
 use Rattle.source_file.specs.Refusals as refusals
@@ -66,21 +67,33 @@ fixes file (Some fix) = if are_in_text file.text fix.fix.edits then one (fix_obj
 abbrev pub locations : FileValue → Range → Data
 locations file range = one (object (member (codes "physicalLocation") (physical_location file range) no_members))
 
+-- a text, or null
+abbrev pub text_data : Option (List ℕ) → Data
+text_data None = null
+text_data (Some text) = string text
+
+-- the property bag of a finding: its note and its help
+abbrev pub result_properties : Data → Data → Data
+result_properties note help = object (member (codes "help") help (member (codes "note") note no_members))
+
 -- a finding
-abbrev pub result_object : FileValue → Range → List ℕ → List ℕ → List ℕ → Data → Data
-result_object file range level name message fixes = object
+abbrev pub result_object : FileValue → Range → List ℕ → List ℕ → List ℕ → Data → Data → Data
+result_object file range level name message fixes properties = object
     (member (codes "fixes") fixes
     (member (codes "level") (string level)
     (member (codes "locations") (locations file range)
     (member (codes "message") (text_object message)
-    (member (codes "ruleId") (string name) no_members)))))
+    (member (codes "properties") properties
+    (member (codes "ruleId") (string name) no_members))))))
 
 -- a report
 abbrev pub report_result : FileValue → Report → Data
-report_result file r = result_object file r.text_range (word_of level.Warning) (name_of r.code) r.message (fixes file r.fix)
+report_result file r =
+    result_object file r.text_range (word_of level.Warning) (name_of r.code) r.message (fixes file r.fix) (result_properties (text_data r.note) (text_data r.help))
 
 -- why a file could not be linted
 abbrev pub refusal_result : FileValue → Refusal → Data
 refusal_result file r =
     let at = refusals.place_of r in
     result_object file (record { start = at; end = at }) (word_of level.Error) (refusals.name_of r) (refusals.message_of r) (array no_items)
+    (result_properties null (text_data (option_map text_of (hint_of file.text r))))

@@ -1,17 +1,19 @@
 //! The result of a finding.
-ghost use Rattle.std.specs.Prelude.{◌≡◌, IfOk};
+ghost use Rattle.std.specs.Prelude.{◌≡◌, IfOk, option_map};
 ghost use Rattle.std.specs.Str.{IsCharBoundary};
 ghost use Rattle.serde_json.specs.View.{view};
 ghost use Rattle.source_file.specs.File.{IsRangeIn};
 ghost use Rattle.source_file.specs.Levels.{word_of};
 ghost use Rattle.source_file.specs.Refusals as refusals;
-ghost use Rattle.report_sarif.specs.Results.{locations, refusal_result, report_result, result_object};
+ghost use Rattle.report_sarif.specs.Results.{locations, refusal_result, report_result, result_object, result_properties, text_data};
+ghost use Rattle.source_file.specs.Hints.{text_of};
 
 use crate::fixes::{fixes_value, one, text_object};
 use crate::places::physical_location;
+use lint_base::Text;
 use lint_report::Report;
 use serde_json::{Value, json};
-use source_file::{Level, Refusal, SourceFile};
+use source_file::{Hint, Level, Refusal, SourceFile, hint_for};
 use std::alloc::{AllocError, Global};
 use text_pos::TextRange;
 
@@ -25,7 +27,40 @@ fn locations(alloc: Global, file: &SourceFile<'_>, range: TextRange) -> Result<V
     one(alloc, location)
 }
 
-// A finding, with its fixes as a value.
+// A text, or null.
+fn text_value(alloc: Global, text: &Option<Text>) -> Result<Value, AllocError>
+    ensures { IfOk result (λ value. view value ≡ text_data text.now) }
+{
+    match text {
+        None => Ok(Value::Null),
+        Some(text) => Value::try_from_str(alloc, text.as_str()),
+    }
+}
+
+// What may help, or null.
+fn hint_value(alloc: Global, hint: Option<Hint>) -> Result<Value, AllocError>
+    ensures { IfOk result (λ value. view value ≡ text_data (option_map text_of hint)) }
+{
+    match hint {
+        None => Ok(Value::Null),
+        Some(hint) => Value::try_from_str(alloc, hint.text()),
+    }
+}
+
+// The property bag of a finding.
+fn result_properties(alloc: Global, note: Value, help: Value) -> Result<Value, AllocError>
+    ensures { IfOk result (λ value. view value ≡ result_properties (view note) (view help)) }
+{
+    json!(in alloc; {"help": help, "note": note})
+}
+
+/// What a finding says beside its message.
+struct Details {
+    fixes: Value,
+    properties: Value,
+}
+
+// A finding.
 fn result_value(
     alloc: Global,
     file: &SourceFile<'_>,
@@ -33,11 +68,12 @@ fn result_value(
     level: Level,
     name: &str,
     message: &str,
-    fixes: Value,
+    details: Details,
 ) -> Result<Value, AllocError>
     requires { IsRangeIn file.now.text range }
-    ensures { IfOk result (λ value. view value ≡ result_object file.now range (word_of level) name.now message.now (view fixes)) }
+    ensures { IfOk result (λ value. view value ≡ result_object file.now range (word_of level) name.now message.now (view details.fixes) (view details.properties)) }
 {
+    let Details { fixes, properties } = details;
     let locations = locations(alloc, file, range)?;
     let message = text_object(alloc, message)?;
     let level = level.word();
@@ -46,6 +82,7 @@ fn result_value(
         "level": level,
         "locations": locations,
         "message": message,
+        "properties": properties,
         "ruleId": name
     })
 }
@@ -59,7 +96,12 @@ pub(crate) fn report_result(
     requires { IsRangeIn file.now.text report.now.text_range }
     ensures { IfOk result (λ value. view value ≡ report_result file.now report.now) }
 {
-    let fixes = fixes_value(alloc, file, &report.fix)?;
+    let note = text_value(alloc, &report.note)?;
+    let help = text_value(alloc, &report.help)?;
+    let details = Details {
+        fixes: fixes_value(alloc, file, &report.fix)?,
+        properties: result_properties(alloc, note, help)?,
+    };
     let name = report.code.name();
     let message = report.message.as_str();
     result_value(
@@ -69,7 +111,7 @@ pub(crate) fn report_result(
         Level::Warning,
         name,
         message,
-        fixes,
+        details,
     )
 }
 
@@ -83,7 +125,11 @@ pub(crate) fn refusal_result(
     ensures { IfOk result (λ value. view value ≡ refusal_result file.now refusal.now) }
 {
     let at = refusal.place();
-    let fixes = Value::Array(Vec::new(alloc));
+    let help = hint_value(alloc, hint_for(file.text(), refusal))?;
+    let details = Details {
+        fixes: Value::Array(Vec::new(alloc)),
+        properties: result_properties(alloc, Value::Null, help)?,
+    };
     let name = refusal.name();
     let message = refusal.message();
     result_value(
@@ -93,6 +139,6 @@ pub(crate) fn refusal_result(
         Level::Error,
         name,
         message,
-        fixes,
+        details,
     )
 }
