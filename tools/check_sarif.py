@@ -3,7 +3,7 @@
 
 No schema file is read: the required properties, the value sets and the ranges are those of the standard's sections 3.8 (property bags), 3.13
 (sarifLog), 3.14 (run), 3.18 and 3.19 (tool), 3.27 (result), 3.29 (physicalLocation), 3.30 (region), 3.55 to 3.57 (fixes). Of the
-property bag of a fix, which is ours, it reads the class.
+property bags, whose members are ours, it reads the class of a fix, and the note and the help of a result.
 Prints what is wrong, a line each; the status is 1 where anything is.
 """
 import json
@@ -61,10 +61,20 @@ def fix(value, where):
                     text(replacement.get("insertedContent"), where + ".insertedContent")
 
 
+def properties(value, where):
+    """The property bag of a result: a note and a help, each a text or null, and nothing more."""
+    if has(value, where, "properties", dict):
+        bag = value["properties"]
+        want(set(bag) == {"help", "note"}, where + ".properties", "the members are not help and note")
+        for name in ("help", "note"):
+            want(bag.get(name) is None or isinstance(bag[name], str), where + ".properties", f"{name} is neither a text nor null")
+
+
 def result(value, where):
     text(value.get("message"), where + ".message")
     want(value.get("level") in LEVELS, where, "level is not one of the standard's")
     has(value, where, "ruleId", str)
+    properties(value, where)
     if has(value, where, "locations", list):
         for location in value["locations"]:
             place = location.get("physicalLocation")

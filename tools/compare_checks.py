@@ -82,6 +82,19 @@ def shown(text):
     return "".join(map(shown_character, text))
 
 
+ESCAPED = r"[\x00-\x1f\x7f-\x9f\u202a-\u202e\u2066-\u2069]|\\(?=u\{)"
+
+
+def on_line(text, escaped=ESCAPED):
+    """A name or a message as it is written on a line: control characters, and backslashes that look like an escape, as escapes."""
+    return re.sub(escaped, lambda found: f"\\u{{{ord(found[0]):x}}}", text)
+
+
+def name_before_number(name):
+    """A name before the number of a line: each colon before a digit is an escape too."""
+    return on_line(name, ESCAPED + "|:(?=[0-9])")
+
+
 def columns(character):
     code = ord(character)
     if character in "\t\r" or 128 <= code <= 159 or turns(code):
@@ -172,7 +185,7 @@ class Painter:
         return self.number(number) + " " + self.paint("frame", "|") + rest + "\n"
 
     def note(self, label, text):
-        return " " * self.gutter + " " + self.paint("frame", "=") + " " + self.paint("bold", label) + ": " + shown(text) + "\n"
+        return " " * self.gutter + " " + self.paint("frame", "=") + " " + self.paint("bold", label) + ": " + on_line(text) + "\n"
 
 
 def place_of_line(text, at):
@@ -233,8 +246,8 @@ def hides_help(file, found):
 
 def as_text(file, found, color):
     painter = Painter(file.text, color)
-    out = painter.paint(found.level, f"{found.level}[{found.rule}]") + painter.paint("bold", ": " + shown(found.message)) + "\n"
-    arrow = " " * painter.gutter + painter.paint("frame", "-->") + " " + shown(file.name)
+    out = painter.paint(found.level, f"{found.level}[{found.rule}]") + painter.paint("bold", ": " + on_line(found.message)) + "\n"
+    arrow = " " * painter.gutter + painter.paint("frame", "-->") + " " + on_line(file.name)
     if found.has_place:
         line, column = place(file.text, found.start)
         out += f"{arrow}:{line}:{column}\n" + painter.bar() + "\n" + excerpt(painter, found.level, found.start, found.end)
@@ -247,7 +260,7 @@ def as_text(file, found, color):
         out += painter.note("help", help) if help is not None else ""
     if found.title is not None:
         mark = "" if found.fix_class == "safe" else f" ({found.fix_class})"
-        out += painter.paint("added", "fix") + ": " + shown(found.title) + mark + "\n" + changes(painter, found.edits)
+        out += painter.paint("added", "fix") + ": " + on_line(found.title) + mark + "\n" + changes(painter, found.edits)
     return out + "\n"
 
 
@@ -267,16 +280,16 @@ def last_line(files):
 
 def as_concise(file, found):
     line, column = place(file.text, found.start)
-    return f"{shown(file.name)}:{line}:{column}: {found.level}[{found.rule}]: {shown(found.message)}\n"
+    return f"{name_before_number(file.name)}:{line}:{column}: {found.level}[{found.rule}]: {on_line(found.message)}\n"
 
 
 def as_gcc(file, found):
     line, column = place(file.text, found.start)
-    return f"{shown(file.name)}:{line}:{column}: {found.level}: {shown(found.message)} [{found.rule}]\n"
+    return f"{name_before_number(file.name)}:{line}:{column}: {found.level}: {on_line(found.message)} [{found.rule}]\n"
 
 
 def message_of_command(text):
-    return shown(text.replace("%", "%25").replace("\r", "%0D").replace("\n", "%0A"))
+    return on_line(text.replace("%", "%25").replace("\r", "%0D").replace("\n", "%0A"))
 
 
 def property_of_command(text):
@@ -326,7 +339,8 @@ def as_sarif(file, found):
                  for edit in found.edits]
         change = {"artifactLocation": {"uri": uri(file.name)}, "replacements": edits}
         fixes = [{"description": {"text": found.title}, "artifactChanges": [change], "properties": {"class": found.fix_class}}]
-    return dumped({"ruleId": found.rule, "level": found.level, "message": {"text": found.message}, "locations": [location], "fixes": fixes})
+    return dumped({"ruleId": found.rule, "level": found.level, "message": {"text": found.message}, "locations": [location], "fixes": fixes,
+                   "properties": {"note": found.note, "help": found.help}})
 
 
 def as_gitlab(file, found):

@@ -1,9 +1,15 @@
 mod Short
 mod Places
 mod Names
+mod Values
 mod Chunks
 mod Spaced
 mod Shapes
-mod Sound
-mod Told
+mod Placed
+mod Sized
+mod Fields
+mod Edits
+mod Objects
+mod Results
+mod Issues
 mod Uniqueness

@@ -1,6 +1,7 @@
 -- From the outline of an array back to the findings.
 use Rattle.std.proofs.Common.{◌≡◌, ◌∙◌, ◌+◌, List, [], ◌∷◌, ◌++◌, All, Option, Some, None, ap, arith, map, refl, sym}
 use Rattle.std.proofs.lemmas.List.Elements.{All-head, All-tail}
+use Rattle.check_print.specs.Found.{Found}
 use Rattle.json.specs.Json as json
 use Rattle.json.specs.Token.{Token}
 use Rattle.json.specs.Tree.{HasNumbers, ItemsHaveNumbers, MembersHaveNumbers, depth, json_tokens}
@@ -9,7 +10,6 @@ use Rattle.json.proofs.Printed.Trees.{value-json_tokens}
 use Rattle.serde_json.specs.Data.{Data, Items, Members, array, boolean, item, member, no_items, no_members, null, number, object, string, unsigned, negative, float}
 use Rattle.serde_json.specs.View.{items_of}
 use Rattle.serde_json.specs.Written.{items_outline, members_outline, outline}
-use Rattle.law_printed_arrays.specs.Found.{Found}
 use Rattle.law_printed_arrays.proofs.Short.{AreShortItems, AreShortMembers, IsShort}
 use Rattle.law_printed_arrays.proofs.Spaced.{array_of}
 
@@ -34,7 +34,7 @@ mutual
   short_members no_members h = tt
   short_members (member k d ms) h = (short_numbers d h.0, short_members ms h.1)
 
--- all numbers of findings are short
+-- all numbers of what is printed are short
 abbrev pub Short : (Found → Members) → List Found → Type 0
 Short members fs = All (λ f. IsShort (object (members f))) fs
 
@@ -60,7 +60,7 @@ same_value j k e =
     let second : json.value room (json_tokens k ++ []) ≡ Some (k, []) = value-json_tokens k room [] (omega arith) in
     ap value_in (sym first ∙ ap (λ ts. json.value room (ts ++ [])) e ∙ second)
 
--- ---- all findings
+-- ---- the items of an array
 
 abbrev pub first_in : json.Items → json.Json
 first_in json.no_items = json.null
@@ -70,22 +70,6 @@ abbrev rest_in : json.Items → json.Items
 rest_in json.no_items = json.no_items
 rest_in (json.item j js) = js
 
--- of findings of which the same is printed the same is told; G holds of each of them
-abbrev pub LeadsBack : {T : Type 0} → (Found → Members) → (Found → Type 0) → (Found → T) → Type 0
-LeadsBack members G tell = (f g : Found) → IsShort (object (members f)) → IsShort (object (members g)) → G f → G g
-    → outline (object (members f)) ≡ outline (object (members g)) → tell f ≡ tell g
-
-all_same : {T : Type 0} (members : Found → Members) (G : Found → Type 0) (tell : Found → T) → LeadsBack members G tell → (fs gs : List Found) → Short members fs → Short members gs → All G fs → All G gs
-    → items_outline (items_of (map object (map members fs))) ≡ items_outline (items_of (map object (map members gs))) → map tell fs ≡ map tell gs
-all_same members G tell leads [] [] h k p q e = refl
-all_same members G tell leads [] (g ∷ gs) h k p q e = cc
-all_same members G tell leads (f ∷ fs) [] h k p q e = cc
-all_same members G tell leads (f ∷ fs) (g ∷ gs) h k p q e =
-    let P : Found → Type 0 = λ f. IsShort (object (members f)) in
-    let one = leads f g (All-head P f fs h) (All-head P g gs k) (All-head G f fs p) (All-head G g gs q) (ap first_in e) in
-    let more = all_same members G tell leads fs gs (All-tail P f fs h) (All-tail P g gs k) (All-tail G f fs p) (All-tail G g gs q) (ap rest_in e) in
-    ap (λ t. t ∷ map tell fs) one ∙ ap (λ ts. tell g ∷ ts) more
-
 abbrev pub items_in : json.Json → json.Items
 items_in json.null = json.no_items
 items_in (json.boolean b) = json.no_items
@@ -94,6 +78,28 @@ items_in (json.string s) = json.no_items
 items_in (json.array js) = js
 items_in (json.object ms) = json.no_items
 
-pub same_findings : {T : Type 0} (members : Found → Members) (G : Found → Type 0) (tell : Found → T) → LeadsBack members G tell → (fs gs : List Found) → Short members fs → Short members gs → All G fs → All G gs
+-- what is told of two things, of which P and Q hold, is the same where the same is printed of them
+abbrev pub LeadsBack : {A T : Type 0} → (A → Data) → (A → Data) → (A → Type 0) → (A → Type 0) → (A → T) → Type 0
+LeadsBack {A} printed other P Q tell = (a b : A) → P a → Q b → outline (printed a) ≡ outline (other b) → tell a ≡ tell b
+
+-- so it is of two lists
+pub all_same : {A T : Type 0} (printed other : A → Data) (P Q : A → Type 0) (tell : A → T) → LeadsBack printed other P Q tell → (xs ys : List A) → All P xs → All Q ys
+    → items_outline (items_of (map printed xs)) ≡ items_outline (items_of (map other ys)) → map tell xs ≡ map tell ys
+all_same printed other P Q tell leads [] [] p q e = refl
+all_same printed other P Q tell leads [] (y ∷ ys) p q e = cc
+all_same printed other P Q tell leads (x ∷ xs) [] p q e = cc
+all_same printed other P Q tell leads (x ∷ xs) (y ∷ ys) p q e =
+    let one = leads x y (All-head P x xs p) (All-head Q y ys q) (ap first_in e) in
+    let more = all_same printed other P Q tell leads xs ys (All-tail P x xs p) (All-tail Q y ys q) (ap rest_in e) in
+    ap (λ t. t ∷ map tell xs) one ∙ ap (λ ts. tell y ∷ ts) more
+
+fused : (members : Found → Members) (fs : List Found) → map object (map members fs) ≡ map (λ f. object (members f)) fs
+fused members [] = refl
+fused members (f ∷ fs) = ap (λ ds. object (members f) ∷ ds) (fused members fs)
+
+-- so it is of all findings
+pub same_findings : {T : Type 0} (members : Found → Members) (P : Found → Type 0) (tell : Found → T) → LeadsBack (λ f. object (members f)) (λ f. object (members f)) P P tell → (fs gs : List Found) → All P fs → All P gs
     → outline (array_of (map members fs)) ≡ outline (array_of (map members gs)) → map tell fs ≡ map tell gs
-same_findings members G tell leads fs gs h k p q e = all_same members G tell leads fs gs h k p q (ap items_in e)
+same_findings members P tell leads fs gs p q e =
+    all_same (λ f. object (members f)) (λ f. object (members f)) P P tell leads fs gs p q
+    (ap (λ ds. items_outline (items_of ds)) (sym (fused members fs)) ∙ ap items_in e ∙ ap (λ ds. items_outline (items_of ds)) (fused members gs))

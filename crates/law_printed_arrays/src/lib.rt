@@ -1,5 +1,5 @@
-//! Laws of what is printed for programs: the JSON of a run leads back to each file, place, rule, message, note, help and fix, its SARIF to all
-//! of these but notes and helps, and what GitLab reads as far as its format keeps them.
+//! Laws of what is printed for programs: the JSON and the SARIF of a run lead back to each file, place, level, rule, message, note, help and
+//! fix, and what GitLab reads as far as its format keeps them.
 #![tactic(auto)]
 
 ghost use Rattle.law_printed_arrays.specs.Unique.{UniqueArrays, UniqueIssues, UniqueLogs};
@@ -10,8 +10,8 @@ pub fn unique_arrays()
     ensures { UniqueArrays }
 {}
 
-/// Two lists of sound files of which the same SARIF is printed have the same findings, at the same places, with the same fixes, in the same
-/// order.
+/// Two lists of sound files of which the same SARIF is printed have the same findings, at the same places and bytes, with the same notes,
+/// helps and fixes, in the same order.
 pub fn unique_logs()
     ensures { UniqueLogs }
 {}

@@ -1,6 +1,6 @@
 -- No result of a finding has a float, and none is in the log.
-use Rattle.std.proofs.Common.{◌≡◌, ℕ, Bool, true, false, ◌||◌, List, [], ◌∷◌, ◌++◌, map, Option, Some, None, option_map, if◌then◌else◌, refl}
-use Rattle.serde_json.specs.Data.{Data, array, no_items}
+use Rattle.std.proofs.Common.{◌≡◌, ℕ, Bool, true, false, List, [], ◌∷◌, ◌++◌, map, Option, Some, None, option_map, if◌then◌else◌, refl}
+use Rattle.serde_json.specs.Data.{array, no_items}
 use Rattle.serde_json.specs.View.{items_of}
 use Rattle.serde_json.specs.Written.{has_float, items_have_float}
 use Rattle.hazard_base.specs.declared.hazard.Hazard.{Hazard}
@@ -14,7 +14,7 @@ use Rattle.source_file.specs.declared.refusal.Refusal.{Refusal}
 use Rattle.source_file.specs.File.{FileValue}
 use Rattle.source_file.specs.Hints.{hint_of, text_of}
 use Rattle.report_sarif.specs.Log.{hazard_object, rule_object, tool}
-use Rattle.report_sarif.specs.Results.{are_in_text, fix_object, fixes, one, refusal_result, replacement, replacements, report_result, text_data}
+use Rattle.report_sarif.specs.Results.{are_in_text, fix_object, fixes, one, refusal_result, replacement, report_result, text_data}
 
 edits_have_no_float : (text : List ℕ) (edits : List Edit) → items_have_float (items_of (map (replacement text) edits)) ≡ false
 edits_have_no_float text [] = refl

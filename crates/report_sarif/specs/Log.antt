@@ -1,7 +1,6 @@
 -- A log of SARIF 2.1.0 with one run: 3.13 sarifLog, 3.14 run, 3.18 tool, 3.19 toolComponent, 3.49 reportingDescriptor.
-use Rattle.std.specs.Prelude.{ℕ, List, [], ◌∷◌, ◌++◌, codes, map}
-use Rattle.std.specs.List.{flat_map}
-use Rattle.serde_json.specs.Data.{Data, array, item, member, no_items, no_members, object, string}
+use Rattle.std.specs.Prelude.{ℕ, List, ◌++◌, codes, map}
+use Rattle.serde_json.specs.Data.{Data, array, member, no_members, object, string}
 use Rattle.serde_json.specs.View.{items_of}
 use Rattle.serde_json.specs.Written.{compact_text}
 use Rattle.hazard_base.specs.declared.hazard.Hazard.{Hazard}

@@ -1,6 +1,6 @@
 -- Places of the Static Analysis Results Interchange Format (SARIF), OASIS standard, version 2.1.0: 3.4 artifactLocation, 3.29
 -- physicalLocation, 3.30 region. Lines and columns begin at 1, an end column is one past the last, and a column is a code point.
-use Rattle.std.specs.Prelude.{ℕ, ◌-◌, Bool, ◌&&◌, ◌||◌, nat_le, nat_lt, get_or, List, length, codes}
+use Rattle.std.specs.Prelude.{ℕ, ◌-◌, Bool, ◌&&◌, ◌||◌, nat_le, nat_lt, get_or, length, codes}
 use Rattle.percent_encoding.specs.Percent.{percent_encode}
 use Rattle.serde_json.specs.Data.{Data, member, no_members, number, object, string, unsigned}
 use Rattle.text_pos.specs.Range.{Range}

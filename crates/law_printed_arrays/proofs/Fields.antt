@@ -1,0 +1,156 @@
+-- From the outline of a value back to the fields that it was made of.
+use Rattle.std.proofs.Common.{◌≡◌, ◌∙◌, ◌<◌, ◌^◌, ℕ, List, [], Option, Some, None, ap, length, refl, suc, zero}
+use Rattle.std.proofs.lemmas.Fmt.{decimal_injective}
+use Rattle.std.specs.Prelude.{decimal}
+use Rattle.json.specs.Json as json
+use Rattle.lint_report.specs.declared.fix_class.FixClass.{FixClass}
+use Rattle.lint_report.specs.declared.fix_class.FixClass.TheVariants.{Safe, Unsafe, Template}
+use Rattle.lint_report.specs.FixClasses as classes
+use Rattle.report_json.specs.Objects as reports
+use Rattle.report_sarif.specs.Results as sarif
+use Rattle.serde_json.specs.Written.{outline}
+use Rattle.source_file.specs.declared.level.Level.{Level}
+use Rattle.source_file.specs.declared.level.Level.TheVariants.{Warning, Error}
+use Rattle.source_file.specs.declared.place.Place.{Place}
+use Rattle.source_file.specs.File.{location}
+use Rattle.source_file.specs.Levels.{word_of}
+use Rattle.text_pos.specs.Range.{Range}
+use Rattle.law_printed_arrays.specs.Told.{ToldEdit, ToldFix, ToldReport}
+use Rattle.law_printed_arrays.proofs.Places.{column_short, line_short}
+use Rattle.law_printed_arrays.proofs.Shapes.{first_in, items_in}
+
+-- ---- parts of a value
+
+-- the value of the member at a place
+abbrev value_at : ℕ → json.Members → json.Json
+value_at n json.no_members = json.null
+value_at zero (json.member k j ms) = j
+value_at (suc n) (json.member k j ms) = value_at n ms
+
+abbrev pub at : ℕ → json.Json → json.Json
+at n json.null = json.null
+at n (json.boolean b) = json.null
+at n (json.number s) = json.null
+at n (json.string s) = json.null
+at n (json.array js) = json.null
+at n (json.object ms) = value_at n ms
+
+abbrev pub text_in : json.Json → List ℕ
+text_in json.null = []
+text_in (json.boolean b) = []
+text_in (json.number s) = s
+text_in (json.string s) = s
+text_in (json.array js) = []
+text_in (json.object ms) = []
+
+-- the only item of an array
+abbrev pub only : json.Json → json.Json
+only j = first_in (items_in j)
+
+-- ---- words
+
+pub level_back : (v w : Level) → word_of v ≡ word_of w → v ≡ w
+level_back Warning Warning e = refl
+level_back Warning Error e = cc
+level_back Error Warning e = cc
+level_back Error Error e = refl
+
+pub class_back : (v w : FixClass) → classes.name_of v ≡ classes.name_of w → v ≡ w
+class_back Safe Safe e = refl
+class_back Safe Unsafe e = cc
+class_back Safe Template e = cc
+class_back Unsafe Safe e = cc
+class_back Unsafe Unsafe e = refl
+class_back Unsafe Template e = cc
+class_back Template Safe e = cc
+class_back Template Unsafe e = cc
+class_back Template Template e = refl
+
+-- ---- texts, or null
+
+pub text_back : (t u : Option (List ℕ)) → outline (reports.text_data t) ≡ outline (reports.text_data u) → t ≡ u
+text_back None None e = refl
+text_back None (Some u) e = cc
+text_back (Some t) None e = cc
+text_back (Some t) (Some u) e = ap (λ j. Some (text_in j)) e
+
+pub bag_back : (t u : Option (List ℕ)) → outline (sarif.text_data t) ≡ outline (sarif.text_data u) → t ≡ u
+bag_back None None e = refl
+bag_back None (Some u) e = cc
+bag_back (Some t) None e = cc
+bag_back (Some t) (Some u) e = ap (λ j. Some (text_in j)) e
+
+-- ---- places
+
+abbrev as_place : ℕ → ℕ → Place
+as_place line column = record { line = line; column = column }
+
+same_place : (l m c d : ℕ) → l ≡ m → c ≡ d → as_place l c ≡ as_place m d
+same_place l m c d a b = ap (λ x. as_place x c) a ∙ ap (λ x. as_place m x) b
+
+-- the place of a byte of each of two texts, by the digits of its numbers
+pub place_back : (text other : List ℕ) (x y : ℕ) → length text < 2 ^ 32 → length other < 2 ^ 32 → decimal (location text x).line ≡ decimal (location other y).line
+    → decimal (location text x).column ≡ decimal (location other y).column → location text x ≡ location other y
+place_back text other x y short shorter line column =
+    let a = location text x in
+    let b = location other y in
+    same_place a.line b.line a.column b.column (decimal_injective a.line b.line (line_short text x short) (line_short other y shorter) line)
+    (decimal_injective a.column b.column (column_short text x short) (column_short other y shorter) column)
+
+abbrev as_range : ℕ → ℕ → Range
+as_range start end = record { start = start; end = end }
+
+pub same_range : (r s : Range) → r.start ≡ s.start → r.end ≡ s.end → r ≡ s
+same_range r s a b = ap (λ x. as_range x r.end) a ∙ ap (λ x. as_range s.start x) b
+
+-- ---- from fields to what is told
+
+abbrev as_edit : Range → List ℕ → ToldEdit
+as_edit range text = record { range = range; text = text }
+
+pub same_edit : (r s : Range) (t u : List ℕ) → r ≡ s → t ≡ u → as_edit r t ≡ as_edit s u
+same_edit r s t u a b = ap (λ x. as_edit x t) a ∙ ap (λ x. as_edit s x) b
+
+abbrev as_fix : FixClass → List ℕ → List ToldEdit → ToldFix
+as_fix class title edits = record { class = class; title = title; edits = edits }
+
+pub same_fix : (c d : FixClass) (t u : List ℕ) (es fs : List ToldEdit) → c ≡ d → t ≡ u → es ≡ fs → as_fix c t es ≡ as_fix d u fs
+same_fix c d t u es fs a b e = ap (λ x. as_fix x t es) a ∙ ap (λ x. as_fix d x es) b ∙ ap (λ x. as_fix d u x) e
+
+abbrev as_report : List ℕ → Place → Place → Level → List ℕ → List ℕ → Option (List ℕ) → Option (List ℕ) → Option ToldFix → ToldReport
+as_report name first last level rule message note help fix =
+    record {
+      name = name;
+      first = first;
+      last = last;
+      level = level;
+      rule = rule;
+      message = message;
+      note = note;
+      help = help;
+      fix = fix;
+    }
+
+-- all fields of two reports are the same
+pub record HaveSame (a b : ToldReport) : Type 0 where
+  pub name : a.name ≡ b.name
+  pub first : a.first ≡ b.first
+  pub last : a.last ≡ b.last
+  pub level : a.level ≡ b.level
+  pub rule : a.rule ≡ b.rule
+  pub message : a.message ≡ b.message
+  pub note : a.note ≡ b.note
+  pub help : a.help ≡ b.help
+  pub fix : a.fix ≡ b.fix
+
+pub same_report : (a b : ToldReport) → HaveSame a b → a ≡ b
+same_report a b s =
+    ap (λ x. as_report x a.first a.last a.level a.rule a.message a.note a.help a.fix) s.name
+    ∙ ap (λ x. as_report b.name x a.last a.level a.rule a.message a.note a.help a.fix) s.first
+    ∙ ap (λ x. as_report b.name b.first x a.level a.rule a.message a.note a.help a.fix) s.last
+    ∙ ap (λ x. as_report b.name b.first b.last x a.rule a.message a.note a.help a.fix) s.level
+    ∙ ap (λ x. as_report b.name b.first b.last b.level x a.message a.note a.help a.fix) s.rule
+    ∙ ap (λ x. as_report b.name b.first b.last b.level b.rule x a.note a.help a.fix) s.message
+    ∙ ap (λ x. as_report b.name b.first b.last b.level b.rule b.message x a.help a.fix) s.note
+    ∙ ap (λ x. as_report b.name b.first b.last b.level b.rule b.message b.note x a.fix) s.help
+    ∙ ap (λ x. as_report b.name b.first b.last b.level b.rule b.message b.note b.help x) s.fix

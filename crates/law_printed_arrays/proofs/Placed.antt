@@ -1,0 +1,43 @@
+-- The findings of sound files are in their texts.
+use Rattle.std.proofs.Common.{◌<◌, ◌^◌, List, [], ◌∷◌, All, arith, length}
+use Rattle.std.proofs.lemmas.List.Elements.{All-append, All-cons, All-head, All-map, All-nil, All-tail, All-weaker}
+use Rattle.std.specs.Option.{IfSome}
+use Rattle.std.specs.Str.{IsCharBoundary}
+use Rattle.check_print.specs.Found.{Found, all_found, found_by, found_in, found_refusal, found_report}
+use Rattle.check_print.specs.Printed.{source_of}
+use Rattle.checked_file.specs.declared.answer.Answer.{Answer}
+use Rattle.checked_file.specs.declared.answer.Answer.TheVariants.{Reports, Refused}
+use Rattle.checked_file.specs.declared.checked.Checked.{Checked}
+use Rattle.checked_file.specs.Sound.{AreEditsIn, IsIn, IsReportIn, IsSound}
+use Rattle.lint_report.specs.declared.report.Report.{Report}
+use Rattle.source_file.specs.declared.refusal.Refusal.{Refusal}
+use Rattle.source_file.specs.File.{FileValue, IsRangeIn}
+use Rattle.source_file.specs.Refusals.{place_of}
+use Rattle.law_printed_arrays.proofs.Names.{name_bytes}
+
+-- the name of a finding's file has bytes alone, its text is short, and the finding and its fix are in it
+pub record IsPlaced (f : Found) : Type 0 where
+  pub named : All (λ b. b < 256) f.file.name
+  pub short : length f.file.text < 2 ^ 32
+  pub range : IsRangeIn f.file.text f.range
+  pub edits : IfSome f.fix (λ x. AreEditsIn f.file.text x.fix.edits)
+
+placed_report : (file : FileValue) (v : Report) → All (λ b. b < 256) file.name → length file.text < 2 ^ 32 → IsReportIn file.text v → IsPlaced (found_report file v)
+placed_report file v named short h = record { named = named; short = short; range = h.range; edits = h.edits }
+
+placed_refusal : (file : FileValue) (r : Refusal) → All (λ b. b < 256) file.name → length file.text < 2 ^ 32 → IsCharBoundary file.text (place_of r) → IsPlaced (found_refusal file r)
+placed_refusal file r named short h = record { named = named; short = short; range = record { ordered = omega arith; start = h; end = h }; edits = tt }
+
+placed_by : (file : FileValue) (answer : Answer) → All (λ b. b < 256) file.name → length file.text < 2 ^ 32 → IsIn file.text answer → All IsPlaced (found_by file answer)
+placed_by file (Reports reports) named short h =
+    All-map IsPlaced (found_report file) reports.items
+    (All-weaker (IsReportIn file.text) (λ v. IsPlaced (found_report file v)) (λ v. placed_report file v named short) reports.items h)
+placed_by file (Refused r) named short h = All-cons IsPlaced (found_refusal file r) [] (placed_refusal file r named short h) (All-nil IsPlaced)
+
+placed_in : (file : Checked) → IsSound file → All IsPlaced (found_in file)
+placed_in file sound = placed_by (source_of file) file.answer (name_bytes file.name sound.named) sound.short sound.placed
+
+pub all_placed : (files : List Checked) → All IsSound files → All IsPlaced (all_found files)
+all_placed [] h = All-nil IsPlaced
+all_placed (file ∷ files) h =
+    All-append IsPlaced (found_in file) (all_found files) (placed_in file (All-head IsSound file files h)) (all_placed files (All-tail IsSound file files h))

@@ -1,0 +1,118 @@
+-- From a result of SARIF back to its finding.
+use Rattle.std.proofs.Common.{◌≡◌, ◌∙◌, ◌-◌, ◌<◌, ◌^◌, ℕ, List, [], All, Option, Some, None, ap, arith, length, option_map, refl, sym}
+use Rattle.std.proofs.lemmas.Fmt.{decimal_injective}
+use Rattle.std.specs.Option.{IfSome}
+use Rattle.std.specs.Prelude.{unwrap_or}
+use Rattle.check_print.specs.Found.{Found}
+use Rattle.checked_file.specs.Sound.{AreEditsIn}
+use Rattle.json.specs.Json as json
+use Rattle.lint_base.specs.declared.edit.Edit.{Edit}
+use Rattle.lint_report.specs.declared.report.ReportFix.{ReportFix}
+use Rattle.percent_encoding.specs.Percent.{percent_decode}
+use Rattle.percent_encoding.proofs.PercentLemmas.{round_trip}
+use Rattle.report_sarif.specs.Places.{region, uri_of}
+use Rattle.report_sarif.specs.Results.{fixes, replacement}
+use Rattle.serde_json.specs.Data.{object}
+use Rattle.serde_json.specs.Written.{outline}
+use Rattle.source_file.specs.File.{FileValue, IsRangeIn}
+use Rattle.text_pos.specs.Range.{Range}
+use Rattle.law_printed_arrays.specs.Told.{bytes_of, told_edit, told_fix, told_report}
+use Rattle.law_printed_arrays.proofs.Edits.{fixes_are, plain_fixes}
+use Rattle.law_printed_arrays.proofs.Fields.{at, bag_back, class_back, level_back, only, place_back, same_edit, same_fix, same_range, same_report, text_in}
+use Rattle.law_printed_arrays.proofs.Placed.{IsPlaced}
+use Rattle.law_printed_arrays.proofs.Places.{at_short}
+use Rattle.law_printed_arrays.proofs.Shapes.{LeadsBack, all_same, items_in}
+use Rattle.law_printed_arrays.proofs.Values.{members_by, result_of}
+
+-- ---- a region, by its bytes
+
+length_short : (text : List ℕ) (r : Range) → length text < 2 ^ 32 → IsRangeIn text r → r.end - r.start < 2 ^ 64
+length_short text r short h = omega (arith, at_short text r.end short h.end)
+
+end_back : (r s : Range) (text other : List ℕ) → IsRangeIn text r → IsRangeIn other s → r.start ≡ s.start → r.end - r.start ≡ s.end - s.start → r.end ≡ s.end
+end_back r s text other h k start size = omega (arith, h.ordered, k.ordered, start, size)
+
+pub region_back : (text other : List ℕ) (r s : Range) → length text < 2 ^ 32 → length other < 2 ^ 32 → IsRangeIn text r → IsRangeIn other s
+    → outline (region text r) ≡ outline (region other s) → r ≡ s
+region_back text other r s short shorter h k e =
+    let size = decimal_injective (r.end - r.start) (s.end - s.start) (length_short text r short h) (length_short other s shorter k) (ap (λ j. text_in (at 0 j)) e) in
+    let start = decimal_injective r.start s.start (at_short text r.start short h.start) (at_short other s.start shorter k.start) (ap (λ j. text_in (at 1 j)) e) in
+    same_range r s start (end_back r s text other h k start size)
+
+-- ---- a fix
+
+-- an edit in a text
+abbrev IsEditIn : List ℕ → Edit → Type 0
+IsEditIn text e = IsRangeIn text e.text_range
+
+edit_back : (text other : List ℕ) → length text < 2 ^ 32 → length other < 2 ^ 32 → LeadsBack (replacement text) (replacement other) (IsEditIn text) (IsEditIn other) told_edit
+edit_back text other short shorter a b p q e =
+    let r = a.text_range in
+    let s = b.text_range in
+    same_edit r s (unwrap_or a.text []) (unwrap_or b.text []) (region_back text other r s short shorter p q (ap (λ j. at 0 j) e)) (ap (λ j. text_in (at 0 (at 1 j))) e)
+
+some_back : (file other : FileValue) → length file.text < 2 ^ 32 → length other.text < 2 ^ 32 → (f g : ReportFix) → AreEditsIn file.text f.fix.edits → AreEditsIn other.text g.fix.edits
+    → outline (plain_fixes file (Some f)) ≡ outline (plain_fixes other (Some g)) → told_fix f ≡ told_fix g
+some_back file other short shorter f g p q e =
+    let a = told_fix f in
+    let b = told_fix g in
+    let class = class_back f.class g.class (ap (λ j. text_in (at 0 (at 2 (only j)))) e) in
+    let title : a.title ≡ b.title = ap (λ j. text_in (at 0 (at 1 (only j)))) e in
+    let edits : a.edits ≡ b.edits =
+    all_same (replacement file.text) (replacement other.text) (IsEditIn file.text) (IsEditIn other.text) told_edit (edit_back file.text other.text short shorter) f.fix.edits g.fix.edits p q
+    (ap (λ j. items_in (at 1 (only (at 0 (only j))))) e)
+    in
+    same_fix a.class b.class a.title b.title a.edits b.edits class title edits
+
+plain_back : (file other : FileValue) → length file.text < 2 ^ 32 → length other.text < 2 ^ 32 → (f g : Option ReportFix) → IfSome f (λ x. AreEditsIn file.text x.fix.edits)
+    → IfSome g (λ x. AreEditsIn other.text x.fix.edits) → outline (plain_fixes file f) ≡ outline (plain_fixes other g) → option_map told_fix f ≡ option_map told_fix g
+plain_back file other short shorter None None p q e = refl
+plain_back file other short shorter None (Some g) p q e = cc
+plain_back file other short shorter (Some f) None p q e = cc
+plain_back file other short shorter (Some f) (Some g) p q e = ap Some (some_back file other short shorter f g p q e)
+
+fix_back : (f g : Found) → IsPlaced f → IsPlaced g → outline (fixes f.file f.fix) ≡ outline (fixes g.file g.fix) → option_map told_fix f.fix ≡ option_map told_fix g.fix
+fix_back f g p q e =
+    plain_back f.file g.file p.short q.short f.fix g.fix p.edits q.edits
+    (sym (ap outline (fixes_are f.file f.fix p.edits)) ∙ e ∙ ap outline (fixes_are g.file g.fix q.edits))
+
+-- ---- a name, from its form in a URI
+
+uri_back : (name : List ℕ) → All (λ b. b < 256) name → percent_decode (uri_of name) ≡ name
+uri_back name short = round_trip _ name refl short
+
+uri_same : (name other : List ℕ) → All (λ b. b < 256) name → All (λ b. b < 256) other → percent_decode (uri_of name) ≡ percent_decode (uri_of other) → name ≡ other
+uri_same name other short others e = sym (uri_back name short) ∙ e ∙ uri_back other others
+
+-- ---- a result
+
+-- where it is
+abbrev physical : json.Json → json.Json
+physical j = at 0 (only (at 2 j))
+
+abbrev name_in : json.Json → List ℕ
+name_in j = percent_decode (text_in (at 0 (at 0 (physical j))))
+
+-- a result's bytes
+pub bytes_back : LeadsBack (λ f. object (members_by result_of f)) (λ f. object (members_by result_of f)) IsPlaced IsPlaced bytes_of
+bytes_back f g p q e = region_back f.file.text g.file.text f.range g.range p.short q.short p.range q.range (ap (λ j. at 1 (physical j)) e)
+
+pub result_back : LeadsBack (λ f. object (members_by result_of f)) (λ f. object (members_by result_of f)) IsPlaced IsPlaced told_report
+result_back f g p q e =
+    let a = told_report f in
+    let b = told_report g in
+    let text = f.file.text in
+    let other = g.file.text in
+    let number = λ (n : ℕ). ap (λ j. text_in (at n (at 1 (physical j)))) e in
+    same_report a b (
+    record {
+      name = uri_same a.name b.name p.named q.named (ap name_in e);
+      first = place_back text other f.range.start g.range.start p.short q.short (number 5) (number 4);
+      last = place_back text other f.range.end g.range.end p.short q.short (number 3) (number 2);
+      level = level_back a.level b.level (ap (λ j. text_in (at 1 j)) e);
+      rule = ap (λ j. text_in (at 5 j)) e;
+      message = ap (λ j. text_in (at 0 (at 3 j))) e;
+      note = bag_back a.note b.note (ap (λ j. at 1 (at 4 j)) e);
+      help = bag_back a.help b.help (ap (λ j. at 0 (at 4 j)) e);
+      fix = fix_back f g p q (ap (λ j. at 0 j) e);
+    })

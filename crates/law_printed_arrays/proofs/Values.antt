@@ -1,0 +1,35 @@
+-- What is printed of a finding for programs.
+use Rattle.check_print.specs.Found.{Found}
+use Rattle.report_gitlab.specs.Issues.{issue_object}
+use Rattle.report_json.specs.Objects as json
+use Rattle.report_sarif.specs.Results as sarif
+use Rattle.serde_json.specs.Data.{Data, Members, array, boolean, no_members, null, number, object, string}
+use Rattle.source_file.specs.File.{line_number}
+use Rattle.source_file.specs.Levels.{word_of}
+
+-- the object of JSON
+abbrev pub object_of : Found → Data
+object_of f = json.finding_object f.file f.range (word_of f.level) f.rule f.message (json.text_data f.note) (json.text_data f.help) (json.fix_data f.fix)
+
+-- the result of SARIF
+abbrev pub result_of : Found → Data
+result_of f =
+    sarif.result_object f.file f.range (word_of f.level) f.rule f.message (sarif.fixes f.file f.fix)
+    (sarif.result_properties (sarif.text_data f.note) (sarif.text_data f.help))
+
+-- the issue of GitLab
+abbrev pub issue_of : Found → Data
+issue_of f = issue_object f.file (line_number f.file.text f.range.start) f.level f.rule f.message f.statement
+
+-- the members of an object
+abbrev pub members_in : Data → Members
+members_in null = no_members
+members_in (boolean b) = no_members
+members_in (number n) = no_members
+members_in (string s) = no_members
+members_in (array ds) = no_members
+members_in (object ms) = ms
+
+-- those of what is printed of a finding
+abbrev pub members_by : (Found → Data) → Found → Members
+members_by as_data f = members_in (as_data f)
