@@ -207,7 +207,7 @@ builds_have_time unlimited enabled settings tree quiet i l outside build name j 
 
 -- ---- what is dropped
 
--- a DROP INDEX IF EXISTS one of whose paths passes
+-- a DROP INDEX IF EXISTS, and a path of it that passes the test
 record IsDropOf (p : Span → Bool) (kind : StmtKind) (b : Body) : Type 0 where
   word : ℕ
   concurrently : Bool

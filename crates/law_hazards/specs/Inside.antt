@@ -1,7 +1,7 @@
 -- What PostgreSQL refuses in a transaction block (PostgreSQL manual: the pages of these statements say "cannot be executed inside a
 -- transaction block", or that they cannot be used in one). Not all of it is here. Of CREATE INDEX CONCURRENTLY a rule speaks. An option
--- CONCURRENTLY of REINDEX that has a value may be turned off. Statements on subscriptions are refused with some options alone, and
--- REINDEX and CLUSTER of one table where it has partitions.
+-- CONCURRENTLY of REINDEX that has a value may be turned off. Whether a statement on a subscription is refused depends on its options,
+-- and whether REINDEX or CLUSTER of one table is, on its partitions.
 use Rattle.std.specs.Prelude.{◌≡◌, ℕ, Bool, true, false, List, [], ◌∷◌, Option, Some, None, Contains}
 use Rattle.sql_keyword.specs.declared.words.TheConstants.Keyword as keyword
 use Rattle.sql_token.specs.declared.token.Span.{Span}

@@ -24,7 +24,8 @@ abbrev pub serial_names : List (List ℕ)
 serial_names =
     codes "serial" ∷ codes "smallserial" ∷ codes "bigserial" ∷ codes "serial4" ∷ codes "serial2" ∷ codes "serial8" ∷ []
 
--- An action of an ALTER TABLE that writes the whole table anew.
+-- An action of an ALTER TABLE that writes the whole table anew. Other is said of an action for which the tree has no kind of its own: it has
+-- none that begins with these words.
 pub data ActionRewrites (tree : Tree) (a : Action) : Type 0 where
   logged : a.kind ≡ action.Other → begin_with tree.text (keyword.SET ∷ keyword.LOGGED ∷ []) (action_tokens tree a) ≡ true → ActionRewrites tree a
   unlogged : a.kind ≡ action.Other → begin_with tree.text (keyword.SET ∷ keyword.UNLOGGED ∷ []) (action_tokens tree a) ≡ true → ActionRewrites tree a
