@@ -73,45 +73,45 @@ FormFits r = Fits r.0 r.1
 kind_alone : (kind : StmtKind) (r : StmtKind × Body) → is_system kind ≡ false → Some (kind, body.Kept) ≡ Some r → FormFits r
 kind_alone kind r other e = subst FormFits (ap (λ o. unwrap_or o r) e) (λ h. refl, λ h. absurd (false≢true (sym other ∙ h)))
 
-told_by : (kind : StmtKind) (s : State) (ts : List Terminal) (r : StmtKind × Body) (o : Option Body) → body_by (body_shape_of kind) kind s ts ≡ o
+body_fits : (kind : StmtKind) (s : State) (ts : List Terminal) (r : StmtKind × Body) (o : Option Body) → body_by (body_shape_of kind) kind s ts ≡ o
     → option_and_then (λ b. Some (final_kind kind s, b)) o ≡ Some r → FormFits r
-told_by kind s ts r None is e = absurd (false≢true (ap is_some e))
-told_by kind s ts r (Some b) is e =
+body_fits kind s ts r None is e = absurd (false≢true (ap is_some e))
+body_fits kind s ts r (Some b) is e =
     subst FormFits (ap (λ o. unwrap_or o r) e)
     (λ h. ap (λ o. unwrap_or o b) (sym is ∙ server_kept kind s ts h), λ h. system_kept kind s ts b h is)
 
-told : (ts : List Terminal) (f : StmtKind × State) (r : StmtKind × Body) → kind_and_body ts f ≡ Some r → FormFits r
+state_fits : (ts : List Terminal) (f : StmtKind × State) (r : StmtKind × Body) → kind_and_body ts f ≡ Some r → FormFits r
 unfolding kind_and_body
-told ts f r e = told_by f.0 f.1 ts r (body_by (body_shape_of f.0) f.0 f.1 ts) refl e
+state_fits ts f r e = body_fits f.0 f.1 ts r (body_by (body_shape_of f.0) f.0 f.1 ts) refl e
 
-told_front : (ts : List Terminal) (o : Option (StmtKind × State)) (r : StmtKind × Body) → option_and_then (kind_and_body ts) o ≡ Some r → FormFits r
-told_front ts None r e = absurd (false≢true (ap is_some e))
-told_front ts (Some f) r e = told ts f r e
+front_fits : (ts : List Terminal) (o : Option (StmtKind × State)) (r : StmtKind × Body) → option_and_then (kind_and_body ts) o ≡ Some r → FormFits r
+front_fits ts None r e = absurd (false≢true (ap is_some e))
+front_fits ts (Some f) r e = state_fits ts f r e
 
-told_from : (ts : List Terminal) (r : StmtKind × Body) → form_from ts ≡ Some r → FormFits r
+rest_fits : (ts : List Terminal) (r : StmtKind × Body) → form_from ts ≡ Some r → FormFits r
 unfolding form_from
-told_from [] r e = kind_alone stmt.Select r refl e
-told_from (t ∷ ts) r e = told_front ts (front_by t.symbol ts) r e
+rest_fits [] r e = kind_alone stmt.Select r refl e
+rest_fits (t ∷ ts) r e = front_fits ts (front_by t.symbol ts) r e
 
-told_form : (ts : List Terminal) (r : StmtKind × Body) → form_of ts ≡ Some r → FormFits r
+form_fits : (ts : List Terminal) (r : StmtKind × Body) → form_of ts ≡ Some r → FormFits r
 unfolding form_of
-told_form [] r e = kind_alone stmt.Empty r refl e
-told_form (t ∷ ts) r e = told_from (from_verb (t ∷ ts)) r e
+form_fits [] r e = kind_alone stmt.Empty r refl e
+form_fits (t ∷ ts) r e = rest_fits (from_verb (t ∷ ts)) r e
 
 -- The same of a statement.
 abbrev pub KeepsKind : Stmt → Type 0
 KeepsKind s = Fits s.kind s.body
 
-stated_by : (ts : List Terminal) (o : Option (StmtKind × Body)) → form_of (without_semicolon ts) ≡ o → (s : Stmt)
+statement_by : (ts : List Terminal) (o : Option (StmtKind × Body)) → form_of (without_semicolon ts) ≡ o → (s : Stmt)
     → option_and_then (λ f. Some (stmt_in (span_of ts) f)) o ≡ Some s → KeepsKind s
-stated_by ts None is s e = absurd (false≢true (ap is_some e))
-stated_by ts (Some f) is s e = subst KeepsKind (ap (λ o. unwrap_or o s) e) (told_form (without_semicolon ts) f is)
+statement_by ts None is s e = absurd (false≢true (ap is_some e))
+statement_by ts (Some f) is s e = subst KeepsKind (ap (λ o. unwrap_or o s) e) (form_fits (without_semicolon ts) f is)
 
-stated_if : (ts : List Terminal) (b : Bool) (s : Stmt) → cond b (option_and_then (λ f. Some (stmt_in (span_of ts) f)) (form_of (without_semicolon ts))) None ≡ Some s → KeepsKind s
-stated_if ts true s e = stated_by ts (form_of (without_semicolon ts)) refl s e
-stated_if ts false s e = absurd (false≢true (ap is_some e))
+statement_if : (ts : List Terminal) (b : Bool) (s : Stmt) → cond b (option_and_then (λ f. Some (stmt_in (span_of ts) f)) (form_of (without_semicolon ts))) None ≡ Some s → KeepsKind s
+statement_if ts true s e = statement_by ts (form_of (without_semicolon ts)) refl s e
+statement_if ts false s e = absurd (false≢true (ap is_some e))
 
 -- A statement of the tree of a text keeps what fits its kind.
 pub keeps_kind : (ts : List Terminal) (s : Stmt) → statement ts ≡ Some s → KeepsKind s
 unfolding statement
-keeps_kind ts s e = stated_if ts (is_sound ts) s e
+keeps_kind ts s e = statement_if ts (is_sound ts) s e

@@ -64,7 +64,8 @@ module _ (t : Text) where
   start (word ∷ words) (tok ∷ toks) n zero h = absurd (false≢true h)
   start (word ∷ words) (tok ∷ toks) n (suc m) h = by (is_significant tok.kind) (start words toks (n + 1) m) (start (word ∷ words) toks (n + 1) m) h
     where
-      by : (b : Bool) → Starts toks (n + 1) m words → Starts toks (n + 1) m (word ∷ words) → begin_with t (word ∷ words) (cond b (tok ∷ filter is_significant_token (take m toks)) (filter is_significant_token (take m toks))) ≡ true
+      by : (b : Bool) → Starts toks (n + 1) m words → Starts toks (n + 1) m (word ∷ words)
+          → begin_with t (word ∷ words) (cond b (tok ∷ filter is_significant_token (take m toks)) (filter is_significant_token (take m toks))) ≡ true
           → starts (word ∷ words) (cond b (record { symbol = symbol_of tok.kind (text_of t tok); number = n } ∷ terminals_from t (n + 1) toks) (terminals_from t (n + 1) toks)) ≡ true
       by true next again h =
           let both = and_parts (is_key t word tok) (begin_with t words (filter is_significant_token (take m toks))) h in
@@ -175,20 +176,20 @@ terminal_is word alone t h = ap (λ (x : Symbol). record { symbol = x; number = 
 -- ---- forms
 
 -- It is the form of a statement that ends no transaction.
-abbrev IsUnended : Option (StmtKind × Body) → Type 0
-IsUnended o = unwrap_or (option_and_then (λ (f : StmtKind × Body). Some f.1) o) body.Kept ≡ body.End false false
+abbrev EndsNothing : Option (StmtKind × Body) → Type 0
+EndsNothing o = unwrap_or (option_and_then (λ (f : StmtKind × Body). Some f.1) o) body.Kept ≡ body.End false false
 
 -- a word that makes such a form with the word PREPARED behind it
-abbrev Unends : Keyword → Type 0
-Unends word = (m n : ℕ) (ts : List Terminal) → IsUnended (form_of (key word m ∷ key keyword.PREPARED n ∷ ts))
+abbrev IsPreparedWord : Keyword → Type 0
+IsPreparedWord word = (m n : ℕ) (ts : List Terminal) → EndsNothing (form_of (key word m ∷ key keyword.PREPARED n ∷ ts))
 
-commit_unends : Unends keyword.COMMIT
+commit_form : IsPreparedWord keyword.COMMIT
 unfolding form_of from_verb form_from front_by led_by one_word_kind rows_of take_part kind_and_body body_shape_of final_kind body_by is_keyword same_keyword
-commit_unends m n ts = refl
+commit_form m n ts = refl
 
-rollback_unends : Unends keyword.ROLLBACK
+rollback_form : IsPreparedWord keyword.ROLLBACK
 unfolding form_of from_verb form_from front_by led_by one_word_kind rows_of take_part kind_and_body body_shape_of final_kind body_by is_keyword same_keyword
-rollback_unends m n ts = refl
+rollback_form m n ts = refl
 
 -- the same words are left without the semicolon
 shortened : (x : Terminal) (n : ℕ) (ts : List Terminal) → (us : List Terminal) × (without_semicolon (x ∷ key keyword.PREPARED n ∷ ts) ≡ x ∷ key keyword.PREPARED n ∷ us)
@@ -205,25 +206,25 @@ shortened x n (t ∷ ts) = by (is_semicolon (last_of (x ∷ key keyword.PREPARED
 
 -- ---- a statement
 
-module _ (word : Keyword) (alone : IsAlone word) (unends : Unends word) where
-  form_unended : (x y : Terminal) (ts : List Terminal) → is_keyword word x ≡ true → is_keyword keyword.PREPARED y ≡ true → IsUnended (form_of (without_semicolon (x ∷ y ∷ ts)))
-  form_unended x y ts first second =
+module _ (word : Keyword) (alone : IsAlone word) (form : IsPreparedWord word) where
+  form_ends_nothing : (x y : Terminal) (ts : List Terminal) → is_keyword word x ≡ true → is_keyword keyword.PREPARED y ≡ true → EndsNothing (form_of (without_semicolon (x ∷ y ∷ ts)))
+  form_ends_nothing x y ts first second =
       let same : x ∷ y ∷ ts ≡ key word x.number ∷ key keyword.PREPARED y.number ∷ ts =
       (λ i. terminal_is word alone x first i ∷ terminal_is keyword.PREPARED prepared_word y second i ∷ ts)
       in
       let short = shortened (key word x.number) y.number ts in
-      subst (λ us. IsUnended (form_of us)) (sym (ap without_semicolon same ∙ short.1)) (unends x.number y.number short.0)
+      subst (λ us. EndsNothing (form_of us)) (sym (ap without_semicolon same ∙ short.1)) (form x.number y.number short.0)
 
-  by_form : (span : Span) (o : Option (StmtKind × Body)) (s : Stmt) → IsUnended o → option_and_then (λ f. Some (stmt_in span f)) o ≡ Some s → s.body ≡ body.End false false
-  by_form span None s unended h = absurd (false≢true (ap is_some h))
-  by_form span (Some f) s unended h = sym (ap (λ (o : Option Stmt). (unwrap_or o s).body) h) ∙ unended
+  by_form : (span : Span) (o : Option (StmtKind × Body)) (s : Stmt) → EndsNothing o → option_and_then (λ f. Some (stmt_in span f)) o ≡ Some s → s.body ≡ body.End false false
+  by_form span None s nothing h = absurd (false≢true (ap is_some h))
+  by_form span (Some f) s nothing h = sym (ap (λ (o : Option Stmt). (unwrap_or o s).body) h) ∙ nothing
 
-  body_is : (own : List Terminal) (s : Stmt) → statement own ≡ Some s → IsUnended (form_of (without_semicolon own)) → s.body ≡ body.End false false
+  body_is : (own : List Terminal) (s : Stmt) → statement own ≡ Some s → EndsNothing (form_of (without_semicolon own)) → s.body ≡ body.End false false
   unfolding statement
-  body_is own s h unended = by (is_sound own) h
+  body_is own s h nothing = by (is_sound own) h
     where
       by : (b : Bool) → cond b (option_and_then (λ f. Some (stmt_in (span_of own) f)) (form_of (without_semicolon own))) None ≡ Some s → s.body ≡ body.End false false
-      by true h = by_form (span_of own) (form_of (without_semicolon own)) s unended h
+      by true h = by_form (span_of own) (form_of (without_semicolon own)) s nothing h
       by false h = absurd (false≢true (ap is_some h))
 
   module _ (tree : Tree) (s : Stmt) where
@@ -265,7 +266,7 @@ module _ (word : Keyword) (alone : IsAlone word) (unends : Unends word) where
         ap (λ m. terminals_from tree.text m (drop i tree.toks)) (sym same) ∙ from.is_rest
         in
         let both = both_there i last x y (ts ++ after) rest (subst (λ n. Says n last) (from.is_number ∙ same) says) in
-        body_is (x ∷ y ∷ ts) s is (form_unended x y ts both.0 both.1)
+        body_is (x ∷ y ∷ ts) s is (form_ends_nothing x y ts both.0 both.1)
 
     span_is : (own : List Terminal) → statement own ≡ Some s → (s.first ≡ (span_of own).first) × (s.last ≡ (span_of own).last)
     unfolding statement
@@ -283,9 +284,10 @@ module _ (word : Keyword) (alone : IsAlone word) (unends : Unends word) where
         by_terminals read.before read.own read.after read.parts read.is_statement
         (subst (λ n. Says (span_of read.own).first n) span.1 (subst (λ n. Says n s.last) span.0 says))
 
-pub commits_prepared : (tree : Tree) (s : Stmt) → IsRead (terminals tree.text tree.toks) s → begin_with tree.text (keyword.COMMIT ∷ keyword.PREPARED ∷ []) (statement_tokens tree s) ≡ true → s.body ≡ body.End false false
-commits_prepared = prepared keyword.COMMIT commit_word commit_unends
+pub commits_prepared : (tree : Tree) (s : Stmt) → IsRead (terminals tree.text tree.toks) s → begin_with tree.text (keyword.COMMIT ∷ keyword.PREPARED ∷ []) (statement_tokens tree s) ≡ true
+    → s.body ≡ body.End false false
+commits_prepared = prepared keyword.COMMIT commit_word commit_form
 
 pub rolls_prepared_back : (tree : Tree) (s : Stmt) → IsRead (terminals tree.text tree.toks) s → begin_with tree.text (keyword.ROLLBACK ∷ keyword.PREPARED ∷ []) (statement_tokens tree s) ≡ true
     → s.body ≡ body.End false false
-rolls_prepared_back = prepared keyword.ROLLBACK rollback_word rollback_unends
+rolls_prepared_back = prepared keyword.ROLLBACK rollback_word rollback_form
