@@ -100,7 +100,7 @@ first_on false b e h = absurd (cc)
 
 -- ---- statements and actions
 
--- what is found of a statement
+-- the findings of a statement
 at_statement : (h : Hazard) (enabled : HazardSet) (settings : LinterSettings) (tree : Tree) → IsSilent h enabled settings tree → (i : ℕ) → i < length tree.stmts
     → list_any (is_of h) (statement_findings enabled (known_at settings tree i) tree (stmt_at tree i)) ≡ false
 unfolding findings_by
@@ -108,7 +108,7 @@ at_statement h enabled settings tree silent i l =
     front (is_of h) (statement_findings enabled (known_at settings tree i) tree (stmt_at tree i)) (flat_map (action_findings enabled (known_at settings tree i) tree) (table_actions (stmt_at tree i)))
     (below (is_of h) (findings_at enabled settings tree) (length tree.stmts) i l silent.none_found)
 
--- what is found of an action
+-- the findings of an action
 at_action : (h : Hazard) (enabled : HazardSet) (settings : LinterSettings) (tree : Tree) → IsSilent h enabled settings tree → (i : ℕ) → i < length tree.stmts
     → (a : Action) → Contains (table_actions (stmt_at tree i)) a → list_any (is_of h) (action_findings enabled (known_at settings tree i) tree a) ≡ false
 unfolding findings_by
@@ -117,7 +117,7 @@ at_action h enabled settings tree silent i l a is =
     (rest (is_of h) (statement_findings enabled (known_at settings tree i) tree (stmt_at tree i)) (flat_map (action_findings enabled (known_at settings tree i) tree) (table_actions (stmt_at tree i)))
     (below (is_of h) (findings_at enabled settings tree) (length tree.stmts) i l silent.none_found))
 
--- none of five lists in a row has what passes
+-- no element of five lists, one after another, passes
 record Five {X : Type 0} (p : X → Bool) (a b c d e : List X) : Type 0 where
   first : list_any p a ≡ false
   second : list_any p b ≡ false

@@ -15,7 +15,7 @@ use Rattle.hazard_find.specs.Look.{after_optional, after_words, begins, token_fr
 
 -- ---- checks
 
--- NOT ENFORCED follows the bracket that closes a condition, and perhaps NO INHERIT
+-- NOT ENFORCED follows the bracket that closes a condition, perhaps with NO INHERIT between them
 abbrev pub is_excused_after : Tree → ℕ → ℕ → Bool
 is_excused_after tree n close =
     is_some (after_words tree n (keyword.NOT ∷ keyword.ENFORCED ∷ []) (after_optional tree n (keyword.NO ∷ keyword.INHERIT ∷ []) (close + 1)))

@@ -190,7 +190,7 @@ enabled_of enabled (Some f) = if has enabled f.hazard then f ∷ [] else []
 unfoldable pub check_findings : HazardSet → Here → Tree → List Constraint → List Finding
 check_findings enabled known tree constraints = flat_map (λ c. enabled_of enabled (check_finding known tree c)) constraints
 
--- what is found of an action, in the order of the places
+-- the findings of an action, in the order of their places
 unfoldable pub action_findings : HazardSet → Here → Tree → Action → List Finding
 action_findings enabled known tree a =
     enabled_of enabled (detach_finding known tree a)
@@ -199,7 +199,7 @@ action_findings enabled known tree a =
     ++ enabled_of enabled (json_finding known tree a)
     ++ check_findings enabled known tree (new_constraints a)
 
--- what is found of a statement as a whole
+-- the findings of a statement as a whole
 unfoldable pub statement_findings : HazardSet → Here → Tree → Stmt → List Finding
 statement_findings enabled known tree s =
     enabled_of enabled (refused_finding known tree s)
@@ -208,14 +208,14 @@ statement_findings enabled known tree s =
     ++ enabled_of enabled (kept_finding known tree s)
     ++ enabled_of enabled (refresh_finding known tree s)
 
--- what is found of a statement, by what is known of it: first on the whole of it, then on its actions
+-- the findings of a statement, by what is known of it: first those of the whole statement, then those of its actions
 unfoldable pub findings_by : HazardSet → Tree → Here → Stmt → List Finding
 findings_by enabled tree known s = statement_findings enabled known tree s ++ flat_map (action_findings enabled known tree) (table_actions s)
 
--- what is found of statement i
+-- the findings of statement i
 abbrev pub findings_at : HazardSet → LinterSettings → Tree → ℕ → List Finding
 findings_at enabled settings tree i = findings_by enabled tree (known_at settings tree i) (stmt_at tree i)
 
--- what is found in a text, statement by statement
+-- the findings of a text, statement by statement
 abbrev pub findings_of : HazardSet → LinterSettings → Tree → List Finding
 findings_of enabled settings tree = concat_below (findings_at enabled settings tree) (length tree.stmts)

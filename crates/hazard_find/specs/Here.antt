@@ -36,7 +36,7 @@ index_of s = index_by s.body
 abbrev pub has_repack : LinterSettings → Bool
 has_repack settings = le_z (pos 19) (slice_index_or settings.pg_version 0 (pos 0))
 
--- A text of one statement is not run in a transaction block, unless one is assumed; this is left alone in any case.
+-- A text of one statement is run without a transaction block, unless one is assumed. Even then nothing in it is reported as refused.
 abbrev pub has_more : Tree → Bool
 has_more tree = nat_lt 1 (length tree.stmts)
 

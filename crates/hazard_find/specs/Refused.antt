@@ -1,6 +1,6 @@
 -- Statements that PostgreSQL refuses in a transaction block (PostgreSQL manual, the pages of DROP INDEX, REINDEX, ALTER TABLE, VACUUM,
 -- CLUSTER, CREATE and DROP DATABASE, ALTER DATABASE, CREATE and DROP TABLESPACE, ALTER SYSTEM, DISCARD, COMMIT PREPARED and ROLLBACK
--- PREPARED). CREATE INDEX CONCURRENTLY is one too, of which a rule speaks.
+-- PREPARED). CREATE INDEX CONCURRENTLY is refused too, but a rule reports it.
 use Rattle.std.specs.Prelude.{ℕ, Bool, false, not, ◌&&◌, List, [], ◌∷◌, codes, Option, Some, None, if◌then◌else◌}
 use Rattle.std.specs.List.{list_any}
 use Rattle.sql_keyword.specs.declared.words.TheConstants.Keyword as keyword
@@ -19,7 +19,7 @@ use Rattle.lint_node.specs.Same.{same_action, same_kind}
 use Rattle.hazard_find.specs.Look.{begins, says}
 use Rattle.hazard_find.specs.Timeouts.{discards_all}
 
--- What is said of a statement that is refused, by its kind, and nothing of any other.
+-- The message for a statement that is refused, by its kind: None for any other.
 
 abbrev pub refused_drop : StmtKind → Bool → Option (List ℕ)
 refused_drop kind concurrently =
@@ -39,7 +39,7 @@ abbrev pub refused_cluster : Option Span → Option (List ℕ)
 refused_cluster None = Some (codes "`cluster` without a table always fails inside a transaction")
 refused_cluster (Some table) = None
 
--- COMMIT PREPARED and ROLLBACK PREPARED; ROLLBACK TO is another one that ends no transaction
+-- COMMIT PREPARED and ROLLBACK PREPARED. ROLLBACK TO, which does not end the transaction either, is not refused.
 unfoldable pub refused_end : Tree → Stmt → Bool → Option (List ℕ)
 refused_end tree s plain =
     if plain then None
@@ -80,7 +80,7 @@ refused_by tree s (body.Alter path actions) = refused_alter tree s.kind actions
 refused_by tree s body.Kept = refused_kept tree s
 refused_by tree s _ = None
 
--- what is said of a statement that PostgreSQL refuses in a transaction
+-- the message for a statement that PostgreSQL refuses in a transaction
 unfoldable pub refused : Tree → Stmt → Option (List ℕ)
 refused tree s = refused_by tree s s.body
 

@@ -24,7 +24,7 @@ use Rattle.hazard_find.specs.declared.here.Here.{Here}
 
 -- ---- statements
 
--- What is said of a statement that rewrites. No block takes a VACUUM, so its tables are always old.
+-- The message for a statement that rewrites a table. VACUUM cannot run in a transaction block, so its tables are always old.
 abbrev pub rewrites_by : Here → Body → Option (List ℕ)
 rewrites_by here (body.Vacuum full tables) =
     if full && not here.has_repack then Some (codes "`vacuum full` rewrites the whole table while nobody can read or write it") else None
@@ -68,7 +68,7 @@ action_rewrites_by tree action.Other a = other_rewrites tree a
 action_rewrites_by tree action.AlterColumn a = column_rewrites a.pieces
 action_rewrites_by tree _ a = None
 
--- what is said of an action that rewrites, but for ADD COLUMN
+-- the message for an action that rewrites a table, except ADD COLUMN
 unfoldable pub action_rewrites : Tree → Action → Option (List ℕ)
 action_rewrites tree a = action_rewrites_by tree a.kind a
 

@@ -14,7 +14,7 @@ pub record Kept : Type 0 where
   pub lock_limited : Bool
   pub statement_limited : Bool
 
--- what is kept is right before statement i
+-- before statement i, what is kept is what the earlier statements say
 pub record IsKept (tree : Tree) (assumed : Bool) (i : ℕ) (kept : Kept) : Type 0 where
   pub created : IsKnown tree assumed i kept.created
   pub temporary : (path : List (List ℕ)) → has_span tree kept.temporary path ≡ is_temporary tree path i

@@ -237,7 +237,7 @@ impl Earlier {
         self.lock_limited || self.statement_limited
     }
 
-    /// Goes after a statement. The error comes when memory runs out.
+    /// Goes past a statement. The only error is that memory runs out.
     pub fn update(&mut self, p: &Parse<'_>, s: &Stmt) -> Result<(), NoMemory>
         ensures { OnOk result ((assumed : Bool) (i : ℕ) → s.now ≡ stmt_at p.now i
             → IsKept p.now assumed i self.old → IsKept p.now assumed (i + 1) self.new) }

@@ -151,7 +151,7 @@ fn refused_kept(p: &Parse<'_>, s: &Stmt) -> Option<Text>
     }
 }
 
-/// What is said of a statement that PostgreSQL refuses in a transaction.
+/// The message for a statement that PostgreSQL refuses in a transaction.
 #[tactic(auto, unfolding(crate::specs::Refused::refused))]
 pub(crate) fn refused(p: &Parse<'_>, s: &Stmt) -> Option<Text>
     ensures { result ≡ spec.refused p.now s.now }

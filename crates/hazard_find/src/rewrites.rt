@@ -36,7 +36,7 @@ const SET_ACCESS_METHOD: &str =
 const SET_EXPRESSION: &str =
     "`set expression` rewrites the whole table while nobody can read or write it";
 
-/// What is said of a statement that rewrites.
+/// The message for a statement that rewrites a table.
 #[tactic(auto, unfolding(crate::specs::Rewrites::rewrites))]
 pub(crate) fn rewrites(here: Here, s: &Stmt) -> Option<Text>
     ensures { result ≡ spec.rewrites here s.now }
@@ -75,7 +75,7 @@ fn sets_access_method(p: &Parse<'_>, a: &Action) -> bool
     )
 }
 
-/// What is said of an action that its tree does not tell from others.
+/// The message for an action for which the tree has no kind of its own.
 #[tactic(auto, unfolding(crate::specs::Rewrites::other_rewrites))]
 fn other_rewrites(p: &Parse<'_>, a: &Action) -> Option<Text>
     ensures { result ≡ spec.other_rewrites p.now a.now }
@@ -112,7 +112,7 @@ fn column_rewrites(pieces: &[Piece]) -> Option<Text>
     }
 }
 
-/// What is said of an action that rewrites, but for ADD COLUMN.
+/// The message for an action that rewrites a table, except ADD COLUMN.
 #[tactic(auto, unfolding(crate::specs::Rewrites::action_rewrites))]
 pub(crate) fn action_rewrites(p: &Parse<'_>, a: &Action) -> Option<Text>
     ensures { result ≡ spec.action_rewrites p.now a.now }

@@ -141,7 +141,7 @@ fn limits(p: &Parse<'_>, name: &str, s: &Stmt) -> bool
     sets(p, name, s) && gives_limit(p, parameter(s), s.last as usize + 1)
 }
 
-/// Whether a timeout is set after a statement, by whether it was before.
+/// Whether a timeout is set after a statement, given whether it was set before.
 pub(crate) fn is_set_after(p: &Parse<'_>, name: &str, s: &Stmt, was_set: bool) -> bool
     ensures { result ≡ (spec.limits p.now name.now s.now || (was_set && not (spec.changes p.now name.now s.now))) }
 {

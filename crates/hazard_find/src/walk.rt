@@ -22,7 +22,7 @@ use sql_tree::{Action, Constraint, Parse, Stmt};
 use std::alloc::Global;
 use text_pos::NoMemory;
 
-/// Adds what was found, where there is anything and its hazard is enabled.
+/// Adds a finding, if there is one and its hazard is enabled.
 fn push(
     list: &mut Vec<Finding>,
     enabled: &HazardSet,
@@ -38,7 +38,7 @@ fn push(
     Ok(())
 }
 
-/// Adds what is found of the constraints of a new column.
+/// Adds the findings of the constraints of a new column.
 #[tactic(auto, unfolding(crate::specs::Findings::check_findings))]
 fn push_checks(
     list: &mut Vec<Finding>,
@@ -55,7 +55,7 @@ fn push_checks(
     Ok(())
 }
 
-/// Adds what is found of an action.
+/// Adds the findings of an action.
 #[tactic(auto, unfolding(crate::specs::Findings::action_findings))]
 fn push_action(
     list: &mut Vec<Finding>,
@@ -73,7 +73,7 @@ fn push_action(
     push_checks(list, enabled, here, p, new_constraints(a))
 }
 
-/// Adds what is found of the actions of an ALTER TABLE.
+/// Adds the findings of the actions of an ALTER TABLE.
 fn push_actions(
     list: &mut Vec<Finding>,
     enabled: &HazardSet,
@@ -89,7 +89,7 @@ fn push_actions(
     Ok(())
 }
 
-/// Adds what is found of a statement as a whole.
+/// Adds the findings of a statement as a whole.
 #[tactic(auto, unfolding(crate::specs::Findings::statement_findings))]
 fn push_statement(
     list: &mut Vec<Finding>,
@@ -107,7 +107,7 @@ fn push_statement(
     push(list, enabled, refresh_finding(here, p, s))
 }
 
-/// Adds what is found of a statement, by what is known of it.
+/// Adds the findings of a statement, by what is known of it.
 #[tactic(auto, unfolding(crate::specs::Findings::findings_by))]
 fn push_findings(
     list: &mut Vec<Finding>,
@@ -122,7 +122,7 @@ fn push_findings(
     push_actions(list, enabled, here, p, table_actions(s))
 }
 
-/// Adds what is found of statement `i`, and goes past it.
+/// Adds the findings of statement `i`, and goes past it.
 fn step(
     list: &mut Vec<Finding>,
     earlier: &mut Earlier,
@@ -142,11 +142,10 @@ fn step(
     earlier.update(p, s)
 }
 
-/// The hazards of a text that are enabled, statement by statement; of one statement first those of the whole of it, then those
-/// of its actions.
+/// The findings of the enabled hazards, statement by statement. Those of a whole statement come before those of its actions.
 ///
 /// A transaction is open at the start where the settings assume one, unless a comment of the text says that none is to be assumed.
-/// Ignore comments cover nothing here. The error comes when memory runs out, and no other way.
+/// Ignore comments have no effect here. The only error is that memory runs out.
 pub fn find(
     alloc: Global,
     file: &Parse<'_>,

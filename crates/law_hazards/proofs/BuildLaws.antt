@@ -39,6 +39,7 @@ use Rattle.law_hazards.specs.Tables.{names}
 use Rattle.law_hazards.specs.Words.{begin_with, is_key, shown, statement_tokens}
 use Rattle.law_hazards.proofs.Nodes.{both_on, kind_is, kind_on, name_on}
 use Rattle.law_hazards.proofs.Numbers.{found_below, not_so, reset_between}
+use Rattle.law_hazards.proofs.PathLaws.{ends_here}
 use Rattle.law_hazards.proofs.Silent.{silent}
 use Rattle.law_hazards.proofs.WordLaws.{Reads, begins_so, first_shown, reads, some_shown}
 
@@ -141,7 +142,7 @@ module _ (tree : Tree) (name : List ℕ) (s : Stmt) where
       let word = key_first tree.text keyword.RESET (statement_tokens tree s) read.0 in
       ends.by_reset word.0 (token_at tree.toks k) (shown tree (k + 1) (s.last + 1)) kind
       (word.1 ∙ ap (λ ts. word.0 ∷ ts) (sym read.1 ∙ (some_shown tree (s.last + 1) m k at).shows)) word.2
-      (one_is (path_at tree (s.last + 1) k) h).1
+      (one_is (path_at tree (s.last + 1) k) h).1 (ends_here tree (s.last + 1) k (one_is (path_at tree (s.last + 1) k) h).0)
 
   reset_by_token : (m : ℕ) → s.kind ≡ stmt.Reset → Reads tree (s.last + 1) (keyword.RESET ∷ []) s.first (Some m) → (o : Option ℕ) → token_from tree (s.last + 1) m ≡ o
       → is_parameter tree name (option_map (path_at tree (s.last + 1)) o) ≡ true → Unsets tree name s
@@ -206,7 +207,7 @@ builds_have_time unlimited enabled settings tree quiet i l outside build name j 
 
 -- ---- what is dropped
 
--- a DROP INDEX IF EXISTS one of whose paths passes
+-- a DROP INDEX IF EXISTS, and a path of it that passes the test
 record IsDropOf (p : Span → Bool) (kind : StmtKind) (b : Body) : Type 0 where
   word : ℕ
   concurrently : Bool

@@ -3,6 +3,7 @@ use Rattle.std.proofs.Common.{◌≡◌, ◌∙◌, sym, ap, refl, Bool, true, f
 use Rattle.std.specs.List.{list_any}
 use Rattle.std.proofs.lemmas.Bool.{false≢true}
 use Rattle.sql_keyword.specs.declared.words.TheConstants.Keyword as keyword
+use Rattle.sql_token.specs.Terminal.{terminals}
 use Rattle.sql_tree.specs.declared.kinds.ActionKind.TheVariants as action
 use Rattle.sql_tree.specs.declared.kinds.StmtKind.{StmtKind}
 use Rattle.sql_tree.specs.declared.kinds.StmtKind.TheVariants as stmt
@@ -23,8 +24,10 @@ use Rattle.hazard_find.specs.Timeouts.{discards_all}
 use Rattle.law_hazards.specs.Inside.{IsRefusedByServer, IsRefusedWork}
 use Rattle.law_hazards.specs.Inside.{IsRefusedByServer as server, IsRefusedWork as work}
 use Rattle.law_hazards.specs.Laws.{NothingIsRefusedInside}
-use Rattle.law_hazards.proofs.KindLaws.{KeepsKind, is_server, kept_there}
+use Rattle.law_hazards.proofs.KindLaws.{KeepsKind, has_actions, is_server, is_system, keeps_kind}
 use Rattle.law_hazards.proofs.Nodes.{action_in, action_on, any_of, both_on, else_some, kind_on, some_where, spoken, then_some}
+use Rattle.law_hazards.proofs.Prepared.{commits_prepared, rolls_prepared_back}
+use Rattle.law_hazards.proofs.Reading.{IsRead, read_there}
 use Rattle.law_hazards.proofs.Silent.{silent}
 use Rattle.law_hazards.proofs.WordLaws.{begins_so, key_begins}
 
@@ -59,32 +62,40 @@ module _ (tree : Tree) (s : Stmt) (quiet : refused tree s ≡ None) where
   by_kind kind is has said =
       by_body body.Kept has (else_some (discards_all tree s) _ (refused_kind s.kind) (ap (λ k. is_some (refused_kind k)) is ∙ said))
 
-  no_server : KeepsKind s → IsRefusedByServer tree s → ⊥
+  system_said : (b : Body) → s.kind ≡ stmt.AlterSystem → has_actions b ≡ true → is_some (refused_by tree s b) ≡ true
+  unfolding refused_alter
+  system_said (body.Alter path of) kind h = then_some (same_kind s.kind stmt.AlterSystem) _ _ (kind_on s.kind stmt.AlterSystem kind)
+  system_said _ kind h = absurd (false≢true h)
+
+  kept : IsRead (terminals tree.text tree.toks) s → KeepsKind s
+  kept read = keeps_kind read.own s read.is_statement
+
+  no_server : IsRead (terminals tree.text tree.toks) s → IsRefusedByServer tree s → ⊥
   unfolding refused_kind refused_alter any_moves moves discards_all refused_end
-  no_server kept (server.creates_database kind) = by_kind stmt.CreateDatabase kind (kept (ap is_server kind)) refl
-  no_server kept (server.drops_database kind) = by_kind stmt.DropDatabase kind (kept (ap is_server kind)) refl
-  no_server kept (server.moves_database path of a kind has is words) =
+  no_server read (server.creates_database kind) = by_kind stmt.CreateDatabase kind ((kept read).0 (ap is_server kind)) refl
+  no_server read (server.drops_database kind) = by_kind stmt.DropDatabase kind ((kept read).0 (ap is_server kind)) refl
+  no_server read (server.moves_database path of a kind has is words) =
       let moved : list_any (moves tree) of ≡ true = any_of (moves tree) of a is (begins_so tree (keyword.SET ∷ keyword.TABLESPACE ∷ []) a.first a.last ∙ words) in
       by_body (body.Alter path of) has
       (else_some (same_kind s.kind stmt.AlterSystem) _ _
       (some_where (same_kind s.kind stmt.AlterDatabase && list_any (moves tree) of) _ (both_on _ _ (kind_on s.kind stmt.AlterDatabase kind) moved)))
-  no_server kept (server.creates_tablespace kind) = by_kind stmt.CreateTablespace kind (kept (ap is_server kind)) refl
-  no_server kept (server.drops_tablespace kind) = by_kind stmt.DropTablespace kind (kept (ap is_server kind)) refl
-  no_server kept (server.alters_system path of kind has) =
-      by_body (body.Alter path of) has (then_some (same_kind s.kind stmt.AlterSystem) _ _ (kind_on s.kind stmt.AlterSystem kind))
-  no_server kept (server.discards_all kind words) =
-      by_body body.Kept (kept (ap is_server kind))
+  no_server read (server.creates_tablespace kind) = by_kind stmt.CreateTablespace kind ((kept read).0 (ap is_server kind)) refl
+  no_server read (server.drops_tablespace kind) = by_kind stmt.DropTablespace kind ((kept read).0 (ap is_server kind)) refl
+  no_server read (server.alters_system kind) =
+      by_body s.body refl (system_said s.body kind ((kept read).1 (ap is_system kind)))
+  no_server read (server.discards_all kind words) =
+      by_body body.Kept ((kept read).0 (ap is_server kind))
       (then_some (discards_all tree s) _ _
       (both_on _ _ (kind_on s.kind stmt.Discard kind) (begins_so tree (keyword.DISCARD ∷ keyword.ALL ∷ []) s.first s.last ∙ words)))
-  no_server kept (server.commits_prepared chain has words) =
-      by_body (body.End false chain) has
+  no_server read (server.commits_prepared words) =
+      by_body (body.End false false) (commits_prepared tree s read words)
       (then_some (begins tree (keyword.COMMIT ∷ keyword.PREPARED ∷ []) s.first s.last) _ _ (begins_so tree (keyword.COMMIT ∷ keyword.PREPARED ∷ []) s.first s.last ∙ words))
-  no_server kept (server.rolls_prepared_back chain has words) =
-      by_body (body.End false chain) has
+  no_server read (server.rolls_prepared_back words) =
+      by_body (body.End false false) (rolls_prepared_back tree s read words)
       (else_some (begins tree (keyword.COMMIT ∷ keyword.PREPARED ∷ []) s.first s.last) _ _
       (some_where (begins tree (keyword.ROLLBACK ∷ keyword.PREPARED ∷ []) s.first s.last) _ (begins_so tree (keyword.ROLLBACK ∷ keyword.PREPARED ∷ []) s.first s.last ∙ words)))
 
 pub nothing_is_refused_inside : TransactionsAreKept → NothingIsRefusedInside
 nothing_is_refused_inside kept enabled settings tree is quiet more i l inside =
     let both = kept enabled settings tree (silent hazard.StatementInTransaction enabled settings tree quiet) (lt-ltb 1 _ more) i l inside in
-    (no_work tree (stmt_at tree i) both.0 both.1, no_server tree (stmt_at tree i) both.0 (kept_there tree is i l))
+    (no_work tree (stmt_at tree i) both.0 both.1, no_server tree (stmt_at tree i) both.0 (read_there tree is i l))

@@ -1,20 +1,20 @@
--- Kinds of statements of which a tree keeps nothing else.
-use Rattle.std.proofs.Common.{◌≡◌, ◌<◌, ◌∙◌, sym, ap, subst, refl, ℕ, Bool, true, false, cond, List, [], ◌∷◌, length, All, Option, Some, None, is_some, Result, Ok, Err, option_and_then, unwrap_or}
+-- Kinds of statements, and what a tree keeps of them.
+use Rattle.std.proofs.Common.{◌≡◌, ◌∙◌, sym, ap, subst, refl, Bool, true, false, cond, List, [], ◌∷◌, Option, Some, None, is_some, option_and_then, unwrap_or}
 use Rattle.std.proofs.lemmas.Bool.{false≢true}
-use Rattle.std.proofs.lemmas.List.Elements.{All-cons, All-nil}
 use Rattle.sql_keyword.specs.declared.words.TheConstants.Keyword as keyword
 use Rattle.sql_token.specs.declared.terminal.Terminal.{Terminal}
-use Rattle.sql_token.specs.Depth.{has_keyword, span_of, statements}
+use Rattle.sql_token.specs.declared.token.Span.{Span}
+use Rattle.sql_token.specs.Depth.{has_keyword, span_of}
 use Rattle.sql_token.specs.Sound.{is_sound}
-use Rattle.sql_token.specs.Terminal.{terminals}
 use Rattle.sql_tree.specs.declared.kinds.StmtKind.{StmtKind}
 use Rattle.sql_tree.specs.declared.kinds.StmtKind.TheVariants as stmt
+use Rattle.sql_tree.specs.declared.nodes.Action.{Action}
 use Rattle.sql_tree.specs.declared.nodes.Body.{Body}
 use Rattle.sql_tree.specs.declared.nodes.Body.TheVariants as body
 use Rattle.sql_tree.specs.declared.nodes.Stmt.{Stmt}
+use Rattle.sql_tree.specs.Action.{actions_of}
 use Rattle.sql_tree.specs.Forms.{State}
-use Rattle.sql_tree.specs.Statement.{IsTree, Tree, all_statements, and_then_all, body_by, body_shape_of, final_kind, followed_by, form_from, form_of, from_verb, front_by, kind_and_body, read_tokens, statement, stmt_in, without_semicolon}
-use Rattle.lint_transaction.specs.Transaction.{no_stmt, stmt_at}
+use Rattle.sql_tree.specs.Statement.{body_by, body_shape_of, final_kind, form_from, form_of, from_verb, front_by, kind_and_body, statement, stmt_in, without_semicolon}
 
 -- the kinds that speak of a database, a tablespace or the session
 abbrev pub is_server : StmtKind → Bool
@@ -29,6 +29,20 @@ no_table : (b : Bool) → is_server (cond b stmt.CreateTableAs stmt.CreateTable)
 no_table true h = false≢true h
 no_table false h = false≢true h
 
+-- an ALTER SYSTEM
+abbrev pub is_system : StmtKind → Bool
+is_system stmt.AlterSystem = true
+is_system _ = false
+
+-- with actions
+abbrev pub has_actions : Body → Bool
+has_actions (body.Alter path actions) = true
+has_actions _ = false
+
+no_system : (b : Bool) → is_system (cond b stmt.CreateTableAs stmt.CreateTable) ≡ true → ⊥
+no_system true h = false≢true h
+no_system false h = false≢true h
+
 server_kept : (kind : StmtKind) (s : State) (ts : List Terminal) → is_server (final_kind kind s) ≡ true → body_by (body_shape_of kind) kind s ts ≡ Some body.Kept
 unfolding body_shape_of body_by final_kind
 server_kept stmt.CreateDatabase s ts h = refl
@@ -39,79 +53,65 @@ server_kept stmt.Discard s ts h = refl
 server_kept stmt.CreateTable s ts h = absurd (no_table (has_keyword keyword.AS s.left) h)
 server_kept _ s ts h = absurd (false≢true h)
 
--- What is read of a statement of such a kind is the kind.
-abbrev IsKept : StmtKind × Body → Type 0
-IsKept r = is_server r.0 ≡ true → r.1 ≡ body.Kept
+alter_kept : (path : Option Span) (o : Option (List Action)) (b : Body) → option_and_then (λ actions. Some (body.Alter path actions)) o ≡ Some b → has_actions b ≡ true
+alter_kept path None b e = absurd (false≢true (ap is_some e))
+alter_kept path (Some actions) b e = sym (ap (λ o. has_actions (unwrap_or o b)) e)
 
-told_by : (kind : StmtKind) (s : State) (ts : List Terminal) (r : StmtKind × Body) (o : Option Body) → body_by (body_shape_of kind) kind s ts ≡ o
-    → option_and_then (λ b. Some (final_kind kind s, b)) o ≡ Some r → IsKept r
-told_by kind s ts r None is e h = absurd (false≢true (ap is_some e))
-told_by kind s ts r (Some b) is e h =
-    let pair : (final_kind kind s, b) ≡ r = ap (λ o. unwrap_or o r) e in
-    let server : is_server (final_kind kind s) ≡ true = ap (λ (x : StmtKind × Body). is_server x.0) pair ∙ h in
-    sym (ap (λ (x : StmtKind × Body). x.1) pair) ∙ ap (λ o. unwrap_or o b) (sym is ∙ server_kept kind s ts server)
+system_kept : (kind : StmtKind) (s : State) (ts : List Terminal) (b : Body) → is_system (final_kind kind s) ≡ true → body_by (body_shape_of kind) kind s ts ≡ Some b → has_actions b ≡ true
+unfolding body_shape_of body_by final_kind
+system_kept stmt.AlterSystem s ts b h e = alter_kept s.kept.path (actions_of stmt.AlterSystem s.left) b e
+system_kept stmt.CreateTable s ts b h e = absurd (no_system (has_keyword keyword.AS s.left) h)
+system_kept _ s ts b h e = absurd (false≢true h)
 
-told : (ts : List Terminal) (f : StmtKind × State) (r : StmtKind × Body) → kind_and_body ts f ≡ Some r → IsKept r
+-- Of a statement of such a kind the body keeps nothing else, and of an ALTER SYSTEM it keeps actions.
+abbrev pub Fits : StmtKind → Body → Type 0
+Fits kind b = (is_server kind ≡ true → b ≡ body.Kept) × (is_system kind ≡ true → has_actions b ≡ true)
+
+abbrev FormFits : StmtKind × Body → Type 0
+FormFits r = Fits r.0 r.1
+
+kind_alone : (kind : StmtKind) (r : StmtKind × Body) → is_system kind ≡ false → Some (kind, body.Kept) ≡ Some r → FormFits r
+kind_alone kind r other e = subst FormFits (ap (λ o. unwrap_or o r) e) (λ h. refl, λ h. absurd (false≢true (sym other ∙ h)))
+
+body_fits : (kind : StmtKind) (s : State) (ts : List Terminal) (r : StmtKind × Body) (o : Option Body) → body_by (body_shape_of kind) kind s ts ≡ o
+    → option_and_then (λ b. Some (final_kind kind s, b)) o ≡ Some r → FormFits r
+body_fits kind s ts r None is e = absurd (false≢true (ap is_some e))
+body_fits kind s ts r (Some b) is e =
+    subst FormFits (ap (λ o. unwrap_or o r) e)
+    (λ h. ap (λ o. unwrap_or o b) (sym is ∙ server_kept kind s ts h), λ h. system_kept kind s ts b h is)
+
+state_fits : (ts : List Terminal) (f : StmtKind × State) (r : StmtKind × Body) → kind_and_body ts f ≡ Some r → FormFits r
 unfolding kind_and_body
-told ts f r e = told_by f.0 f.1 ts r (body_by (body_shape_of f.0) f.0 f.1 ts) refl e
+state_fits ts f r e = body_fits f.0 f.1 ts r (body_by (body_shape_of f.0) f.0 f.1 ts) refl e
 
-told_front : (ts : List Terminal) (o : Option (StmtKind × State)) (r : StmtKind × Body) → option_and_then (kind_and_body ts) o ≡ Some r → IsKept r
-told_front ts None r e h = absurd (false≢true (ap is_some e))
-told_front ts (Some f) r e h = told ts f r e h
+front_fits : (ts : List Terminal) (o : Option (StmtKind × State)) (r : StmtKind × Body) → option_and_then (kind_and_body ts) o ≡ Some r → FormFits r
+front_fits ts None r e = absurd (false≢true (ap is_some e))
+front_fits ts (Some f) r e = state_fits ts f r e
 
-told_from : (ts : List Terminal) (r : StmtKind × Body) → form_from ts ≡ Some r → IsKept r
+rest_fits : (ts : List Terminal) (r : StmtKind × Body) → form_from ts ≡ Some r → FormFits r
 unfolding form_from
-told_from [] r e h = sym (ap (λ (o : Option (StmtKind × Body)). (unwrap_or o r).1) e)
-told_from (t ∷ ts) r e h = told_front ts (front_by t.symbol ts) r e h
+rest_fits [] r e = kind_alone stmt.Select r refl e
+rest_fits (t ∷ ts) r e = front_fits ts (front_by t.symbol ts) r e
 
-told_form : (ts : List Terminal) (r : StmtKind × Body) → form_of ts ≡ Some r → IsKept r
+form_fits : (ts : List Terminal) (r : StmtKind × Body) → form_of ts ≡ Some r → FormFits r
 unfolding form_of
-told_form [] r e h = sym (ap (λ (o : Option (StmtKind × Body)). (unwrap_or o r).1) e)
-told_form (t ∷ ts) r e h = told_from (from_verb (t ∷ ts)) r e h
+form_fits [] r e = kind_alone stmt.Empty r refl e
+form_fits (t ∷ ts) r e = rest_fits (from_verb (t ∷ ts)) r e
 
--- The statement is of no such kind, or the tree keeps nothing else of it.
+-- The same of a statement.
 abbrev pub KeepsKind : Stmt → Type 0
-KeepsKind s = is_server s.kind ≡ true → s.body ≡ body.Kept
+KeepsKind s = Fits s.kind s.body
 
-stated_by : (ts : List Terminal) (o : Option (StmtKind × Body)) → form_of (without_semicolon ts) ≡ o → (s : Stmt)
+statement_by : (ts : List Terminal) (o : Option (StmtKind × Body)) → form_of (without_semicolon ts) ≡ o → (s : Stmt)
     → option_and_then (λ f. Some (stmt_in (span_of ts) f)) o ≡ Some s → KeepsKind s
-stated_by ts None is s e h = absurd (false≢true (ap is_some e))
-stated_by ts (Some f) is s e h =
-    let same : stmt_in (span_of ts) f ≡ s = ap (λ o. unwrap_or o s) e in
-    sym (ap (λ (x : Stmt). x.body) same) ∙ told_form (without_semicolon ts) f is (ap (λ (x : Stmt). is_server x.kind) same ∙ h)
+statement_by ts None is s e = absurd (false≢true (ap is_some e))
+statement_by ts (Some f) is s e = subst KeepsKind (ap (λ o. unwrap_or o s) e) (form_fits (without_semicolon ts) f is)
 
-stated_if : (ts : List Terminal) (b : Bool) (s : Stmt) → cond b (option_and_then (λ f. Some (stmt_in (span_of ts) f)) (form_of (without_semicolon ts))) None ≡ Some s → KeepsKind s
-stated_if ts true s e = stated_by ts (form_of (without_semicolon ts)) refl s e
-stated_if ts false s e = λ h. absurd (false≢true (ap is_some e))
+statement_if : (ts : List Terminal) (b : Bool) (s : Stmt) → cond b (option_and_then (λ f. Some (stmt_in (span_of ts) f)) (form_of (without_semicolon ts))) None ≡ Some s → KeepsKind s
+statement_if ts true s e = statement_by ts (form_of (without_semicolon ts)) refl s e
+statement_if ts false s e = absurd (false≢true (ap is_some e))
 
-stated : (ts : List Terminal) (s : Stmt) → statement ts ≡ Some s → KeepsKind s
+-- A statement of the tree of a text keeps what fits its kind.
+pub keeps_kind : (ts : List Terminal) (s : Stmt) → statement ts ≡ Some s → KeepsKind s
 unfolding statement
-stated ts s e = stated_if ts (is_sound ts) s e
-
--- ---- all statements
-
-abbrev read_of : Result (List Stmt) ℕ → List Stmt
-read_of (Ok ss) = ss
-read_of (Err n) = []
-
-followed_keep : (s : Stmt) → KeepsKind s → (r : Result (List Stmt) ℕ) → All KeepsKind (read_of r) → All KeepsKind (read_of (followed_by s r))
-followed_keep s here (Ok ss) others = All-cons KeepsKind s ss here others
-followed_keep s here (Err n) others = All-nil KeepsKind
-
-and_then_keep : (ts : List Terminal) (o : Option Stmt) → statement ts ≡ o → (n : ℕ) (r : Result (List Stmt) ℕ) → All KeepsKind (read_of r)
-    → All KeepsKind (read_of (and_then_all o n r))
-and_then_keep ts None is n r others = All-nil KeepsKind
-and_then_keep ts (Some s) is n r others = followed_keep s (stated ts s is) r others
-
-all_keep : (tss : List (List Terminal)) → All KeepsKind (read_of (all_statements tss))
-all_keep [] = All-nil KeepsKind
-all_keep (ts ∷ tss) = and_then_keep ts (statement ts) refl (span_of ts).first (all_statements tss) (all_keep tss)
-
--- the tree of a text keeps nothing else of statements of these kinds
-pub kept_there : (tree : Tree) → IsTree tree → (i : ℕ) → i < length tree.stmts → KeepsKind (stmt_at tree i)
-unfolding read_tokens
-kept_there tree is i l =
-    let all : All KeepsKind (read_of (Ok tree.stmts)) =
-    subst (λ (r : Result (List Stmt) ℕ). All KeepsKind (read_of r)) is.read (all_keep (statements (terminals tree.text tree.toks)))
-    in
-    all i no_stmt l
+keeps_kind ts s e = statement_if ts (is_sound ts) s e

@@ -5,6 +5,8 @@ pub mod KindLaws
 pub mod Nodes
 pub mod Numbers
 pub mod PathLaws
+pub mod Prepared
+pub mod Reading
 pub mod RewriteLaws
 pub mod Silent
 pub mod TableLaws

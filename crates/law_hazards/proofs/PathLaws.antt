@@ -19,6 +19,7 @@ use Rattle.sql_tree.specs.Path.{name_cuts, path_cuts}
 use Rattle.sql_tree.specs.Range.{token_at}
 use Rattle.sql_tree.specs.Statement.{Tree, no_token}
 use Rattle.hazard_find.specs.Look.{after_dot, after_optional, after_words, name_after_dot, path_after, path_at, path_from, token_from}
+use Rattle.law_hazards.specs.Builds.{goes_on}
 use Rattle.law_hazards.specs.Views.{one_more, path_names, path_tokens}
 use Rattle.law_hazards.specs.Words.{begin_with, shown, statement_tokens}
 use Rattle.law_hazards.proofs.WordLaws.{Reads, alone, none_shown, optional_shown, reads, some_mapped, some_shown}
@@ -212,6 +213,39 @@ module _ (tree : Tree) where
     path_named i k at =
         let next = some_shown tree n i k at in
         path_so k next.within ∙ sym (ap (path_names tree.text) next.shows)
+
+-- ---- a path of one name
+
+none_more : (t : Text) (toks : List Tok) → one_more t (λ others. []) toks ≡ [] → goes_on t toks ≡ false
+none_more t [] h = refl
+none_more t (dot ∷ []) h = refl
+none_more t (dot ∷ tok ∷ toks) h = by (bytes_eq (text_of t dot) (codes ".")) h
+  where
+    by : (b : Bool) → cond b (dot ∷ tok ∷ []) [] ≡ [] → b ≡ false
+    by true h = absurd (omega (arith, ap length h))
+    by false h = refl
+
+module _ (tree : Tree) (n k : ℕ) where
+  not_before : (m p : ℕ) → Goes tree n k m → Goes tree n m p ⊎ Stays tree n m p → k ≡ p → ⊥
+  not_before m p first (inl second) e =
+      let a = first.after in
+      let b = first.before in
+      let c = second.after in
+      let d = second.before in
+      absurd (omega (arith, a, b, c, d, e))
+  not_before m p first (inr stays) e =
+      let a = first.after in
+      let b = first.before in
+      let same = stays.same in
+      absurd (omega (arith, a, b, same, e))
+
+  -- No dot and name follow it.
+  pub ends_here : k ≡ after_dot tree n (after_dot tree n k) → goes_on tree.text (shown tree (k + 1) n) ≡ false
+  ends_here e = by (step tree n k)
+    where
+      by : Goes tree n k (after_dot tree n k) ⊎ Stays tree n k (after_dot tree n k) → goes_on tree.text (shown tree (k + 1) n) ≡ false
+      by (inl goes) = absurd (not_before (after_dot tree n k) (after_dot tree n (after_dot tree n k)) goes (step tree n (after_dot tree n k)) e)
+      by (inr stays) = none_more tree.text (shown tree (k + 1) n) (stays.shows (λ others. []))
 
 -- ---- the path that follows words
 

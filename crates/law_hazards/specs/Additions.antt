@@ -42,7 +42,7 @@ pub record HasCheck (tree : Tree) (c : Column) : Type 0 where
   pub checks : constraint.kind ≡ con.Check
   pub is_enforced : (condition : Span) → constraint.expr_span ≡ Some condition → IsEnforced tree constraint condition
 
--- The column is of type json, and no array of it.
+-- The column is of type json, by that one name, and no array of it.
 pub record IsJson (tree : Tree) (c : Column) : Type 0 where
   pub of_type : ColType
   pub has_type : c.ty ≡ Some of_type

@@ -21,7 +21,7 @@ use Rattle.law_hazards.specs.Words.{begin_with, is_key, shown, statement_tokens}
 
 -- ---- builds
 
--- An index is built, dropped or rebuilt CONCURRENTLY.
+-- An index is built, dropped or rebuilt CONCURRENTLY. An option CONCURRENTLY of REINDEX that has a value is left out: it may be turned off.
 pub data IsConcurrent (s : Stmt) : Type 0 where
   builds : (word mark : ℕ) (unique guarded : Bool) (name : Option ℕ) (path : Span) → s.body ≡ body.Index word unique (Some mark) guarded name path → IsConcurrent s
   drops : (word : ℕ) (guarded : Bool) (paths : List Span) → s.kind ≡ stmt.DropIndex → s.body ≡ body.Drop word true guarded paths → IsConcurrent s
@@ -47,11 +47,11 @@ pub data IsTimeout : List ℕ → Type 0 where
   lock : IsTimeout (codes "lock_timeout")
   statement : IsTimeout (codes "statement_timeout")
 
--- no time at all, as a text writes it
+-- no time at all: 0, alone or with a unit (written otherwise, as '0 ms', it counts as some time)
 abbrev pub no_time : List (List ℕ)
 no_time = codes "0" ∷ codes "'0'" ∷ codes "'0ms'" ∷ codes "'0s'" ∷ codes "'0min'" ∷ codes "'0h'" ∷ []
 
--- The statement is a SET of this parameter, for the session.
+-- The statement is a SET of this parameter, for the session. Its name is compared as a column's is: in double quotes by its own letters.
 pub record Sets (tree : Tree) (name : List ℕ) (s : Stmt) : Type 0 where
   pub path : Span
   pub sets : s.body ≡ body.Setting (Some path)
@@ -63,12 +63,12 @@ pub record Sets (tree : Tree) (name : List ℕ) (s : Stmt) : Type 0 where
 abbrev pub IsTo : Text → Tok → Type 0
 IsTo t tok = (is_key t keyword.TO tok ≡ true) ⊎ (text_of t tok ≡ codes "=")
 
--- The token is a literal other than no time.
+-- The token is a number, or a string in single quotes, and not no time. A value with a sign, or in other quotes, is none.
 pub record IsSomeTime (t : Text) (tok : Tok) : Type 0 where
   pub is_literal : (tok.kind ≡ kinds.Str) ⊎ (tok.kind ≡ kinds.Number)
   pub is_some : list_any (bytes_eq (text_of t tok)) no_time ≡ false
 
--- The statement gives the timeout a value other than 0, for the session.
+-- The statement is a SET that gives the timeout such a value, for the session.
 pub record SetsTime (tree : Tree) (name : List ℕ) (s : Stmt) : Type 0 where
   pub sets : Sets tree name s
   pub sign : Tok
@@ -78,11 +78,18 @@ pub record SetsTime (tree : Tree) (name : List ℕ) (s : Stmt) : Type 0 where
   pub is_to : IsTo tree.text sign
   pub is_time : IsSomeTime tree.text value
 
--- The statement ends what an earlier one set: another SET of the parameter, its RESET, RESET ALL, or DISCARD ALL.
+-- a dot and a token come first: the name before them goes on
+abbrev pub goes_on : Text → List Tok → Bool
+goes_on t [] = false
+goes_on t (dot ∷ []) = false
+goes_on t (dot ∷ tok ∷ toks) = bytes_eq (text_of t dot) (codes ".")
+
+-- The statement ends what an earlier one set: another SET of the parameter, its RESET, RESET ALL, or DISCARD ALL. That a ROLLBACK may undo
+-- it is not looked at.
 pub data Unsets (tree : Tree) (name : List ℕ) (s : Stmt) : Type 0 where
   by_set : Sets tree name s → Unsets tree name s
   by_reset : (word first : Tok) (rest : List Tok) → s.kind ≡ stmt.Reset → statement_tokens tree s ≡ word ∷ first ∷ rest → is_key tree.text keyword.RESET word ≡ true
-      → full_name (text_of tree.text first) ≡ name → Unsets tree name s
+      → full_name (text_of tree.text first) ≡ name → goes_on tree.text rest ≡ false → Unsets tree name s
   by_reset_all : s.kind ≡ stmt.Reset → begin_with tree.text (keyword.RESET ∷ keyword.ALL ∷ []) (statement_tokens tree s) ≡ true → Unsets tree name s
   by_discard_all : s.kind ≡ stmt.Discard → begin_with tree.text (keyword.DISCARD ∷ keyword.ALL ∷ []) (statement_tokens tree s) ≡ true → Unsets tree name s
 

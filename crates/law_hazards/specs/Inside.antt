@@ -1,5 +1,7 @@
 -- What PostgreSQL refuses in a transaction block (PostgreSQL manual: the pages of these statements say "cannot be executed inside a
--- transaction block", or that they cannot be used in one). CREATE INDEX CONCURRENTLY is refused too: a rule speaks of it.
+-- transaction block", or that they cannot be used in one). Not all of it is here. Of CREATE INDEX CONCURRENTLY a rule speaks. An option
+-- CONCURRENTLY of REINDEX that has a value may be turned off. Whether a statement on a subscription is refused depends on its options,
+-- and whether REINDEX or CLUSTER of one table is, on its partitions.
 use Rattle.std.specs.Prelude.{◌≡◌, ℕ, Bool, true, false, List, [], ◌∷◌, Option, Some, None, Contains}
 use Rattle.sql_keyword.specs.declared.words.TheConstants.Keyword as keyword
 use Rattle.sql_token.specs.declared.token.Span.{Span}
@@ -34,10 +36,8 @@ pub data IsRefusedByServer (tree : Tree) (s : Stmt) : Type 0 where
       → begin_with tree.text (keyword.SET ∷ keyword.TABLESPACE ∷ []) (action_tokens tree a) ≡ true → IsRefusedByServer tree s
   creates_tablespace : s.kind ≡ stmt.CreateTablespace → IsRefusedByServer tree s
   drops_tablespace : s.kind ≡ stmt.DropTablespace → IsRefusedByServer tree s
-  alters_system : (path : Option Span) (actions : List Action) → s.kind ≡ stmt.AlterSystem → s.body ≡ body.Alter path actions → IsRefusedByServer tree s
+  alters_system : s.kind ≡ stmt.AlterSystem → IsRefusedByServer tree s
   discards_all : s.kind ≡ stmt.Discard → begin_with tree.text (keyword.DISCARD ∷ keyword.ALL ∷ []) (statement_tokens tree s) ≡ true
       → IsRefusedByServer tree s
-  commits_prepared : (chain : Bool) → s.body ≡ body.End false chain → begin_with tree.text (keyword.COMMIT ∷ keyword.PREPARED ∷ []) (statement_tokens tree s) ≡ true
-      → IsRefusedByServer tree s
-  rolls_prepared_back : (chain : Bool) → s.body ≡ body.End false chain
-      → begin_with tree.text (keyword.ROLLBACK ∷ keyword.PREPARED ∷ []) (statement_tokens tree s) ≡ true → IsRefusedByServer tree s
+  commits_prepared : begin_with tree.text (keyword.COMMIT ∷ keyword.PREPARED ∷ []) (statement_tokens tree s) ≡ true → IsRefusedByServer tree s
+  rolls_prepared_back : begin_with tree.text (keyword.ROLLBACK ∷ keyword.PREPARED ∷ []) (statement_tokens tree s) ≡ true → IsRefusedByServer tree s

@@ -25,7 +25,7 @@ NothingIsRefusedInside =
     → (IsRefusedWork tree (stmt_at tree i) → ⊥) × (IsRefusedByServer tree (stmt_at tree i) → ⊥)
 
 -- Table-rewrite: what is written anew is a table that the statement names, and that an earlier statement of the same open transaction
--- creates, or that is temporary.
+-- creates, or that is temporary. So there is no VACUUM FULL before version 19, and no REINDEX SYSTEM.
 abbrev pub OnlyOursAreRewritten : Type 0
 OnlyOursAreRewritten =
     (enabled : HazardSet) (settings : LinterSettings) (tree : Tree) → IsNotFound hazard.TableRewrite enabled settings tree
@@ -39,8 +39,8 @@ OnlyOursGetChecks =
     → (i : ℕ) (table : Option Span) (c : Column) → i < length tree.stmts → AddsColumn (stmt_at tree i) table c → HasCheck tree c
     → IsOurs (begins_inside settings tree) tree i table
 
--- Build-under-timeout: outside of a transaction, where an index is built, dropped or rebuilt CONCURRENTLY, each timeout that the text
--- set before is unset again.
+-- Build-under-timeout: outside of a transaction, where an index is built, dropped or rebuilt CONCURRENTLY, each timeout to which a SET of
+-- the text gave a time before is unset again.
 abbrev pub BuildsHaveTime : Type 0
 BuildsHaveTime =
     (enabled : HazardSet) (settings : LinterSettings) (tree : Tree) → IsNotFound hazard.BuildUnderTimeout enabled settings tree

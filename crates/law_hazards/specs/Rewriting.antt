@@ -24,7 +24,8 @@ abbrev pub serial_names : List (List ℕ)
 serial_names =
     codes "serial" ∷ codes "smallserial" ∷ codes "bigserial" ∷ codes "serial4" ∷ codes "serial2" ∷ codes "serial8" ∷ []
 
--- An action of an ALTER TABLE that writes the whole table anew.
+-- An action of an ALTER TABLE that writes the whole table anew. Other is said of an action for which the tree has no kind of its own: it has
+-- none that begins with these words.
 pub data ActionRewrites (tree : Tree) (a : Action) : Type 0 where
   logged : a.kind ≡ action.Other → begin_with tree.text (keyword.SET ∷ keyword.LOGGED ∷ []) (action_tokens tree a) ≡ true → ActionRewrites tree a
   unlogged : a.kind ≡ action.Other → begin_with tree.text (keyword.SET ∷ keyword.UNLOGGED ∷ []) (action_tokens tree a) ≡ true → ActionRewrites tree a
@@ -34,11 +35,11 @@ pub data ActionRewrites (tree : Tree) (a : Action) : Type 0 where
   serial : (c : Column) (t : ColType) → a.kind ≡ action.AddColumn → a.column ≡ Some c → c.ty ≡ Some t → t.array ≡ false → t.inner.first ≡ t.inner.last
       → is_listed serial_names tree t.inner.first ≡ true → ActionRewrites tree a
 
--- The server is not known to be of version 19 or later, which has REPACK: of what REPACK can do a rule speaks there.
+-- The server is not known to be of version 19 or later, which has REPACK: there a rule speaks of VACUUM FULL and CLUSTER.
 abbrev pub IsBeforeRepack : LinterSettings → Type 0
 IsBeforeRepack settings = le_z (pos 19) (slice_index_or settings.pg_version 0 (pos 0)) ≡ false
 
--- A statement that does so, and the table that it names.
+-- A statement that does so, and the table that it names. For VACUUM FULL there is none, whatever it names: no transaction block takes it.
 pub data Rewrites (settings : LinterSettings) (tree : Tree) (s : Stmt) : Option Span → Type 0 where
   vacuums : (tables : Option Span) → IsBeforeRepack settings → s.body ≡ body.Vacuum true tables → Rewrites settings tree s None
   clusters : (table : Option Span) (index : Option ℕ) → IsBeforeRepack settings → s.body ≡ body.Cluster table index → Rewrites settings tree s table

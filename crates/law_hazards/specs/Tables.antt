@@ -1,4 +1,5 @@
--- Tables that nobody else uses.
+-- Tables that nobody else uses, as far as a text tells. A table is known by the names that statements give it: a CREATE with IF NOT EXISTS
+-- counts too, and a search path, a DROP or a RENAME is not looked at.
 use Rattle.std.specs.Prelude.{◌≡◌, ◌<◌, ℕ, Bool, true, false, Option, Some}
 use Rattle.sql_token.specs.declared.token.Span.{Span}
 use Rattle.sql_tree.specs.declared.nodes.Elem.{Elem}

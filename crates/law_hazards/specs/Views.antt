@@ -30,7 +30,7 @@ path_names t toks = flat_map (name_cuts t) (path_tokens t toks)
 abbrev pub without_guard : Text → List Tok → List Tok
 without_guard t toks = if begin_with t (keyword.IF ∷ keyword.NOT ∷ keyword.EXISTS ∷ []) toks then drop 3 toks else toks
 
--- Statement i fills a view, and an earlier statement makes the view of that name.
+-- Statement i fills a view, and an earlier statement makes the view of that name, perhaps with IF NOT EXISTS.
 pub record IsMadeFirst (tree : Tree) (i : ℕ) : Type 0 where
   pub number : ℕ
   pub is_earlier : number < i
