@@ -6,10 +6,19 @@ _lavkheto_words() {
 }
 
 # (the last name of a list with commas)
-_lavkheto_rules() {
+_lavkheto_list() {
     local front=''
     [[ $cur == *,* ]] && front=${cur%,*},
-    mapfile -t COMPREPLY < <(compgen -P "$front" -W "$_lavkheto_names" -- "${cur##*,}")
+    mapfile -t COMPREPLY < <(compgen -P "$front" -W "$1" -- "${cur##*,}")
+}
+
+_lavkheto_rules() {
+    _lavkheto_list "$_lavkheto_rule_names"
+}
+
+# (rules and hazards)
+_lavkheto_codes() {
+    _lavkheto_list "$_lavkheto_rule_names $_lavkheto_hazard_names"
 }
 
 # (files of a pattern, or all files; and folders)
@@ -38,9 +47,9 @@ _lavkheto() {
     check:--config) _lavkheto_files; return ;;
     check:--fail-on) _lavkheto_words 'warning never'; return ;;
     check:--baseline) _lavkheto_files; return ;;
-    check:--only) _lavkheto_rules; return ;;
-    check:--include) _lavkheto_rules; return ;;
-    check:--exclude) _lavkheto_rules; return ;;
+    check:--only) _lavkheto_codes; return ;;
+    check:--include) _lavkheto_codes; return ;;
+    check:--exclude) _lavkheto_codes; return ;;
     check:--non-volatile) :; return ;;
     check:--pg-major) :; return ;;
     check:--pg-minor) :; return ;;
@@ -59,9 +68,9 @@ _lavkheto() {
     gate:--pg-major) :; return ;;
     gate:--pg-minor) :; return ;;
     gate:--pg-patch) :; return ;;
-    server:--only) _lavkheto_rules; return ;;
-    server:--include) _lavkheto_rules; return ;;
-    server:--exclude) _lavkheto_rules; return ;;
+    server:--only) _lavkheto_codes; return ;;
+    server:--include) _lavkheto_codes; return ;;
+    server:--exclude) _lavkheto_codes; return ;;
     server:--non-volatile) :; return ;;
     server:--pg-major) :; return ;;
     server:--pg-minor) :; return ;;
@@ -75,13 +84,13 @@ _lavkheto() {
     gate:-*) _lavkheto_words '--order --works --one-session -- --include --non-volatile --assume-in-transaction --pg-major --pg-minor --pg-patch --help' ;;
     gate:*) _lavkheto_files '*.sql' ;;
     explain:-*) _lavkheto_words '--help' ;;
-    explain:*) _lavkheto_rules ;;
+    explain:*) _lavkheto_codes ;;
     server:-*) _lavkheto_words '--only --include --exclude --no-hazards --non-volatile --assume-in-transaction --pg-major --pg-minor --pg-patch --help' ;;
     server:*) : ;;
     esac
 }
 
-_lavkheto_names='
+_lavkheto_rule_names='
 require-concurrent-index-creation
 require-concurrent-index-deletion
 require-concurrent-reindex
@@ -159,6 +168,8 @@ require-table-schema
 identifier-too-long
 ban-duplicate-column-assignments
 require-timeout-settings
+'
+_lavkheto_hazard_names='
 statement-in-transaction
 table-rewrite
 column-with-check
@@ -166,11 +177,5 @@ build-under-timeout
 invalid-index-kept
 refresh-blocks-reads
 json-column
-identifier-too-long
-require-concurrent-index-creation
-require-concurrent-partition-detach
-require-lock-timeout
-prefer-bigint-over-int
-require-enum-value-ordering
 '
 complete -F _lavkheto lavkheto

@@ -1,8 +1,9 @@
 # Completions of lavkheto for fish. Written by tools/help_files.py from the help texts; an edit here is lost.
-set -g __lavkheto_rules require-concurrent-index-creation require-concurrent-index-deletion require-concurrent-reindex ban-concurrent-index-creation-in-transaction ban-drop-index constraint-missing-not-valid adding-foreign-key-constraint adding-serial-primary-key-field disallowed-unique-constraint adding-not-nullable-field ban-new-write-restriction ban-drop-constraint ban-drop-not-null ban-create-domain-with-constraint ban-alter-domain-with-add-constraint changing-column-type adding-field-with-default adding-required-field ban-add-column ban-drop-column ban-drop-default ban-set-default ban-alter-identity ban-drop-generated-expression ban-alter-generated-expression prefer-bigint-over-int prefer-bigint-over-smallint prefer-identity prefer-text-field prefer-timestamp-tz ban-char-field require-enum-value-ordering ban-add-enum-value ban-add-composite-attribute ban-drop-database ban-drop-table ban-drop-view ban-drop-function ban-drop-type ban-drop-trigger ban-drop-schema ban-drop-sequence ban-drop-domain ban-drop-extension ban-truncate-cascade require-concurrent-partition-detach ban-detach-inheritance renaming-column renaming-table renaming-object ban-set-schema ban-disable-trigger ban-replica-identity ban-replace-view-function ban-revoke ban-create-policy ban-drop-policy ban-alter-policy-condition ban-alter-policy-roles ban-alter-row-level-security ban-alter-role-options ban-alter-function-options ban-alter-view-options ban-alter-database-options ban-alter-system-options ban-alter-extension ban-alter-sequence-values prefer-robust-stmts transaction-nesting ban-uncommitted-transaction require-lock-timeout require-statement-timeout prefer-repack require-table-schema identifier-too-long ban-duplicate-column-assignments require-timeout-settings statement-in-transaction table-rewrite column-with-check build-under-timeout invalid-index-kept refresh-blocks-reads json-column identifier-too-long require-concurrent-index-creation require-concurrent-partition-detach require-lock-timeout prefer-bigint-over-int require-enum-value-ordering
+set -g __lavkheto_rules require-concurrent-index-creation require-concurrent-index-deletion require-concurrent-reindex ban-concurrent-index-creation-in-transaction ban-drop-index constraint-missing-not-valid adding-foreign-key-constraint adding-serial-primary-key-field disallowed-unique-constraint adding-not-nullable-field ban-new-write-restriction ban-drop-constraint ban-drop-not-null ban-create-domain-with-constraint ban-alter-domain-with-add-constraint changing-column-type adding-field-with-default adding-required-field ban-add-column ban-drop-column ban-drop-default ban-set-default ban-alter-identity ban-drop-generated-expression ban-alter-generated-expression prefer-bigint-over-int prefer-bigint-over-smallint prefer-identity prefer-text-field prefer-timestamp-tz ban-char-field require-enum-value-ordering ban-add-enum-value ban-add-composite-attribute ban-drop-database ban-drop-table ban-drop-view ban-drop-function ban-drop-type ban-drop-trigger ban-drop-schema ban-drop-sequence ban-drop-domain ban-drop-extension ban-truncate-cascade require-concurrent-partition-detach ban-detach-inheritance renaming-column renaming-table renaming-object ban-set-schema ban-disable-trigger ban-replica-identity ban-replace-view-function ban-revoke ban-create-policy ban-drop-policy ban-alter-policy-condition ban-alter-policy-roles ban-alter-row-level-security ban-alter-role-options ban-alter-function-options ban-alter-view-options ban-alter-database-options ban-alter-system-options ban-alter-extension ban-alter-sequence-values prefer-robust-stmts transaction-nesting ban-uncommitted-transaction require-lock-timeout require-statement-timeout prefer-repack require-table-schema identifier-too-long ban-duplicate-column-assignments require-timeout-settings
+set -g __lavkheto_hazards statement-in-transaction table-rewrite column-with-check build-under-timeout invalid-index-kept refresh-blocks-reads json-column
 function __lavkheto_list
     set -l front (commandline -ct | string replace -r -- '^--[^=]*=' '' | string replace -rf '(.*,).*' '$1')
-    printf '%s\n' "$front"$__lavkheto_rules
+    printf '%s\n' "$front"$argv
 end
 complete -c lavkheto -f
 complete -c lavkheto -n __fish_use_subcommand -a check -d 'Lints migrations of PostgreSQL'
@@ -23,9 +24,9 @@ complete -c lavkheto -n '__fish_seen_subcommand_from check' -l fail-on -x -a 'wa
 complete -c lavkheto -n '__fish_seen_subcommand_from check' -l baseline -r -F -d 'what is found and is in this baseline counts as not found'
 complete -c lavkheto -n '__fish_seen_subcommand_from check' -l write-baseline -d 'the baseline that has all that is found is written, in place of the findings'
 complete -c lavkheto -n '__fish_seen_subcommand_from check' -l strict -d 'a line for psql, and the data of COPY, are faults'
-complete -c lavkheto -n '__fish_seen_subcommand_from check' -l only -x -a '(__lavkheto_list)' -d 'exactly these rules and hazards, with commas between them'
-complete -c lavkheto -n '__fish_seen_subcommand_from check' -l include -x -a '(__lavkheto_list)' -d 'these rules and hazards too'
-complete -c lavkheto -n '__fish_seen_subcommand_from check' -l exclude -x -a '(__lavkheto_list)' -d 'without these rules and hazards'
+complete -c lavkheto -n '__fish_seen_subcommand_from check' -l only -x -a '(__lavkheto_list $__lavkheto_rules $__lavkheto_hazards)' -d 'exactly these rules and hazards, with commas between them'
+complete -c lavkheto -n '__fish_seen_subcommand_from check' -l include -x -a '(__lavkheto_list $__lavkheto_rules $__lavkheto_hazards)' -d 'these rules and hazards too'
+complete -c lavkheto -n '__fish_seen_subcommand_from check' -l exclude -x -a '(__lavkheto_list $__lavkheto_rules $__lavkheto_hazards)' -d 'without these rules and hazards'
 complete -c lavkheto -n '__fish_seen_subcommand_from check' -l no-hazards -d 'Squawk\'s rules alone'
 complete -c lavkheto -n '__fish_seen_subcommand_from check' -l non-volatile -x -d 'functions that count as not volatile'
 complete -c lavkheto -n '__fish_seen_subcommand_from check' -l assume-in-transaction -d 'the migration runs in a transaction that was begun before it'
@@ -38,9 +39,9 @@ complete -c lavkheto -n '__fish_seen_subcommand_from fix' -k -a '(__fish_complet
 complete -c lavkheto -n '__fish_seen_subcommand_from fix' -l write -d 'write the files in place of printing a diff; what is made of standard input goes to standard output'
 complete -c lavkheto -n '__fish_seen_subcommand_from fix' -l unsafe -d 'make the unsafe fixes too, which may fail or change what the text means: look at each of them'
 complete -c lavkheto -n '__fish_seen_subcommand_from fix' -l config -r -F -d 'the configuration, instead of .squawk.toml in this folder or one above it, up to the repository\'s'
-complete -c lavkheto -n '__fish_seen_subcommand_from fix' -l only -x -a '(__lavkheto_list)' -d 'exactly these rules, with commas between them'
-complete -c lavkheto -n '__fish_seen_subcommand_from fix' -l include -x -a '(__lavkheto_list)' -d 'these rules too'
-complete -c lavkheto -n '__fish_seen_subcommand_from fix' -l exclude -x -a '(__lavkheto_list)' -d 'without these rules'
+complete -c lavkheto -n '__fish_seen_subcommand_from fix' -l only -x -a '(__lavkheto_list $__lavkheto_rules)' -d 'exactly these rules, with commas between them'
+complete -c lavkheto -n '__fish_seen_subcommand_from fix' -l include -x -a '(__lavkheto_list $__lavkheto_rules)' -d 'these rules too'
+complete -c lavkheto -n '__fish_seen_subcommand_from fix' -l exclude -x -a '(__lavkheto_list $__lavkheto_rules)' -d 'without these rules'
 complete -c lavkheto -n '__fish_seen_subcommand_from fix' -l non-volatile -x -d 'functions that count as not volatile'
 complete -c lavkheto -n '__fish_seen_subcommand_from fix' -l assume-in-transaction -d 'each file runs in a transaction that was begun before it'
 complete -c lavkheto -n '__fish_seen_subcommand_from fix' -l pg-major -x -d 'the version of PostgreSQL (default: 15)'
@@ -51,18 +52,18 @@ complete -c lavkheto -n '__fish_seen_subcommand_from gate' -k -a '(__fish_comple
 complete -c lavkheto -n '__fish_seen_subcommand_from gate' -l order -x -a 'given name' -d 'the files run in the order in which they are given (default); they run in order of their names'
 complete -c lavkheto -n '__fish_seen_subcommand_from gate' -l works -d 'the work of each file under locks, where all are accepted'
 complete -c lavkheto -n '__fish_seen_subcommand_from gate' -l one-session -d 'one session runs all files: none may end inside a transaction'
-complete -c lavkheto -n '__fish_seen_subcommand_from gate' -l include -x -a '(__lavkheto_list)' -d 'these rules too'
+complete -c lavkheto -n '__fish_seen_subcommand_from gate' -l include -x -a '(__lavkheto_list $__lavkheto_rules)' -d 'these rules too'
 complete -c lavkheto -n '__fish_seen_subcommand_from gate' -l non-volatile -x -d 'functions that count as not volatile'
 complete -c lavkheto -n '__fish_seen_subcommand_from gate' -l assume-in-transaction -d 'each file runs in a transaction that was begun before it'
 complete -c lavkheto -n '__fish_seen_subcommand_from gate' -l pg-major -x -d 'the version of PostgreSQL (default: 15)'
 complete -c lavkheto -n '__fish_seen_subcommand_from gate' -l pg-minor -x -d 'its second part (default: 0)'
 complete -c lavkheto -n '__fish_seen_subcommand_from gate' -l pg-patch -x -d 'its third part (default: 0)'
 complete -c lavkheto -n '__fish_seen_subcommand_from gate' -l help -d 'this help'
-complete -c lavkheto -n '__fish_seen_subcommand_from explain' -k -a "$__lavkheto_rules"
+complete -c lavkheto -n '__fish_seen_subcommand_from explain' -k -a "$__lavkheto_rules $__lavkheto_hazards"
 complete -c lavkheto -n '__fish_seen_subcommand_from explain' -l help -d 'this help'
-complete -c lavkheto -n '__fish_seen_subcommand_from server' -l only -x -a '(__lavkheto_list)' -d 'exactly these rules and hazards, with commas between them'
-complete -c lavkheto -n '__fish_seen_subcommand_from server' -l include -x -a '(__lavkheto_list)' -d 'these rules and hazards too'
-complete -c lavkheto -n '__fish_seen_subcommand_from server' -l exclude -x -a '(__lavkheto_list)' -d 'without these rules and hazards'
+complete -c lavkheto -n '__fish_seen_subcommand_from server' -l only -x -a '(__lavkheto_list $__lavkheto_rules $__lavkheto_hazards)' -d 'exactly these rules and hazards, with commas between them'
+complete -c lavkheto -n '__fish_seen_subcommand_from server' -l include -x -a '(__lavkheto_list $__lavkheto_rules $__lavkheto_hazards)' -d 'these rules and hazards too'
+complete -c lavkheto -n '__fish_seen_subcommand_from server' -l exclude -x -a '(__lavkheto_list $__lavkheto_rules $__lavkheto_hazards)' -d 'without these rules and hazards'
 complete -c lavkheto -n '__fish_seen_subcommand_from server' -l no-hazards -d 'Squawk\'s rules alone'
 complete -c lavkheto -n '__fish_seen_subcommand_from server' -l non-volatile -x -d 'functions that count as not volatile'
 complete -c lavkheto -n '__fish_seen_subcommand_from server' -l assume-in-transaction -d 'the migration runs in a transaction that was begun before it'

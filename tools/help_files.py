@@ -150,25 +150,27 @@ def places(command, whole, own):
     return {word for line in usages(command, whole, own) for word in re.findall(r'[A-Z]{2,}', line)} - {'OPTIONS', 'WORD'}
 
 
-def rules():
-    """The names of the rules, in the order of docs/RULES.md."""
+def codes():
+    """The names of the rules, and those of the hazards, in the order of docs/RULES.md."""
     page = (TOP / 'docs/RULES.md').read_text(encoding='utf-8')
-    names = re.findall(r'^(?:\| \[|One rule more, )`([a-z-]+)`', page, re.M)
-    return [name for name in names if name != 'unused-ignore']
+    names = dict.fromkeys(re.findall(r'^(?:\| \[|One rule more, )`([a-z-]+)`', page, re.M))
+    hazards = re.findall(r'^### `([a-z-]+)`', page.partition('\n## Hazards\n')[2].partition('\n## ')[0], re.M)
+    return [name for name in names if name not in ('unused-ignore', *hazards)], hazards
 
 
 def kind(one):
-    """What stands for the value of an option in a completion."""
+    """What a completion offers for the value of an option: an option that takes hazards too says so."""
     if one.choices():
         return 'choices'
-    return {'RULES': 'rules', 'RULE': 'rules', 'FILE': 'file'}.get(one.value, 'other' if one.value else '')
+    rules = 'codes' if 'hazards' in one.text else 'rules'
+    return {'RULES': rules, 'RULE': rules, 'FILE': 'file'}.get(one.value, 'other' if one.value else '')
 
 
 def bash_values(command, options):
     """The cases of a command's options that take a value."""
     lines = []
     for one in options:
-        does = {'choices': f"_{NAME}_words '{' '.join(one.choices())}'", 'rules': f'_{NAME}_rules', 'file': f'_{NAME}_files', 'other': ':'}
+        does = {'choices': f"_{NAME}_words '{' '.join(one.choices())}'", 'rules': f'_{NAME}_rules', 'codes': f'_{NAME}_codes', 'file': f'_{NAME}_files', 'other': ':'}
         if one.value:
             lines.append(f'    {"|".join(f"{command}:{name}" for name in one.names)}) {does[kind(one)]}; return ;;')
     return lines
@@ -177,7 +179,7 @@ def bash_values(command, options):
 def bash_command(command, options, takes):
     """The cases of a command's other words."""
     names = ' '.join(name for one in options for name in one.names)
-    does = f"_{NAME}_files '*.sql'" if 'FILES' in takes or 'FILE' in takes else f'_{NAME}_rules' if takes & {'RULE', 'RULES'} else ':'
+    does = f"_{NAME}_files '*.sql'" if 'FILES' in takes or 'FILE' in takes else f'_{NAME}_codes' if takes & {'RULE', 'RULES'} else ':'
     return [f"    {command}:-*) _{NAME}_words '{names}' ;;", f'    {command}:*) {does} ;;']
 
 
@@ -188,7 +190,7 @@ def bash(whole, own):
         values += bash_values(command, one.completed())
         rest += bash_command(command, one.completed(), places(command, whole, one))
     first = ' '.join([*own, '--help', '--version'])
-    return (TOP / 'completions/bash.in').read_text().replace('@WRITTEN@', WRITTEN).replace('@RULES@', '\n'.join(rules())) \
+    return (TOP / 'completions/bash.in').read_text().replace('@WRITTEN@', WRITTEN).replace('@RULES@', '\n'.join(codes()[0])).replace('@HAZARDS@', '\n'.join(codes()[1])) \
         .replace('@FIRST@', first).replace('@VALUES@', '\n'.join(values)).replace('@REST@', '\n'.join(rest))
 
 
@@ -199,7 +201,7 @@ def zsh_quoted(text):
 
 def zsh_option(one):
     """The words of `_arguments` for an option."""
-    value = {'choices': f'({" ".join(one.choices())})', 'rules': f'_{NAME}_rules', 'file': '_files', 'other': ' ', '': ''}[kind(one)]
+    value = {'choices': f'({" ".join(one.choices())})', 'rules': f'_{NAME}_rules', 'codes': f'_{NAME}_codes', 'file': '_files', 'other': ' ', '': ''}[kind(one)]
     after = f':{one.value}:{value}' if one.value else ''
     return [f"'{name}{'=' * bool(one.value)}[{zsh_quoted(one.text)}]{after}'" for name in one.names if name != '--']
 
@@ -210,7 +212,7 @@ def zsh_command(command, options, takes):
     if takes & {'FILE', 'FILES'}:
         words.append("'*:file:_files -g \"*.sql\"'")
     elif takes & {'RULE', 'RULES'}:
-        words.append(f"'*:rule:_{NAME}_rules'")
+        words.append(f"'*:rule:_{NAME}_codes'")
     return [f'  {command})', '    _arguments -S \\', *(f'      {word} \\' for word in words), '      ;;']
 
 
@@ -218,14 +220,14 @@ def zsh(whole, own):
     """The completion for zsh."""
     cases = [line for command, one in own.items() for line in zsh_command(command, one.completed(), places(command, whole, one))]
     first = [f"'{command}:{zsh_quoted(whole.commands[command])}'" for command in own] + ["'--help:the help'", "'--version:the version'"]
-    return (TOP / 'completions/zsh.in').read_text().replace('@WRITTEN@', WRITTEN).replace('@RULES@', '\n'.join(rules())) \
+    return (TOP / 'completions/zsh.in').read_text().replace('@WRITTEN@', WRITTEN).replace('@RULES@', '\n'.join(codes()[0])).replace('@HAZARDS@', '\n'.join(codes()[1])) \
         .replace('@FIRST@', ' '.join(first)).replace('@CASES@', '\n'.join(cases))
 
 
 # (the last name of a list with commas)
 FISH_LIST = f'''function __{NAME}_list
     set -l front (commandline -ct | string replace -r -- '^--[^=]*=' '' | string replace -rf '(.*,).*' '$1')
-    printf '%s\\n' "$front"$__{NAME}_rules
+    printf '%s\\n' "$front"$argv
 end'''
 
 
@@ -235,7 +237,8 @@ def fish_quoted(text):
 
 def fish_option(command, one):
     """The lines of an option."""
-    value = {'choices': f' -x -a {fish_quoted(" ".join(one.choices()))}', 'rules': f" -x -a '(__{NAME}_list)'",
+    value = {'choices': f' -x -a {fish_quoted(" ".join(one.choices()))}', 'rules': f" -x -a '(__{NAME}_list $__{NAME}_rules)'",
+             'codes': f" -x -a '(__{NAME}_list $__{NAME}_rules $__{NAME}_hazards)'",
              'file': ' -r -F', 'other': ' -x', '': ''}[kind(one)]
     seen = f"complete -c {NAME} -n '__fish_seen_subcommand_from {command}'"
     return [f'{seen} -l {name[2:]}{value} -d {fish_quoted(one.text)}' for name in one.names if name != '--']
@@ -243,12 +246,13 @@ def fish_option(command, one):
 
 def fish(whole, own):
     """The completion for fish."""
-    lines = [f'# Completions of {NAME} for fish. {WRITTEN}', f'set -g __{NAME}_rules {" ".join(rules())}', FISH_LIST, f'complete -c {NAME} -f']
+    sets = [f'set -g __{NAME}_{what} {" ".join(names)}' for what, names in zip(('rules', 'hazards'), codes())]
+    lines = [f'# Completions of {NAME} for fish. {WRITTEN}', *sets, FISH_LIST, f'complete -c {NAME} -f']
     lines += [f"complete -c {NAME} -n __fish_use_subcommand -a {command} -d {fish_quoted(whole.commands[command])}" for command in own]
     lines += [f"complete -c {NAME} -n __fish_use_subcommand -l {word} -d 'the {word}'" for word in ('help', 'version')]
     for command, one in own.items():
         takes = places(command, whole, one)
-        given = "'(__fish_complete_suffix .sql)'" if takes & {'FILE', 'FILES'} else f'"$__{NAME}_rules"' if takes & {'RULE', 'RULES'} else ''
+        given = "'(__fish_complete_suffix .sql)'" if takes & {'FILE', 'FILES'} else f'"$__{NAME}_rules $__{NAME}_hazards"' if takes & {'RULE', 'RULES'} else ''
         lines += [f"complete -c {NAME} -n '__fish_seen_subcommand_from {command}' -k -a {given}"] * bool(given)
         lines += [line for it in one.completed() for line in fish_option(command, it)]
     return '\n'.join(lines) + '\n'
