@@ -1,0 +1,15 @@
+-- A message or a name as it is written on a line.
+use Rattle.std.specs.Prelude.{◌≡◌, ◌≤◌, All, List, ℕ}
+use Rattle.source_file.specs.Escaped.{escaped, escaped_name}
+
+-- It leads back to the message or to the name.
+abbrev pub UniqueTexts : Type 0
+UniqueTexts = (x y : List ℕ) → (escaped x ≡ escaped y → x ≡ y) × (escaped_name x ≡ escaped_name y → x ≡ y)
+
+-- no control character of ASCII
+abbrev pub IsPlain : ℕ → Type 0
+IsPlain b = (32 ≤ b) × (b ≡ 127 → ⊥)
+
+-- It has no control character of ASCII, and so it is on one line.
+abbrev pub HaveOneLine : Type 0
+HaveOneLine = (text : List ℕ) → All IsPlain (escaped text) × All IsPlain (escaped_name text)
