@@ -34,6 +34,19 @@ const TIMEOUTS: &[(&str, &str)] = &[
         "",
     ),
     (
+        "SET lock_timeout = '1s'; RESET lock_timeout.x; DROP INDEX CONCURRENTLY i;",
+        "47..73 build-under-timeout",
+    ),
+    (
+        "SET \"lock_timeout\" = '1s'; RESET \"lock_timeout\"; DROP INDEX CONCURRENTLY i;",
+        "",
+    ),
+    ("SET lock_timeout.x = '1s'; DROP INDEX CONCURRENTLY i;", ""),
+    (
+        "SET \"lock_timeout\" = '1s'; DROP INDEX CONCURRENTLY i;",
+        "27..53 build-under-timeout",
+    ),
+    (
         "SET lock_timeout = '1s'; RESET ALL; DROP INDEX CONCURRENTLY i;",
         "",
     ),
