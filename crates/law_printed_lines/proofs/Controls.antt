@@ -11,12 +11,12 @@ use Rattle.law_printed_lines.proofs.Escaping.{IsPlain, begins, first_cases, is_d
 
 -- ---- escapes
 
-control_from : (a b c : ℕ) → IsPlain a → is_c1 a b ≡ false → is_embedding a b c ≡ false → is_isolate a b c ≡ false → is_control a b c ≡ false
+pub control_from : (a b c : ℕ) → IsPlain a → is_c1 a b ≡ false → is_embedding a b c ≡ false → is_isolate a b c ≡ false → is_control a b c ≡ false
 control_from a b c plain c1 embedding isolate =
     or_from _ _ (or_from _ _ (or_from _ _ (or_from _ _ (le-ltb a 32 plain.0) (ne_eqb a 127 plain.1)) c1) embedding) isolate
 
 -- a letter, a digit or a sign of ASCII
-ascii : (a b c : ℕ) → 32 ≤ a → a ≤ 126 → is_control a b c ≡ false
+pub ascii : (a b c : ℕ) → 32 ≤ a → a ≤ 126 → is_control a b c ≡ false
 ascii a b c low high =
     control_from a b c (low, λ e. omega arith) (and_left _ _ (and_left _ _ (ne_eqb a 194 (λ e. omega arith))))
     (and_left _ _ (and_left _ _ (and_left _ _ (ne_eqb a 226 (λ e. omega arith)))))

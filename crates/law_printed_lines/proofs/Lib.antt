@@ -13,3 +13,4 @@ pub mod Commands
 pub mod Statistics
 pub mod Files
 pub mod Uniqueness
+pub mod Steering

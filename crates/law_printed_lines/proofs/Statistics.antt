@@ -33,7 +33,7 @@ count_low c files = fold_low (λ n file. capped (n + count_in c file.answer)) (�
 
 -- ---- what holds of nothing, and of a line and what it holds of, holds of all of it
 
-abbrev Grows : (List ℕ → Type 0) → Type 0
+abbrev pub Grows : (List ℕ → Type 0) → Type 0
 Grows Q = (c : Code) (n : ℕ) (rest : List ℕ) → n < 2 ^ 64 → Q rest → Q (code_line c n ++ rest)
 
 flat_holds : {X : Type 0} (Q : List ℕ → Type 0) (f : X → List ℕ) → ((x : X) (rest : List ℕ) → Q rest → Q (f x ++ rest)) → (xs : List X) (rest : List ℕ) → Q rest
@@ -49,13 +49,13 @@ lines_hold Q none grows files =
     flat_holds Q (rule_line files) (λ r rest q. grows (code.Rule r) (count_of (code.Rule r) files) rest (count_low (code.Rule r) files) q) all_rules _
     (subst Q (append-nil (flat_map (hazard_line files) all_hazards)) last)
 
-statistics_hold : (Q : List ℕ → Type 0) → Q [] → Grows Q → (style : Style) (files : List Checked) → Q (statistics style files)
+pub statistics_hold : (Q : List ℕ → Type 0) → Q [] → Grows Q → (style : Style) (files : List Checked) → Q (statistics style files)
 unfolding statistics
 statistics_hold Q none grows style files = cond_both style.statistics _ _ Q (λ _. lines_hold Q none grows files) (λ _. none)
 
 -- ---- no line looks like that of a finding
 
-regroup : (name count rest : List ℕ) → (((name ++ 58 ∷ 32 ∷ []) ++ count) ++ 10 ∷ []) ++ rest ≡ name ++ 58 ∷ 32 ∷ (count ++ 10 ∷ rest)
+pub regroup : (name count rest : List ℕ) → (((name ++ 58 ∷ 32 ∷ []) ++ count) ++ 10 ∷ []) ++ rest ≡ name ++ 58 ∷ 32 ∷ (count ++ 10 ∷ rest)
 regroup name count rest = simp append_assoc
 
 line_unmarked : Grows (λ l. line_marked l ≡ false)

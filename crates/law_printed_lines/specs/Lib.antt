@@ -1,3 +1,4 @@
 pub mod Kept
+pub mod Steering
 pub mod Texts
 pub mod Unique

@@ -16,6 +16,7 @@ abbrev pub has_control : List ℕ → Bool
 has_control [] = false
 has_control (a ∷ rest) = is_control a (get_or rest 0 0) (get_or rest 1 0) || has_control rest
 
--- Of a message and of a name no such character is written as it is: each is on one line, and steers no terminal.
+-- Of a message and of a name no control character is written as it is, and none that turns the direction of a text: each is on one line, and
+-- steers no terminal.
 abbrev pub HaveNoControl : Type 0
 HaveNoControl = (text : List ℕ) → (has_control (escaped text) ≡ false) × (has_control (escaped_name text) ≡ false)

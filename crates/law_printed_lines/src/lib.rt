@@ -1,6 +1,7 @@
 //! Laws of what is printed on lines: the lines of a run lead back to each finding's file, place, level, rule and message.
 #![tactic(auto)]
 
+ghost use Rattle.law_printed_lines.specs.Steering.{SteerNothing};
 ghost use Rattle.law_printed_lines.specs.Texts.{HaveNoControl, UniqueTexts};
 ghost use Rattle.law_printed_lines.specs.Unique.{UniqueCommands, UniqueConcise, UniqueGcc};
 
@@ -30,4 +31,10 @@ pub fn unique_gcc()
 /// message with its note and its help as one text: where the message ends in it is not said.
 pub fn unique_commands()
     ensures { UniqueCommands }
+{}
+
+/// Of control characters only line feeds are printed in these three formats, and nothing that turns the direction of a text, whatever the
+/// names and the texts of files are.
+pub fn steer_nothing()
+    ensures { SteerNothing }
 {}
