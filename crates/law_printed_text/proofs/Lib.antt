@@ -1,0 +1,12 @@
+mod Rows
+mod Pieces
+mod Blocks
+mod Cuts
+mod Names
+mod Places
+mod Heads
+mod Findings
+mod Items
+mod Lists
+mod Closings
+mod Uniqueness
