@@ -1,5 +1,5 @@
 -- A text as it is written on a line can be read back.
-use Rattle.std.proofs.Common.{◌≡◌, ◌∙◌, ℕ, zero, suc, ◌+◌, ◌*◌, ◌-◌, ◌<◌, ◌≤◌, Bool, true, false, ◌&&◌, if◌then◌else◌, List, [], ◌∷◌, ◌++◌, All, Option, Some, None, get_or, drop, fold, ap, append_assoc, arith, refl, sym}
+use Rattle.std.proofs.Common.{◌≡◌, ◌∙◌, ℕ, zero, suc, ◌+◌, ◌*◌, ◌-◌, ◌<◌, ◌≤◌, Bool, true, false, ◌&&◌, if◌then◌else◌, List, [], ◌∷◌, ◌++◌, All, Option, Some, None, get_or, drop, fold, ap, append_assoc, append-nil, arith, refl, sym}
 use Rattle.std.specs.List.{list_all}
 use Rattle.std.specs.Prelude.{◌==◌, codes, nat_le, nat_lt, ⊤}
 use Rattle.std.proofs.lemmas.Bool.{and_from, and_parts, both_ways, cond-false, cond-true, cond_both, eq-eqb, eqb-false, eqb-true, false_from_ne_true, le-ltb, leb-true, lt-ltb, ltb-true, ltb-false, ne_eqb}
@@ -12,15 +12,15 @@ use Rattle.law_printed_lines.specs.Texts.{IsPlain}
 -- ---- reading
 
 -- the value of a digit of base 16
-abbrev digit_of : ℕ → ℕ
+abbrev pub digit_of : ℕ → ℕ
 digit_of d = if nat_lt d 58 then d - 48 else d - 87
 
 -- the number that digits give
-abbrev number_of : ℕ → List ℕ → ℕ
+abbrev pub number_of : ℕ → List ℕ → ℕ
 number_of n digits = fold (λ m d. m * 16 + digit_of d) n digits
 
 -- the bytes of a character that is written as an escape, by its number
-abbrev bytes_of : ℕ → List ℕ
+abbrev pub bytes_of : ℕ → List ℕ
 bytes_of n =
     if nat_lt n 128 then n ∷ []
     else if nat_lt n 160 then 194 ∷ n ∷ []
@@ -28,7 +28,7 @@ bytes_of n =
     else 226 ∷ 129 ∷ (n - 8128) ∷ []
 
 -- what a text on a line was written from: with so many bytes to pass over, and the number that the digits of an escape have given so far
-unfoldable read_on : ℕ → Option ℕ → List ℕ → List ℕ
+unfoldable pub read_on : ℕ → Option ℕ → List ℕ → List ℕ
 read_on n code [] = []
 read_on (suc n) code (a ∷ rest) = read_on n code rest
 read_on zero None (a ∷ rest) =
@@ -36,7 +36,7 @@ read_on zero None (a ∷ rest) =
 read_on zero (Some code) (a ∷ rest) =
     if a == 125 then bytes_of code ++ read_on 0 None rest else read_on 0 (Some (code * 16 + digit_of a)) rest
 
-abbrev read : List ℕ → List ℕ
+abbrev pub read : List ℕ → List ℕ
 read line = read_on 0 None line
 
 -- ---- an escape
@@ -57,7 +57,7 @@ last_read code n rest h =
     cond-false (hex_digit n == 125) _ _ (last_low n h) ∙ ap (λ d. bytes_of (code * 16 + d) ++ read rest) (last_value n h)
 
 -- a digit of base 10, as all but the last of an escape are
-abbrev is_digit : ℕ → Bool
+abbrev pub is_digit : ℕ → Bool
 is_digit d = nat_le 48 d && nat_le d 57
 
 -- those before it
@@ -114,10 +114,10 @@ turning_text n m a b c rest p q low high r s e =
 -- ---- how a text begins
 
 -- what holds of an escape of the first character, and of its first byte as it is, holds of how it is written
-abbrev Coded : ℕ → List ℕ → (List ℕ → ℕ → Type 0) → Type 0
+abbrev pub Coded : ℕ → List ℕ → (List ℕ → ℕ → Type 0) → Type 0
 Coded a rest P = (first : List ℕ) (n k : ℕ) → list_all is_digit first ≡ true → n < 16 → a ∷ rest ≡ bytes_of (number_of 0 first * 16 + n) ++ drop k rest → P (escape first n) k
 
-abbrev Raw : Bool → ℕ → List ℕ → (List ℕ → ℕ → Type 0) → Type 0
+abbrev pub Raw : Bool → ℕ → List ℕ → (List ℕ → ℕ → Type 0) → Type 0
 Raw marks a rest P = IsPlain a → is_escape a (get_or rest 0 0) (get_or rest 1 0) ≡ false → is_mark marks a (get_or rest 0 0) ≡ false → P (a ∷ []) 0
 
 byte_cases : (marks : Bool) (a : ℕ) (rest : List ℕ) (P : List ℕ → ℕ → Type 0) → Coded a rest P → Raw marks a rest P
@@ -191,7 +191,7 @@ isolate_case a rest P coded e =
     coded (codes "206") (c - 160) 2 refl (omega arith)
     (turning_text (518 * 16 + (c - 160)) 129 a b c rest (eqb-true a 226 parts.0) (eqb-true b 129 parts.1) (omega arith) (omega arith) refl refl (isolate_bytes (518 * 16 + (c - 160)) c (omega arith) low high))
 
-first_cases : (marks : Bool) (a : ℕ) (rest : List ℕ) (P : List ℕ → ℕ → Type 0) → Coded a rest P → Raw marks a rest P
+pub first_cases : (marks : Bool) (a : ℕ) (rest : List ℕ) (P : List ℕ → ℕ → Type 0) → Coded a rest P → Raw marks a rest P
     → P (first_escaped marks a (get_or rest 0 0) (get_or rest 1 0)) (more_len a (get_or rest 0 0) (get_or rest 1 0))
 first_cases marks a rest P coded raw =
     let b = get_or rest 0 0 in
@@ -202,7 +202,7 @@ first_cases marks a rest P coded raw =
 
 -- ---- a text
 
-abbrev written : Bool → List ℕ → List ℕ
+abbrev pub written : Bool → List ℕ → List ℕ
 written marks text = escaped_after marks 0 text
 
 after_drop : (marks : Bool) (n : ℕ) (text : List ℕ) → escaped_after marks n text ≡ written marks (drop n text)
@@ -212,46 +212,62 @@ after_drop marks (suc n) [] = refl
 after_drop marks zero (byte ∷ rest) = refl
 after_drop marks (suc n) (byte ∷ rest) = after_drop marks n rest
 
--- the first byte of what is written is that of the text, unless it is a backslash
-abbrev Begins : Bool → List ℕ → List ℕ → Type 0
-Begins marks text line = (k : ℕ) → (k ≡ 92 → ⊥) → get_or line 0 0 ≡ k → (get_or text 0 0 ≡ k) × (get_or line 1 0 ≡ get_or (written marks (drop 1 text)) 0 0)
+-- the first byte of what is written is that of the text, unless it is a backslash or what comes after the text begins with it
+abbrev pub Begins : Bool → List ℕ → List ℕ → List ℕ → Type 0
+Begins marks text tail line = (k : ℕ) → (k ≡ 92 → ⊥) → (get_or tail 0 0 ≡ k → ⊥) → get_or line 0 0 ≡ k
+    → (get_or text 0 0 ≡ k) × (get_or line 1 0 ≡ get_or (written marks (drop 1 text) ++ tail) 0 0)
 
-begins : (marks : Bool) (text : List ℕ) → Begins marks text (written marks text)
+pub begins : (marks : Bool) (text tail : List ℕ) → Begins marks text tail (written marks text ++ tail)
 unfolding escaped_after
-begins marks [] = λ k h e. (e, refl)
-begins marks (a ∷ rest) =
-    first_cases marks a rest (λ l n. Begins marks (a ∷ rest) (l ++ escaped_after marks n rest))
-    (λ first n k digits low text j h e. absurd (h (sym e)))
-    (λ plain begun mark j h e. (e, refl))
+begins marks [] tail = λ k h t e. absurd (t e)
+begins marks (a ∷ rest) tail =
+    first_cases marks a rest (λ l n. Begins marks (a ∷ rest) tail ((l ++ escaped_after marks n rest) ++ tail))
+    (λ first n k digits low text j h t e. absurd (h (sym e)))
+    (λ plain begun mark j h t e. (e, refl))
 
-raw_read : (marks : Bool) (a : ℕ) (rest : List ℕ) → is_escape a (get_or rest 0 0) (get_or rest 1 0) ≡ false
-    → read (a ∷ written marks rest) ≡ a ∷ read (written marks rest)
+-- what comes after a text does not go on with what begins an escape
+abbrev pub IsApart : List ℕ → Type 0
+IsApart tail = (get_or tail 0 0 ≡ 117 → ⊥) × (get_or tail 0 0 ≡ 123 → ⊥)
+
+raw_read : (marks : Bool) (a : ℕ) (rest tail : List ℕ) → IsApart tail → is_escape a (get_or rest 0 0) (get_or rest 1 0) ≡ false
+    → read (a ∷ (written marks rest ++ tail)) ≡ a ∷ read (written marks rest ++ tail)
 unfolding read_on
-raw_read marks a rest e =
-    let line = written marks rest in
+raw_read marks a rest tail apart e =
+    let line = written marks rest ++ tail in
     let b = get_or line 0 0 in
     let c = get_or line 1 0 in
     cond-false (is_escape a b c) _ _ (false_from_ne_true _ (λ f.
     let parts = test_parts (a == 92) (b == 117) (c == 123) f in
-    let second = begins marks rest 117 (λ g. omega arith) (eqb-true b 117 parts.1) in
-    let third = begins marks (drop 1 rest) 123 (λ g. omega arith) (sym second.1 ∙ eqb-true c 123 parts.2) in
+    let second = begins marks rest tail 117 (λ g. omega arith) apart.0 (eqb-true b 117 parts.1) in
+    let third = begins marks (drop 1 rest) tail 123 (λ g. omega arith) apart.1 (sym second.1 ∙ eqb-true c 123 parts.2) in
     both_ways _ e (and_from _ _ (and_from _ _ parts.0 (eq-eqb _ _ second.0)) (eq-eqb _ _ (sym (get_or-drop 1 rest 0 0) ∙ third.0)))))
 
--- what is written can be read
-read_written : (marks : Bool) (n : ℕ) (text : List ℕ) → read (escaped_after marks n text) ≡ drop n text
+-- what is written can be read, and what comes after it
+pub read_written : (marks : Bool) (n : ℕ) (text tail : List ℕ) → IsApart tail → read (escaped_after marks n text ++ tail) ≡ drop n text ++ read tail
 unfolding read_on escaped_after
-read_written marks zero [] = refl
-read_written marks (suc n) [] = refl
-read_written marks (suc n) (a ∷ rest) = read_written marks n rest
-read_written marks zero (a ∷ rest) =
-    let later : (k : ℕ) → read (escaped_after marks k rest) ≡ drop k rest = λ k. read_written marks k rest in
-    first_cases marks a rest (λ l k. read (l ++ escaped_after marks k rest) ≡ a ∷ rest)
-    (λ first n k digits low text. escape_read first (escaped_after marks k rest) n low digits ∙ ap (λ l. bytes_of (number_of 0 first * 16 + n) ++ l) (later k) ∙ sym text)
-    (λ plain begun mark. raw_read marks a rest begun ∙ ap (λ l. a ∷ l) (later 0))
+read_written marks zero [] tail apart = refl
+read_written marks (suc n) [] tail apart = refl
+read_written marks (suc n) (a ∷ rest) tail apart = read_written marks n rest tail apart
+read_written marks zero (a ∷ rest) tail apart =
+    let later : (k : ℕ) → read (escaped_after marks k rest ++ tail) ≡ drop k rest ++ read tail = λ k. read_written marks k rest tail apart in
+    first_cases marks a rest (λ l k. read ((l ++ escaped_after marks k rest) ++ tail) ≡ (a ∷ rest) ++ read tail)
+    (λ first n k digits low text.
+    let bytes = bytes_of (number_of 0 first * 16 + n) in
+    ap read (append_assoc (escape first n) (escaped_after marks k rest) tail)
+    ∙ escape_read first (escaped_after marks k rest ++ tail) n low digits
+    ∙ ap (λ l. bytes ++ l) (later k)
+    ∙ sym (append_assoc bytes (drop k rest) (read tail))
+    ∙ ap (λ l. l ++ read tail) (sym text))
+    (λ plain begun mark. raw_read marks a rest tail apart begun ∙ ap (λ l. a ∷ l) (later 0))
+
+read_all : (marks : Bool) (text : List ℕ) → read (escaped_after marks 0 text) ≡ text
+unfolding read_on
+read_all marks text =
+    ap read (sym (append-nil (escaped_after marks 0 text))) ∙ read_written marks 0 text [] ((λ e. omega arith), (λ e. omega arith)) ∙ append-nil text
 
 -- two texts that are written alike are the same
 pub written_same : (marks : Bool) (x y : List ℕ) → escaped_after marks 0 x ≡ escaped_after marks 0 y → x ≡ y
-written_same marks x y e = sym (read_written marks 0 x) ∙ ap read e ∙ read_written marks 0 y
+written_same marks x y e = sym (read_all marks x) ∙ ap read e ∙ read_all marks y
 
 -- ---- its bytes
 

@@ -1,1 +1,14 @@
 pub mod Escaping
+pub mod Splits
+pub mod Decimals
+pub mod Names
+pub mod Marks
+pub mod Places
+pub mod Lines
+pub mod Tests
+pub mod Percents
+pub mod Annotations
+pub mod Commands
+pub mod Statistics
+pub mod Files
+pub mod Uniqueness

@@ -1,7 +1,8 @@
-//! Laws of what is printed on lines: it leads back to each finding.
+//! Laws of what is printed on lines: the lines of a run lead back to each finding's file, place, level, rule and message.
 #![tactic(auto)]
 
 ghost use Rattle.law_printed_lines.specs.Texts.{HaveOneLine, UniqueTexts};
+ghost use Rattle.law_printed_lines.specs.Unique.{UniqueCommands, UniqueConcise, UniqueGcc};
 
 /// Two messages that are written alike on a line are the same, and so are two names.
 pub fn unique_texts()
@@ -11,4 +12,21 @@ pub fn unique_texts()
 /// No control character of ASCII is written of a message or of a name, and so no line feed.
 pub fn have_one_line()
     ensures { HaveOneLine }
+{}
+
+/// Two lists of files of which the same lines `file:line:column: warning[rule]: message` are printed have the same findings, in the same
+/// order: the names of their files, the places where they begin, their levels, rules and messages.
+pub fn unique_concise()
+    ensures { UniqueConcise }
+{}
+
+/// The same of lines `file:line:column: warning: message [rule]`.
+pub fn unique_gcc()
+    ensures { UniqueGcc }
+{}
+
+/// The same of workflow commands, which have the lines on which a finding begins and ends, its columns where both are one line, and its
+/// message with its note and its help as one text: where the message ends in it is not said.
+pub fn unique_commands()
+    ensures { UniqueCommands }
 {}

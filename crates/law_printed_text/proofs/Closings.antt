@@ -16,7 +16,7 @@ use Rattle.report_text.specs.declared.closing.Counts.{Counts}
 use Rattle.report_text.specs.Closing as text
 use Rattle.source_file.specs.File.{FileValue}
 use Rattle.law_printed_text.proofs.Heads.{name_clean}
-use Rattle.law_printed_text.proofs.Names.{code_name}
+use Rattle.law_printed_lines.proofs.Names.{code_name}
 use Rattle.law_printed_text.proofs.Pieces.{decimal_clean, escaped_clean, solid}
 use Rattle.law_printed_text.proofs.Rows.{IsClean, IsPiece, IsRows, back, both, front, joined, no_rows, row, word}
 

@@ -20,8 +20,8 @@ use Rattle.source_file.specs.Refusals as refusals
 use Rattle.text_pos.specs.Range.{Range}
 use Rattle.law_printed_text.proofs.Blocks.{bar_row, excerpt_rows, fix_rows, hint_rows, notes_rows}
 use Rattle.law_printed_text.proofs.Cuts.{cut_last}
-use Rattle.law_printed_text.proofs.Heads.{arrow_back, arrow_row, arrow_rows, title_back, title_row}
-use Rattle.law_printed_text.proofs.Names.{is_name}
+use Rattle.law_printed_text.proofs.Heads.{arrow_back, arrow_row, arrow_rows, title_back, title_color, title_row}
+use Rattle.law_printed_lines.proofs.Names.{is_name}
 use Rattle.law_printed_text.proofs.Pieces.{decimal_clean, decimal_digits, escaped_clean, frame, is_digit, shell}
 use Rattle.law_printed_text.proofs.Rows.{IsClean, IsRows, after_empty, both, cut_off, joined, word}
 
@@ -139,6 +139,23 @@ module _ (color : Bool) (file : FileValue) where
   refusal_block (refusal.Syntax at) =
       placed_block (codes "syntax-error") (codes "the statement that begins here can't be read") at (hint_of file.text (refusal.Syntax at))
 
+apart : (t a m n : List ℕ) → ((t ++ a) ++ m) ++ n ≡ t ++ (a ++ (m ++ n))
+apart t a m n = simp append_assoc
+
+-- two of them that begin the same text are both painted, or neither is
+pub block_color : (color paint : Bool) (level other : Level) (rule another message text place elsewhere t u x y : List ℕ) → IsBlock color level rule message place t
+    → IsBlock paint other another text elsewhere u → t ++ x ≡ u ++ y → color ≡ paint
+block_color color paint level other rule another message text place elsewhere t u x y b c e =
+    let first = title color level rule message in
+    let second = title paint other another text in
+    let row = arrow_row color b.gutter place in
+    let like = arrow_row paint c.gutter elsewhere in
+    let whole : t ≡ first ++ (row ++ (b.more ++ codes "\n")) = b.is ∙ apart first row b.more (codes "\n") in
+    let more : u ≡ second ++ (like ++ (c.more ++ codes "\n")) = c.is ∙ apart second like c.more (codes "\n") in
+    title_color color paint level other rule another message text ((row ++ (b.more ++ codes "\n")) ++ x) ((like ++ (c.more ++ codes "\n")) ++ y)
+    (sym (append_assoc first (row ++ (b.more ++ codes "\n")) x) ∙ ap (λ l. l ++ x) (sym whole) ∙ e ∙ ap (λ l. l ++ y) more
+    ∙ append_assoc second (like ++ (c.more ++ codes "\n")) y)
+
 module _ (color : Bool) where
   -- it is cut off by its empty line
   pub block_end : (level : Level) (rule message place t rest : List ℕ) → IsBlock color level rule message place t → is_name rule ≡ true → IsClean place
@@ -146,9 +163,6 @@ module _ (color : Bool) where
   block_end level rule message place t rest b h p =
       ap (λ l. after_empty true (l ++ rest)) b.is
       ∙ cut_off (joined (joined (title_row color level rule message h) (arrow_rows color b.gutter place p)) b.rows) rest
-
-  apart : (t a m n : List ℕ) → ((t ++ a) ++ m) ++ n ≡ t ++ (a ++ (m ++ n))
-  apart t a m n = simp append_assoc
 
   -- and it leads back to its level, rule, message and place
   pub block_back : (level other : Level) (rule another message text place elsewhere t u : List ℕ) → IsBlock color level rule message place t

@@ -11,7 +11,7 @@ use Rattle.source_file.specs.declared.level.Level.TheVariants.{Warning, Error}
 use Rattle.source_file.specs.Escaped.{escaped}
 use Rattle.source_file.specs.Levels.{word_of}
 use Rattle.law_printed_text.proofs.Cuts.{cut, rest_of_two}
-use Rattle.law_printed_text.proofs.Names.{is_name, is_name_byte}
+use Rattle.law_printed_lines.proofs.Names.{is_name, is_name_byte}
 use Rattle.law_printed_text.proofs.Pieces.{bold, closed_clean, escaped_clean, frame, level_plain, of_level, passes, repeated, shell, shell_clean, shell_piece, solid}
 use Rattle.law_printed_text.proofs.Rows.{IsClean, IsPiece, IsRows, back, both, front, is_plain, row, word}
 
@@ -52,6 +52,21 @@ title_is color level name message x = simp append_assoc
 
 abbrev ending : Bool → List ℕ → List ℕ → List ℕ → List ℕ
 ending color name message x = name ++ 93 ∷ (between color ++ ((escaped message ++ closed color) ++ 10 ∷ x))
+
+-- a text that is painted begins with another byte than one that is not
+same_color : (color paint : Bool) (level other : Level) (l m : List ℕ) → lead color level ++ l ≡ lead paint other ++ m → color ≡ paint
+same_color true true level other l m e = refl
+same_color false false level other l m e = refl
+same_color true false level Warning l m e = let h : 27 ≡ 119 = ap (λ t. get_or t 0 0) e in absurd (omega (arith, h))
+same_color true false level Error l m e = let h : 27 ≡ 101 = ap (λ t. get_or t 0 0) e in absurd (omega (arith, h))
+same_color false true Warning other l m e = let h : 119 ≡ 27 = ap (λ t. get_or t 0 0) e in absurd (omega (arith, h))
+same_color false true Error other l m e = let h : 101 ≡ 27 = ap (λ t. get_or t 0 0) e in absurd (omega (arith, h))
+
+pub title_color : (color paint : Bool) (level other : Level) (name another message text x y : List ℕ)
+    → title color level name message ++ x ≡ title paint other another text ++ y → color ≡ paint
+title_color color paint level other name another message text x y e =
+    same_color color paint level other (ending color name message x) (ending paint another text y)
+    (sym (title_is color level name message x) ∙ e ∙ title_is paint other another text y)
 
 same_level : (color : Bool) (level other : Level) (l m : List ℕ) → lead color level ++ l ≡ lead color other ++ m → level ≡ other
 same_level color Warning Warning l m e = refl

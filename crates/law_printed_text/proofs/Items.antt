@@ -12,11 +12,11 @@ use Rattle.source_file.specs.declared.refusal.Refusal.TheVariants as refusal
 use Rattle.source_file.specs.Escaped.{escaped}
 use Rattle.source_file.specs.File.{FileValue, location}
 use Rattle.source_file.specs.Refusals as refusals
-use Rattle.law_printed_text.specs.Kept.{Kept, kept}
+use Rattle.law_printed_lines.specs.Kept.{Kept, kept}
 use Rattle.law_printed_lines.proofs.Escaping.{written_same}
-use Rattle.law_printed_text.proofs.Findings.{IsBlock, block_back, block_end, place_back, place_clean, place_text, refusal_block, report_block}
-use Rattle.law_printed_text.proofs.Names.{code_name, is_name, refusal_name}
-use Rattle.law_printed_text.proofs.Places.{column_short, line_short}
+use Rattle.law_printed_text.proofs.Findings.{IsBlock, block_back, block_color, block_end, place_back, place_clean, place_text, refusal_block, report_block}
+use Rattle.law_printed_lines.proofs.Names.{code_name, is_name, refusal_name}
+use Rattle.law_printed_lines.proofs.Places.{column_short, line_short}
 use Rattle.law_printed_text.proofs.Rows.{after_empty}
 
 -- a report of a file, or why it could not be linted
@@ -64,6 +64,13 @@ item_end color i rest =
     let f = found_of i in
     block_end color f.level f.rule f.message (place_of i) (text_of color i) rest (block_of color i) (rule_name i)
     (place_clean (placed_by i.1) i.0.name (start_of i).line (start_of i).column)
+
+-- two that begin the same text are both painted, or neither is
+pub item_color : (color paint : Bool) (i j : Item) (x y : List ℕ) → text_of color i ++ x ≡ text_of paint j ++ y → color ≡ paint
+item_color color paint i j x y e =
+    let f = found_of i in
+    let g = found_of j in
+    block_color color paint f.level g.level f.rule g.rule f.message g.message (place_of i) (place_of j) (text_of color i) (text_of paint j) x y (block_of color i) (block_of paint j) e
 
 -- ---- the name of a refusal tells whether it has a place
 

@@ -2,8 +2,6 @@ mod Rows
 mod Pieces
 mod Blocks
 mod Cuts
-mod Names
-mod Places
 mod Heads
 mod Findings
 mod Items

@@ -1,11 +1,11 @@
 -- What is printed for people leads back to the findings.
-use Rattle.std.proofs.Common.{◌≡◌, ◌∙◌, ◌||◌, ◌<◌, ◌^◌, Bool, false, true, List, [], ◌∷◌, ◌++◌, inl, inr, All, ap, append_assoc, append-nil, flat_map, length, map, refl, sym}
+use Rattle.std.proofs.Common.{ℕ, ◌≡◌, ◌∙◌, ◌||◌, ◌<◌, ◌^◌, Bool, false, true, List, [], ◌∷◌, ◌++◌, inl, inr, All, ap, append_assoc, append-nil, flat_map, length, map, refl, sym}
 use Rattle.std.proofs.lemmas.List.{map-append}
 use Rattle.std.proofs.lemmas.List.Elements.{All-append, All-cons, All-head, All-nil, All-tail}
 use Rattle.check_print.specs.declared.style.Style.{Style}
 use Rattle.check_print.specs.Findings.{printed_refusal, printed_report}
 use Rattle.check_print.specs.Found.{all_found, found_by, found_in, found_report}
-use Rattle.check_print.specs.Printed.{last_line, passed_lines, printed_answer, printed_file, printed_files, printed_reports, source_of, statistics as statistics_of}
+use Rattle.check_print.specs.Printed.{last_line, passed_lines, printed, printed_answer, printed_file, printed_files, printed_reports, source_of, statistics}
 use Rattle.check_words.specs.declared.request.Format.TheVariants as format
 use Rattle.checked_file.specs.declared.answer.Answer.{Answer}
 use Rattle.checked_file.specs.declared.answer.Answer.TheVariants.{Reports, Refused}
@@ -13,8 +13,9 @@ use Rattle.checked_file.specs.declared.checked.Checked.{Checked}
 use Rattle.checked_file.specs.Answers.{has_findings}
 use Rattle.lint_report.specs.declared.report.Report.{Report}
 use Rattle.source_file.specs.File.{FileValue}
-use Rattle.law_printed_text.specs.Kept.{Kept, kept}
-use Rattle.law_printed_text.specs.Unique.{IsShort, UniqueTexts, style_in}
+use Rattle.law_printed_lines.specs.Kept.{Kept, kept}
+use Rattle.law_printed_lines.specs.Unique.{IsShort, style_in}
+use Rattle.law_printed_text.specs.Unique.{UniqueTexts}
 use Rattle.law_printed_text.proofs.Closings.{closing_rows}
 use Rattle.law_printed_text.proofs.Items.{IsShortItem, Item, found_of, text_of}
 use Rattle.law_printed_text.proofs.Lists.{lists_back, texts}
@@ -75,35 +76,40 @@ texts_append color [] ys = refl
 texts_append color (i ∷ xs) ys =
     ap (λ l. text_of color i ++ l) (texts_append color xs ys) ∙ sym (append_assoc (text_of color i) (texts color xs) (texts color ys))
 
-module _ (color quiet statistics : Bool) where
-  abbrev style : Style
-  style = style_in format.Text color quiet statistics
+module _ (style : Style) where
+  abbrev text_style : Style
+  text_style = style_in format.Text style
 
-  reports_texts : (b : Bool) (file : FileValue) (vs : List Report) → printed_reports style b file vs ≡ texts color (map (reported file) vs)
+  reports_texts : (b : Bool) (file : FileValue) (vs : List Report) → printed_reports text_style b file vs ≡ texts style.color (map (reported file) vs)
   unfolding printed_report
   reports_texts b file [] = refl
-  reports_texts b file (v ∷ vs) = ap (λ l. text_of color (file, inl v) ++ l) (reports_texts true file vs)
+  reports_texts b file (v ∷ vs) = ap (λ l. text_of style.color (file, inl v) ++ l) (reports_texts true file vs)
 
-  answer_texts : (b : Bool) (file : FileValue) (answer : Answer) → printed_answer style b file answer ≡ texts color (items_by file answer)
+  answer_texts : (b : Bool) (file : FileValue) (answer : Answer) → printed_answer text_style b file answer ≡ texts style.color (items_by file answer)
   unfolding printed_refusal
   answer_texts b file (Reports reports) = reports_texts b file reports.items
   answer_texts b file (Refused r) = sym (append-nil _)
 
-  files_texts : (b : Bool) (files : List Checked) → printed_files style b files ≡ texts color (all_items files)
+  files_texts : (b : Bool) (files : List Checked) → printed_files text_style b files ≡ texts style.color (all_items files)
   unfolding printed_file
   files_texts b [] = refl
   files_texts b (file ∷ files) =
-      ap (λ l. l ++ printed_files style (b || has_findings file.answer) files) (answer_texts b (source_of file) file.answer)
-      ∙ ap (λ l. texts color (items_in file) ++ l) (files_texts (b || has_findings file.answer) files) ∙ sym (texts_append color (items_in file) (all_items files))
+      ap (λ l. l ++ printed_files text_style (b || has_findings file.answer) files) (answer_texts b (source_of file) file.answer)
+      ∙ ap (λ l. texts style.color (items_in file) ++ l) (files_texts (b || has_findings file.answer) files)
+      ∙ sym (texts_append style.color (items_in file) (all_items files))
+
+  -- what is after the last finding
+  abbrev ending : List Checked → List ℕ
+  ending files = passed_lines text_style files ++ statistics text_style files ++ last_line text_style files
+
+  whole : (files : List Checked) → printed text_style files ≡ texts style.color (all_items files) ++ ending files
+  whole files = ap (λ l. l ++ ending files) (files_texts false files)
 
 pub unique_texts : UniqueTexts
-unique_texts color quiet statistics files others short others_short e =
-    let style = style_in format.Text color quiet statistics in
-    let ended = closing_rows style files in
-    let others_ended = closing_rows style others in
-    let same =
-    ap (λ l. l ++ (passed_lines style files ++ statistics_of style files ++ last_line style files)) (sym (files_texts color quiet statistics false files)) ∙ e
-    ∙ ap (λ l. l ++ (passed_lines style others ++ statistics_of style others ++ last_line style others)) (files_texts color quiet statistics false others) in
+unique_texts style other files others short others_short e =
+    let same : texts style.color (all_items files) ++ ending style files ≡ texts other.color (all_items others) ++ ending other others =
+    sym (whole style files) ∙ e ∙ whole other others in
     all_kept files
-    ∙ lists_back color (all_items files) (all_items others) _ _ ended others_ended (all_short files short) (all_short others others_short) same
+    ∙ lists_back style.color other.color (all_items files) (all_items others) (ending style files) (ending other others)
+    (closing_rows (style_in format.Text style) files) (closing_rows (style_in format.Text other) others) (all_short files short) (all_short others others_short) same
     ∙ sym (all_kept others)

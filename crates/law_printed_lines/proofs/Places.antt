@@ -3,7 +3,7 @@ use Rattle.std.proofs.Common.{ℕ, zero, suc, ◌+◌, ◌-◌, ◌*◌, ◌<◌
 use Rattle.std.proofs.lemmas.List.Sums.{count_by-le-length}
 use Rattle.std.specs.Prelude.{not}
 use Rattle.std.specs.List.{suffix_len}
-use Rattle.std.specs.Str.{IsCharBoundary, chars, chars_after, continuation_len, lead_bits}
+use Rattle.std.specs.Str.{chars, chars_after, continuation_len, lead_bits}
 use Rattle.source_file.specs.File.{line_number, location}
 use Rattle.source_file.specs.Line.{front_of}
 use Rattle.text_pos.specs.Line.{is_line_feed}
@@ -39,6 +39,3 @@ line_short text at short = omega (arith, short, take_few at text, count_by-le-le
 
 pub column_short : (text : List ℕ) (at : ℕ) → length text < 2 ^ 32 → (location text at).column < 2 ^ 64
 column_short text at short = omega (arith, short, chars_few (front_of text at), front_few text at)
-
-pub at_short : (text : List ℕ) (at : ℕ) → length text < 2 ^ 32 → IsCharBoundary text at → at < 2 ^ 64
-at_short text at short h = omega (arith, short, h.0)

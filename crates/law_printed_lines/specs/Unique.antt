@@ -1,0 +1,38 @@
+-- What is printed on lines leads back to each finding.
+use Rattle.std.specs.Prelude.{◌≡◌, ◌<◌, ◌^◌, All, List, length, map}
+use Rattle.check_words.specs.declared.request.Format.{Format}
+use Rattle.check_words.specs.declared.request.Format.TheVariants as format
+use Rattle.checked_file.specs.declared.checked.Checked.{Checked}
+use Rattle.checked_file.specs.Files.{readable_of}
+use Rattle.check_print.specs.declared.style.Style.{Style}
+use Rattle.check_print.specs.Found.{all_found}
+use Rattle.check_print.specs.Printed.{printed}
+use Rattle.law_printed_lines.specs.Kept.{kept, kept_command}
+
+-- a format, whatever else is asked for
+abbrev pub style_in : Format → Style → Style
+style_in format style = record { format = format; color = style.color; quiet = style.quiet; statistics = style.statistics }
+
+-- the text that can be read has less than 2^32 bytes, so that its lines and columns have few digits
+abbrev pub IsShort : Checked → Type 0
+IsShort file = length (readable_of file.bytes.items) < 2 ^ 32
+
+-- Files of which the same is printed on lines that begin with the rule have the same findings, at the same places, with the same messages,
+-- in the same order.
+abbrev pub UniqueConcise : Type 0
+UniqueConcise = (style other : Style) (files others : List Checked) → All IsShort files → All IsShort others
+    → printed (style_in format.Concise style) files ≡ printed (style_in format.Concise other) others
+    → map kept (all_found files) ≡ map kept (all_found others)
+
+-- The same of lines that end with the rule.
+abbrev pub UniqueGcc : Type 0
+UniqueGcc = (style other : Style) (files others : List Checked) → All IsShort files → All IsShort others
+    → printed (style_in format.Gcc style) files ≡ printed (style_in format.Gcc other) others
+    → map kept (all_found files) ≡ map kept (all_found others)
+
+-- The same of workflow commands, which have the lines of each finding, its columns where it is on one line, and its message with its details
+-- as one text.
+abbrev pub UniqueCommands : Type 0
+UniqueCommands = (style other : Style) (files others : List Checked) → All IsShort files → All IsShort others
+    → printed (style_in format.Github style) files ≡ printed (style_in format.Github other) others
+    → map kept_command (all_found files) ≡ map kept_command (all_found others)
