@@ -9,7 +9,7 @@ use Rattle.lint_report.specs.declared.report.Report.{Report}
 use Rattle.lint_report.specs.declared.report.ReportFix.{ReportFix}
 use Rattle.report_text.specs.Excerpt.{carets, closing_row, excerpt, excerpt_by, inner_part, inset_row, is_blank, lead, opening_rows, plain_row, stroke_row}
 use Rattle.report_text.specs.Fixed.{changes, changes_in, class_mark, fix_part, is_in_order}
-use Rattle.report_text.specs.Layouts.{bar, bar_line, blanks, number_bar, numbered, point}
+use Rattle.report_text.specs.Layouts.{bar, bar_line, number_bar, numbered, point}
 use Rattle.report_text.specs.Paint.{style_of}
 use Rattle.report_text.specs.Report.{hint_part, layout_of, note, note_row, notes}
 use Rattle.report_text.specs.Rows.{gap, inner_row, inner_rows, numbered_rows}
@@ -22,13 +22,10 @@ use Rattle.source_file.specs.Line.{Text, block_of, front_of, lines_of}
 use Rattle.source_file.specs.Shown.{shown}
 use Rattle.text_pos.specs.Range.{Range}
 use Rattle.law_printed_text.proofs.Rows.{IsClean, IsPiece, IsRows, back, both, front, is_plain, joined, no_rows, row, word}
-use Rattle.law_printed_text.proofs.Pieces.{added, bold, decimal_clean, escaped_clean, frame, level_plain, of_level, removed, repeated, shell, shell_clean, shell_piece, shown_clean, solid}
+use Rattle.law_printed_text.proofs.Pieces.{added, blanks_clean, bold, decimal_clean, escaped_clean, frame, level_plain, of_level, removed, repeated, shell, shell_clean, shell_piece, shown_clean, solid}
 
 blank : IsClean (codes " ")
 blank = word (codes " ") refl
-
-blanks_clean : (n : ℕ) → IsClean (blanks n)
-blanks_clean n = word (blanks n) (repeated is_plain n 32 refl)
 
 numbered_rows_are : (line_row : ℕ → List ℕ → List ℕ) → ((n : ℕ) (line : List ℕ) → IsRows (line_row n line)) → (n : ℕ) (lines : List (List ℕ)) → IsRows (numbered_rows line_row n lines)
 numbered_rows_are line_row h n [] = no_rows

@@ -12,7 +12,7 @@ use Rattle.source_file.specs.Escaped.{escaped}
 use Rattle.source_file.specs.Levels.{word_of}
 use Rattle.law_printed_text.proofs.Cuts.{cut, rest_of_two}
 use Rattle.law_printed_lines.proofs.Names.{is_name, is_name_byte}
-use Rattle.law_printed_text.proofs.Pieces.{bold, closed_clean, escaped_clean, frame, level_plain, of_level, passes, repeated, shell, shell_clean, shell_piece, solid}
+use Rattle.law_printed_text.proofs.Pieces.{blanks_clean, bold, closed_clean, escaped_clean, frame, level_plain, of_level, passes, repeated, shell, shell_clean, shell_piece, solid}
 use Rattle.law_printed_text.proofs.Rows.{IsClean, IsPiece, IsRows, back, both, front, is_plain, row, word}
 
 name_plain : (b : ℕ) → is_name_byte b ≡ true → is_plain b ≡ true
@@ -22,10 +22,6 @@ pub name_clean : (name : List ℕ) → is_name name ≡ true → IsClean name
 name_clean name e = word name (passes is_name_byte is_plain name_plain name e)
 
 -- ---- the title
-
-word_clean : (level : Level) → IsClean (word_of level)
-word_clean Warning = word (codes "warning") refl
-word_clean Error = word (codes "error") refl
 
 word_piece : (level : Level) → IsPiece (word_of level)
 word_piece Warning = solid (codes "warning") refl refl
@@ -38,10 +34,11 @@ title_row color level name message e =
     (front (front (front (word_piece level) (word (codes "[") refl)) (name_clean name e)) (word (codes "]") refl)))
     (shell_clean color bold refl (both (word (codes ": ") refl) (escaped_clean false message))))
 
--- what is before the name in it, and what is between the name and the message
+-- what is before the name in it
 abbrev lead : Bool → Level → List ℕ
 lead color level = (if color then 27 ∷ of_level level else []) ++ (word_of level ++ codes "[")
 
+-- what is between the name and the message
 abbrev between : Bool → List ℕ
 between color = closed color ++ ((if color then 27 ∷ bold else []) ++ codes ": ")
 
@@ -50,6 +47,7 @@ title_is : (color : Bool) (level : Level) (name message x : List ℕ)
 unfolding title
 title_is color level name message x = simp append_assoc
 
+-- the name, the message, and what is after them
 abbrev ending : Bool → List ℕ → List ℕ → List ℕ → List ℕ
 ending color name message x = name ++ 93 ∷ (between color ++ ((escaped message ++ closed color) ++ 10 ∷ x))
 
@@ -104,9 +102,6 @@ arrow_mark_piece color = front (shell_piece color frame refl (solid (codes "-->"
 -- a row with an arrow
 abbrev pub arrow_row : Bool → ℕ → List ℕ → List ℕ
 arrow_row color gutter place = blanks gutter ++ (arrow_mark color ++ place) ++ codes "\n"
-
-pub blanks_clean : (n : ℕ) → IsClean (blanks n)
-blanks_clean n = word (blanks n) (repeated is_plain n 32 refl)
 
 pub arrow_rows : (color : Bool) (gutter : ℕ) (place : List ℕ) → IsClean place → IsRows (arrow_row color gutter place)
 arrow_rows color gutter place p = row (back (blanks_clean gutter) (front (arrow_mark_piece color) p))

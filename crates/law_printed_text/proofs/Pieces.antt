@@ -1,11 +1,12 @@
 -- Nothing that is written of a name, a text or a number has a line feed.
 use Rattle.std.proofs.Common.{◌≡◌, ℕ, zero, suc, ◌+◌, ◌-◌, ◌/◌, ◌%◌, ◌<◌, ◌≤◌, ◌==◌, Bool, true, false, not, ◌&&◌, List, [], ◌∷◌, ◌++◌, ap, arith, codes, cond, decimal, if◌then◌else◌, get_or, le-leb, length, lt-ltb, nat_le, nat_lt, refl, replicate}
-use Rattle.std.proofs.lemmas.Bool.{cond_both}
+use Rattle.std.proofs.lemmas.Bool.{and_from, and_parts, cond_both}
 use Rattle.std.proofs.lemmas.Bool.Decides.{nat_tests}
 use Rattle.std.proofs.lemmas.List.Elements.{All-replicate, All-weaker}
 use Rattle.std.proofs.lemmas.List.Sums.{list_all-from_AllPass}
 use Rattle.std.specs.Fmt.{digit_glyph, digits, digits_onto}
 use Rattle.std.specs.List.{list_all}
+use Rattle.report_text.specs.Layouts.{blanks}
 use Rattle.report_text.specs.Paint.{closed, code_of, style_of}
 use Rattle.source_file.specs.declared.level.Level.{Level}
 use Rattle.source_file.specs.declared.level.Level.TheVariants.{Warning, Error}
@@ -13,7 +14,7 @@ use Rattle.source_file.specs.Escaped.{escaped_after}
 use Rattle.source_file.specs.Shown.{c1_escape, escape, hex_digit, is_c1, is_embedding, is_isolate, more_len, shown, shown_after, shown_byte}
 use Rattle.law_printed_lines.specs.Texts.{IsPlain}
 use Rattle.law_printed_lines.proofs.Escaping.{written_plain}
-use Rattle.law_printed_text.proofs.Rows.{IsClean, IsPiece, and_true, back, both, first_true, front, is_plain, piece, word}
+use Rattle.law_printed_text.proofs.Rows.{IsClean, IsPiece, back, both, front, is_plain, piece, word}
 
 -- ---- numbers
 
@@ -23,13 +24,13 @@ is_digit b = nat_le 48 b && nat_le b 57
 glyph_digit : (d : ℕ) → d < 10 → is_digit (digit_glyph false d) ≡ true
 glyph_digit d h =
     let low : nat_lt d 10 ≡ true = lt-ltb d 10 h in
-    rw low (and_true (nat_le 48 (48 + d)) (nat_le (48 + d) 57) (le-leb 48 (48 + d) (omega arith)) (le-leb (48 + d) 57 (omega (arith, h))))
+    rw low (and_from (nat_le 48 (48 + d)) (nat_le (48 + d) 57) (le-leb 48 (48 + d) (omega arith)) (le-leb (48 + d) 57 (omega (arith, h))))
 
 onto_digits : (k n : ℕ) (bs : List ℕ) → list_all is_digit bs ≡ true → list_all is_digit (digits_onto k 10 false n bs) ≡ true
 onto_digits zero n bs h = h
 onto_digits (suc k) n bs h =
     let b = digit_glyph false (n % 10) in
-    let more = and_true (is_digit b) (list_all is_digit bs) (glyph_digit (n % 10) (omega arith)) h in
+    let more = and_from (is_digit b) (list_all is_digit bs) (glyph_digit (n % 10) (omega arith)) h in
     cond_both (n / 10 == 0) (b ∷ bs) (digits_onto k 10 false (n / 10) (b ∷ bs)) (λ l. list_all is_digit l ≡ true) (λ _. more)
     (λ _. onto_digits k (n / 10) (b ∷ bs) more)
 
@@ -41,15 +42,15 @@ decimal_digits n = onto_digits 64 n [] refl
 pub passes : (p q : ℕ → Bool) → ((b : ℕ) → p b ≡ true → q b ≡ true) → (t : List ℕ) → list_all p t ≡ true → list_all q t ≡ true
 passes p q f [] e = refl
 passes p q f (b ∷ t) e =
-    let are = first_true (p b) (list_all p t) e in
-    and_true (q b) (list_all q t) (f b are.0) (passes p q f t are.1)
+    let are = and_parts (p b) (list_all p t) e in
+    and_from (q b) (list_all q t) (f b are.0) (passes p q f t are.1)
 
 other_byte : (b n : ℕ) → n < b → (b == n) ≡ false
 other_byte b n h = grind (arith, nat_tests)
 
 digit_high : (b : ℕ) → is_digit b ≡ true → 48 ≤ b
 digit_high b e =
-    let are = first_true (nat_le 48 b) (nat_le b 57) e in
+    let are = and_parts (nat_le 48 b) (nat_le b 57) e in
     let h : nat_le 48 b ≡ true = are.0 in
     grind (arith, nat_tests)
 
@@ -62,6 +63,9 @@ decimal_clean n = word (decimal n) (passes is_digit is_plain (λ b e. high_plain
 pub repeated : (p : ℕ → Bool) (n b : ℕ) → p b ≡ true → list_all p (replicate n b) ≡ true
 repeated p n b e = list_all-from_AllPass p (replicate n b) (All-replicate (λ x. p x ≡ true) n b e)
 
+pub blanks_clean : (n : ℕ) → IsClean (blanks n)
+blanks_clean n = word (blanks n) (repeated is_plain n 32 refl)
+
 -- ---- escapes
 
 hex_plain : (n : ℕ) → is_plain (hex_digit n) ≡ true
@@ -70,7 +74,7 @@ hex_plain n =
 
 escape_clean : (first : List ℕ) (last : ℕ) → IsClean first → IsClean (escape first last)
 escape_clean first last c =
-    both (both (word (92 ∷ codes "u{") refl) c) (word (hex_digit last ∷ codes "}") (and_true (is_plain (hex_digit last)) true (hex_plain last) refl))
+    both (both (word (92 ∷ codes "u{") refl) c) (word (hex_digit last ∷ codes "}") (and_from (is_plain (hex_digit last)) true (hex_plain last) refl))
 
 c1_clean : (b : ℕ) → IsClean (c1_escape b)
 c1_clean b =
@@ -78,7 +82,7 @@ c1_clean b =
     (λ _. escape_clean (codes "9") (b - 144) (word (codes "9") refl))
 
 one_clean : (b : ℕ) → is_plain b ≡ true → IsClean (b ∷ [])
-one_clean b e = word (b ∷ []) (and_true (is_plain b) true e refl)
+one_clean b e = word (b ∷ []) (and_from (is_plain b) true e refl)
 
 -- a byte that is no control character
 high_clean : (b : ℕ) → nat_lt b 32 ≡ false → IsClean (b ∷ [])
@@ -98,7 +102,7 @@ turned a b c other h =
 -- ---- a text as it is shown
 
 picture : (b : ℕ) → IsClean (226 ∷ 144 ∷ (128 + b) ∷ [])
-picture b = word (226 ∷ 144 ∷ (128 + b) ∷ []) (and_true (is_plain (128 + b)) true (high_plain (128 + b) (omega arith)) refl)
+picture b = word (226 ∷ 144 ∷ (128 + b) ∷ []) (and_from (is_plain (128 + b)) true (high_plain (128 + b) (omega arith)) refl)
 
 shown_byte_clean : (b : ℕ) → IsClean (shown_byte b)
 shown_byte_clean b =

@@ -1,5 +1,6 @@
 -- Rows of a text, and the empty line that ends a finding.
-use Rattle.std.proofs.Common.{◌≡◌, ◌∙◌, ℕ, ◌<◌, ◌==◌, Bool, true, false, not, ◌&&◌, List, [], ◌∷◌, ◌++◌, Option, Some, None, ap, append_assoc, append-nil, arith, codes, if◌then◌else◌, length, length-append, refl, sym}
+use Rattle.std.proofs.Common.{◌≡◌, ◌∙◌, ℕ, ◌<◌, ◌==◌, Bool, true, false, not, List, [], ◌∷◌, ◌++◌, Option, Some, None, ap, append_assoc, append-nil, arith, codes, if◌then◌else◌, length, length-append, refl, sym}
+use Rattle.std.proofs.lemmas.Bool.{and_from, and_parts}
 use Rattle.std.proofs.lemmas.List.Folds.{list_all-append}
 use Rattle.std.specs.List.{list_all}
 
@@ -31,20 +32,11 @@ word t e = record { clean = e }
 pub piece : {t : List ℕ} → IsClean t → 0 < length t → IsPiece t
 piece c h = record { clean = c; some = h }
 
-pub and_true : (x y : Bool) → x ≡ true → y ≡ true → (x && y) ≡ true
-and_true true true p q = refl
-and_true true false p q = q
-and_true false y p q = p
-
-pub first_true : (x y : Bool) → (x && y) ≡ true → (x ≡ true) × (y ≡ true)
-first_true true y e = (refl, e)
-first_true false y e = cc
-
 -- ---- pieces, one after another
 
 pub both : {a b : List ℕ} → IsClean a → IsClean b → IsClean (a ++ b)
 both {a = a} {b = b} p q =
-    record { clean = list_all-append is_plain a b ∙ and_true (list_all is_plain a) (list_all is_plain b) p.clean q.clean }
+    record { clean = list_all-append is_plain a b ∙ and_from (list_all is_plain a) (list_all is_plain b) p.clean q.clean }
 
 pub front : {a b : List ℕ} → IsPiece a → IsClean b → IsPiece (a ++ b)
 front {a = a} {b = b} p q = record { clean = both p.clean q; some = omega (arith, p.some, length-append a b) }
@@ -64,7 +56,7 @@ plain_not b h = not_true (b == 10) h where
 rest_passed : (t rest : List ℕ) → list_all is_plain t ≡ true → after_empty false (t ++ rest) ≡ after_empty false rest
 rest_passed [] rest e = refl
 rest_passed (b ∷ t) rest e =
-    let are = first_true (is_plain b) (list_all is_plain t) e in
+    let are = and_parts (is_plain b) (list_all is_plain t) e in
     let here : (b == 10) ≡ false = plain_not b are.0 in
     rw here (rest_passed t rest are.1)
 
@@ -72,7 +64,7 @@ rest_passed (b ∷ t) rest e =
 line_passed : (t rest : List ℕ) → 0 < length t → list_all is_plain t ≡ true → after_empty true (t ++ rest) ≡ after_empty false rest
 line_passed [] rest h e = absurd (omega (arith, h))
 line_passed (b ∷ t) rest h e =
-    let are = first_true (is_plain b) (list_all is_plain t) e in
+    let are = and_parts (is_plain b) (list_all is_plain t) e in
     let here : (b == 10) ≡ false = plain_not b are.0 in
     rw here (rest_passed t rest are.1)
 
