@@ -7,7 +7,6 @@ use Rattle.std.proofs.lemmas.List.{get_or-drop}
 use Rattle.std.proofs.lemmas.List.Elements.{All-append, All-cons, All-head, All-nil, All-tail, All-weaker}
 use Rattle.source_file.specs.Escaped.{escaped_after, escaped_byte, first_escaped, is_escape, is_mark, mark_escaped}
 use Rattle.source_file.specs.Shown.{c1_escape, escape, hex_digit, is_c1, is_embedding, is_isolate, more_len}
-use Rattle.law_printed_lines.specs.Texts.{IsPlain}
 
 -- ---- reading
 
@@ -113,12 +112,21 @@ turning_text n m a b c rest p q low high r s e =
 
 -- ---- how a text begins
 
+-- no control character of ASCII
+abbrev pub IsPlain : ℕ → Type 0
+IsPlain b = (32 ≤ b) × (b ≡ 127 → ⊥)
+
 -- what holds of an escape of the first character, and of its first byte as it is, holds of how it is written
 abbrev pub Coded : ℕ → List ℕ → (List ℕ → ℕ → Type 0) → Type 0
 Coded a rest P = (first : List ℕ) (n k : ℕ) → list_all is_digit first ≡ true → n < 16 → a ∷ rest ≡ bytes_of (number_of 0 first * 16 + n) ++ drop k rest → P (escape first n) k
 
 abbrev pub Raw : Bool → ℕ → List ℕ → (List ℕ → ℕ → Type 0) → Type 0
 Raw marks a rest P = IsPlain a → is_escape a (get_or rest 0 0) (get_or rest 1 0) ≡ false → is_mark marks a (get_or rest 0 0) ≡ false → P (a ∷ []) 0
+
+-- the same where no character begins that is written as an escape
+abbrev pub RawFirst : Bool → ℕ → List ℕ → (List ℕ → ℕ → Type 0) → Type 0
+RawFirst marks a rest P = is_c1 a (get_or rest 0 0) ≡ false → is_embedding a (get_or rest 0 0) (get_or rest 1 0) ≡ false
+    → is_isolate a (get_or rest 0 0) (get_or rest 1 0) ≡ false → Raw marks a rest P
 
 byte_cases : (marks : Bool) (a : ℕ) (rest : List ℕ) (P : List ℕ → ℕ → Type 0) → Coded a rest P → Raw marks a rest P
     → is_escape a (get_or rest 0 0) (get_or rest 1 0) ≡ false → is_mark marks a (get_or rest 0 0) ≡ false → P (escaped_byte a) 0
@@ -191,14 +199,14 @@ isolate_case a rest P coded e =
     coded (codes "206") (c - 160) 2 refl (omega arith)
     (turning_text (518 * 16 + (c - 160)) 129 a b c rest (eqb-true a 226 parts.0) (eqb-true b 129 parts.1) (omega arith) (omega arith) refl refl (isolate_bytes (518 * 16 + (c - 160)) c (omega arith) low high))
 
-pub first_cases : (marks : Bool) (a : ℕ) (rest : List ℕ) (P : List ℕ → ℕ → Type 0) → Coded a rest P → Raw marks a rest P
+pub first_cases : (marks : Bool) (a : ℕ) (rest : List ℕ) (P : List ℕ → ℕ → Type 0) → Coded a rest P → RawFirst marks a rest P
     → P (first_escaped marks a (get_or rest 0 0) (get_or rest 1 0)) (more_len a (get_or rest 0 0) (get_or rest 1 0))
 first_cases marks a rest P coded raw =
     let b = get_or rest 0 0 in
     let c = get_or rest 1 0 in
     both (is_c1 a b) _ _ _ _ P (λ e. c1_case a rest P coded e)
     (λ e. both (is_embedding a b c) _ _ _ _ P (λ f. embedding_case a rest P coded f)
-    (λ f. both (is_isolate a b c) _ _ _ _ P (λ g. isolate_case a rest P coded g) (λ g. mark_cases marks a rest P coded raw)))
+    (λ f. both (is_isolate a b c) _ _ _ _ P (λ g. isolate_case a rest P coded g) (λ g. mark_cases marks a rest P coded (raw e f g))))
 
 -- ---- a text
 
@@ -223,7 +231,7 @@ begins marks [] tail = λ k h t e. absurd (t e)
 begins marks (a ∷ rest) tail =
     first_cases marks a rest (λ l n. Begins marks (a ∷ rest) tail ((l ++ escaped_after marks n rest) ++ tail))
     (λ first n k digits low text j h t e. absurd (h (sym e)))
-    (λ plain begun mark j h t e. (e, refl))
+    (λ _ _ _ plain begun mark j h t e. (e, refl))
 
 -- what comes after a text does not go on with what begins an escape
 abbrev pub IsApart : List ℕ → Type 0
@@ -258,7 +266,7 @@ read_written marks zero (a ∷ rest) tail apart =
     ∙ ap (λ l. bytes ++ l) (later k)
     ∙ sym (append_assoc bytes (drop k rest) (read tail))
     ∙ ap (λ l. l ++ read tail) (sym text))
-    (λ plain begun mark. raw_read marks a rest tail apart begun ∙ ap (λ l. a ∷ l) (later 0))
+    (λ _ _ _ plain begun mark. raw_read marks a rest tail apart begun ∙ ap (λ l. a ∷ l) (later 0))
 
 read_all : (marks : Bool) (text : List ℕ) → read (escaped_after marks 0 text) ≡ text
 unfolding read_on
@@ -310,7 +318,7 @@ written_each P Q h raw marks zero (a ∷ rest) all =
     let later : (k : ℕ) → All P (escaped_after marks k rest) = λ k. written_each P Q h raw marks k rest (All-tail Q a rest all) in
     first_cases marks a rest (λ l k. All P (l ++ escaped_after marks k rest))
     (λ first n k digits low text. All-append P (escape first n) (escaped_after marks k rest) (escape_holds P h first n digits low) (later k))
-    (λ plain begun mark. All-cons P a (escaped_after marks 0 rest) (raw a plain (All-head Q a rest all)) (later 0))
+    (λ _ _ _ plain begun mark. All-cons P a (escaped_after marks 0 rest) (raw a plain (All-head Q a rest all)) (later 0))
 
 plain_escapes : HoldsOfEscapes IsPlain
 plain_escapes = record {

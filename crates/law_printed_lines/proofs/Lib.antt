@@ -1,4 +1,5 @@
 pub mod Escaping
+pub mod Controls
 pub mod Splits
 pub mod Decimals
 pub mod Names

@@ -55,7 +55,7 @@ name_free zero (a ∷ rest) =
     let later : (k : ℕ) → has_mark (escaped_after true k rest) ≡ false = λ k. name_free k rest in
     first_cases true a rest (λ l k. has_mark (l ++ escaped_after true k rest) ≡ false)
     (λ first n k digits low text. escape_free first (escaped_after true k rest) n digits (later k))
-    (λ plain begun mark. or_from _ _ (colon_free a rest mark) (later 0))
+    (λ _ _ _ plain begun mark. or_from _ _ (colon_free a rest mark) (later 0))
 
 pub written_free : (name : List ℕ) → has_mark (escaped_name name) ≡ false
 written_free name = name_free 0 name

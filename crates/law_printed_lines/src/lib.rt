@@ -1,7 +1,7 @@
 //! Laws of what is printed on lines: the lines of a run lead back to each finding's file, place, level, rule and message.
 #![tactic(auto)]
 
-ghost use Rattle.law_printed_lines.specs.Texts.{HaveOneLine, UniqueTexts};
+ghost use Rattle.law_printed_lines.specs.Texts.{HaveNoControl, UniqueTexts};
 ghost use Rattle.law_printed_lines.specs.Unique.{UniqueCommands, UniqueConcise, UniqueGcc};
 
 /// Two messages that are written alike on a line are the same, and so are two names.
@@ -9,9 +9,10 @@ pub fn unique_texts()
     ensures { UniqueTexts }
 {}
 
-/// No control character of ASCII is written of a message or of a name, and so no line feed.
-pub fn have_one_line()
-    ensures { HaveOneLine }
+/// Of a message and of a name no control character is written as it is, and none that turns the direction of a text: so each is on one line,
+/// and steers no terminal.
+pub fn have_no_control()
+    ensures { HaveNoControl }
 {}
 
 /// Two lists of files of which the same lines `file:line:column: warning[rule]: message` are printed have the same findings, in the same

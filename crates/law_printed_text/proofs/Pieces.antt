@@ -12,8 +12,7 @@ use Rattle.source_file.specs.declared.level.Level.{Level}
 use Rattle.source_file.specs.declared.level.Level.TheVariants.{Warning, Error}
 use Rattle.source_file.specs.Escaped.{escaped_after}
 use Rattle.source_file.specs.Shown.{c1_escape, escape, hex_digit, is_c1, is_embedding, is_isolate, more_len, shown, shown_after, shown_byte}
-use Rattle.law_printed_lines.specs.Texts.{IsPlain}
-use Rattle.law_printed_lines.proofs.Escaping.{written_plain}
+use Rattle.law_printed_lines.proofs.Escaping.{written_shown}
 use Rattle.law_printed_text.proofs.Rows.{IsClean, IsPiece, back, both, front, is_plain, piece, word}
 
 -- ---- numbers
@@ -129,7 +128,7 @@ pub escaped_clean : (marks : Bool) (t : List ℕ) → IsClean (escaped_after mar
 escaped_clean marks t =
     word (escaped_after marks 0 t)
     (list_all-from_AllPass is_plain (escaped_after marks 0 t)
-    (All-weaker IsPlain (λ b. is_plain b ≡ true) (λ b is. high_plain b (omega (arith, is.0))) (escaped_after marks 0 t) (written_plain marks t)))
+    (All-weaker (λ b. 32 ≤ b) (λ b. is_plain b ≡ true) (λ b h. high_plain b (omega (arith, h))) (escaped_after marks 0 t) (written_shown marks t)))
 
 -- ---- painted pieces
 
