@@ -1,0 +1,10 @@
+mod Rows
+mod Pieces
+mod Blocks
+mod Cuts
+mod Heads
+mod Findings
+mod Items
+mod Lists
+mod Closings
+mod Uniqueness

@@ -1,0 +1,9 @@
+//! A law of what is printed for people: it leads back to each finding's file, place, level, rule and message.
+#![tactic(auto)]
+
+ghost use Rattle.law_printed_text.specs.Unique.{UniqueTexts};
+
+/// Two lists of files of which the same is printed have the same findings, at the same places, with the same messages, in the same order.
+pub fn unique_texts()
+    ensures { UniqueTexts }
+{}
