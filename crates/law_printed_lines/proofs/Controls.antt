@@ -6,7 +6,7 @@ use Rattle.std.proofs.lemmas.Bool.{and_left, and_parts, both_ways, cond_both, eq
 use Rattle.std.proofs.lemmas.List.{get_or-drop}
 use Rattle.source_file.specs.Escaped.{escaped_after}
 use Rattle.source_file.specs.Shown.{escape, hex_digit, is_c1, is_embedding, is_isolate}
-use Rattle.law_printed_lines.specs.Texts.{has_control, is_control}
+use Rattle.law_printed_lines.specs.Escapes.{has_control, is_control}
 use Rattle.law_printed_lines.proofs.Escaping.{IsPlain, begins, first_cases, is_digit, written}
 
 -- ---- escapes

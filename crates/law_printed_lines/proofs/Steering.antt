@@ -22,7 +22,7 @@ use Rattle.source_file.specs.File.{location}
 use Rattle.source_file.specs.Levels.{word_of}
 use Rattle.source_file.specs.Shown.{is_c1, is_embedding, is_isolate}
 use Rattle.law_printed_lines.specs.Steering.{SteerNothing, has_steering}
-use Rattle.law_printed_lines.specs.Texts.{has_control, is_control}
+use Rattle.law_printed_lines.specs.Escapes.{has_control, is_control}
 use Rattle.law_printed_lines.specs.Unique.{IsShort, style_in}
 use Rattle.law_printed_lines.proofs.Annotations.{annotation_text, details_text}
 use Rattle.law_printed_lines.proofs.Commands.{after_lines, command_line, command_parts, lines_of, opened, title}

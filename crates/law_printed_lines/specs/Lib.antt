@@ -1,4 +1,4 @@
+pub mod Escapes
 pub mod Kept
 pub mod Steering
-pub mod Texts
 pub mod Unique

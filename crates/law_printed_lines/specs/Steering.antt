@@ -4,7 +4,7 @@ use Rattle.check_print.specs.declared.style.Style.{Style}
 use Rattle.check_print.specs.Printed.{printed}
 use Rattle.check_words.specs.declared.request.Format.TheVariants as format
 use Rattle.checked_file.specs.declared.checked.Checked.{Checked}
-use Rattle.law_printed_lines.specs.Texts.{is_control}
+use Rattle.law_printed_lines.specs.Escapes.{is_control}
 use Rattle.law_printed_lines.specs.Unique.{IsShort, style_in}
 
 -- such a character begins with these bytes, and it is no line feed

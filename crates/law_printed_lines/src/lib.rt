@@ -2,12 +2,12 @@
 #![tactic(auto)]
 
 ghost use Rattle.law_printed_lines.specs.Steering.{SteerNothing};
-ghost use Rattle.law_printed_lines.specs.Texts.{HaveNoControl, UniqueTexts};
+ghost use Rattle.law_printed_lines.specs.Escapes.{HaveNoControl, UniqueEscapes};
 ghost use Rattle.law_printed_lines.specs.Unique.{UniqueCommands, UniqueConcise, UniqueGcc};
 
 /// Two messages that are written alike on a line are the same, and so are two names.
-pub fn unique_texts()
-    ensures { UniqueTexts }
+pub fn unique_escapes()
+    ensures { UniqueEscapes }
 {}
 
 /// Of a message and of a name no control character is written as it is, and none that turns the direction of a text: so each is on one line,

@@ -4,8 +4,8 @@ use Rattle.source_file.specs.Escaped.{escaped, escaped_name}
 use Rattle.source_file.specs.Shown.{is_c1, is_embedding, is_isolate}
 
 -- Two messages that are written alike on a line are the same, and so are two names of files.
-abbrev pub UniqueTexts : Type 0
-UniqueTexts = (x y : List ℕ) → (escaped x ≡ escaped y → x ≡ y) × (escaped_name x ≡ escaped_name y → x ≡ y)
+abbrev pub UniqueEscapes : Type 0
+UniqueEscapes = (x y : List ℕ) → (escaped x ≡ escaped y → x ≡ y) × (escaped_name x ≡ escaped_name y → x ≡ y)
 
 -- these bytes begin a control character, of ASCII or of C1, or one that turns the direction of a text
 abbrev pub is_control : ℕ → ℕ → ℕ → Bool
