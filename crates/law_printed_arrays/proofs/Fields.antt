@@ -16,7 +16,7 @@ use Rattle.source_file.specs.File.{location}
 use Rattle.source_file.specs.Levels.{word_of}
 use Rattle.text_pos.specs.Range.{Range}
 use Rattle.law_printed_arrays.specs.Told.{ToldEdit, ToldFix, ToldReport}
-use Rattle.law_printed_arrays.proofs.Places.{column_short, line_short}
+use Rattle.law_printed_lines.proofs.Places.{column_short, line_short}
 use Rattle.law_printed_arrays.proofs.Shapes.{first_in, items_in}
 
 -- ---- parts of a value

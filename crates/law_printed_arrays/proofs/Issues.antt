@@ -5,7 +5,7 @@ use Rattle.serde_json.specs.Data.{object}
 use Rattle.law_printed_arrays.specs.Told.{ToldIssue, told_issue}
 use Rattle.law_printed_arrays.proofs.Fields.{at, text_in}
 use Rattle.law_printed_arrays.proofs.Placed.{IsPlaced}
-use Rattle.law_printed_arrays.proofs.Places.{line_short}
+use Rattle.law_printed_lines.proofs.Places.{line_short}
 use Rattle.law_printed_arrays.proofs.Shapes.{LeadsBack}
 use Rattle.law_printed_arrays.proofs.Values.{issue_of, members_by}
 

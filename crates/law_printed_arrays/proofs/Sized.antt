@@ -14,7 +14,8 @@ use Rattle.serde_json.specs.View.{items_of}
 use Rattle.source_file.specs.File.{FileValue, IsRangeIn}
 use Rattle.text_pos.specs.Range.{Range}
 use Rattle.law_printed_arrays.proofs.Placed.{IsPlaced}
-use Rattle.law_printed_arrays.proofs.Places.{at_short, column_short, line_short}
+use Rattle.law_printed_arrays.proofs.Places.{at_short}
+use Rattle.law_printed_lines.proofs.Places.{column_short, line_short}
 use Rattle.law_printed_arrays.proofs.Short.{AreShortItems, IsShort}
 use Rattle.law_printed_arrays.proofs.Values.{issue_of, object_of, result_of}
 
