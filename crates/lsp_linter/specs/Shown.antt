@@ -4,6 +4,7 @@ use Rattle.hazard_base.specs.declared.hazard_set.HazardSet.{HazardSet}
 use Rattle.lint_base.specs.RuleSets.{Rules}
 use Rattle.lint_base.specs.declared.settings.LinterSettings.{LinterSettings}
 use Rattle.lsp_report.specs.declared.report.Report.{Report}
+use Rattle.lsp_shown.specs.Notes.{notes_in}
 use Rattle.lsp_shown.specs.Shown.{refused_at, shown}
 use Rattle.lsp_shown.specs.Tokens.{long_tokens}
 use Rattle.sql_read.specs.Cause.{IsCause, IsTreeOf}
@@ -18,7 +19,7 @@ use Rattle.text_utf16.specs.declared.position.Pos.{Pos}
 pub record Lints (rules : Rules) (hazards : HazardSet) (settings : LinterSettings) (t : List ℕ) (found : List Report) : Type 0 where
   pub tree : Tree
   pub of_text : IsTreeOf t tree
-  pub are : found ≡ shown t (long_tokens t tree.toks) (all_reports tree rules hazards settings)
+  pub are : found ≡ shown t (long_tokens t tree.toks) (notes_in t tree.toks) (all_reports tree rules hazards settings)
 
 -- where a text begins
 abbrev pub start : Pos

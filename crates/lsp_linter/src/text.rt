@@ -2,6 +2,7 @@
 ghost use Rattle.std.specs.Prelude.{◌≡◌, ◌<◌, ◌^◌, ◌∷◌, [], All, IfErr, IfOk, Some, length};
 ghost use Rattle.lsp_linter.specs.Shown as spec;
 ghost use Rattle.lsp_linter.specs.Shown.{Lints, Refuses, Shows};
+ghost use Rattle.lsp_shown.specs.Notes.{notes_in};
 ghost use Rattle.lsp_shown.specs.Places.{ReportIn};
 ghost use Rattle.lsp_shown.specs.Shown.{shown};
 ghost use Rattle.lsp_shown.specs.Tokens.{long_tokens};
@@ -11,7 +12,7 @@ ghost use Rattle.std.specs.Str.{IsCharBoundary};
 ghost use Rattle.text_utf16.specs.Position.{position_of};
 
 use lsp_report::Report;
-use lsp_shown::{long_tokens, refused_at, shown};
+use lsp_shown::{long_tokens, notes_in, refused_at, shown};
 use sql_read::{LintError, parse};
 use sql_token::Tok;
 use sql_tree::Parse;
@@ -30,11 +31,12 @@ fn shown_of(
     requires short { length text.now < 2 ^ 32 }
     requires tokens { Lexed text.now tokens.now }
     requires reports { All (ReportIn text.now) reports.items }
-    ensures { IfOk result (λ found. found.items ≡ shown text.now (long_tokens text.now tokens.now) reports.items) }
+    ensures { IfOk result (λ found. found.items ≡ shown text.now (long_tokens text.now tokens.now) (notes_in text.now tokens.now) reports.items) }
 {
     let index = PosIndex::new(alloc, text)?;
     let long = long_tokens(alloc, &index, tokens)?;
-    shown(alloc, &index, long.as_slice(), reports)
+    let notes = notes_in(alloc, &index, text, tokens)?;
+    shown(alloc, &index, long.as_slice(), notes.as_slice(), reports)
 }
 
 // The reports of a text that has a tree.

@@ -34,7 +34,7 @@ pub enum Call {
     Initialize { root: Option<Text> },
     /// To begin, where what is to be shown can't be settled: this line says why. No client asks for it: a session takes an
     /// [`Call::Initialize`] for it.
-    Unsettled { line: Text },
+    ConfigRefused { line: Text },
     /// To end soon.
     Shutdown,
     /// The remedies of a part of a document.

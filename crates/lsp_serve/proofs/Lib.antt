@@ -1,3 +1,4 @@
-mod Hearing
+mod Saying
+mod Handling
 mod Turning
 mod Stopping

@@ -1,29 +1,26 @@
 -- Turns of a server, one by one.
-use Rattle.std.proofs.Common.{◌≡◌, ◌≢◌, ◌∙◌, ◌⊎◌, ◌≤◌, ap, arith, inl, inr, refl, subst, sym, append-nil, ℕ, Bool, List, [], ◌∷◌, ◌++◌, Option, Some, None, option_to_list}
+use Rattle.std.proofs.Common.{◌≡◌, ◌∙◌, ◌⊎◌, ◌≤◌, ap, arith, inl, inr, refl, subst, sym, append-nil, ℕ, Bool, List, [], ◌∷◌, ◌++◌, Option, Some, None, option_to_list}
 use Rattle.std.proofs.KnownBytes.{Appends-kept, Appends-nil, Appends-trans}
 use Rattle.std.proofs.lemmas.Grind.{flat_map-append}
 use Rattle.std.specs.Io.KnownBytes.{Appends}
-use Rattle.lsp_message.specs.declared.message.Call.{Call}
-use Rattle.lsp_message.specs.declared.message.Call.TheVariants.{Initialize, Unsettled, Shutdown, Actions, Hover, Misread, Unknown}
 use Rattle.lsp_message.specs.declared.message.Document.{Document}
 use Rattle.lsp_message.specs.declared.message.Message.{Message}
-use Rattle.lsp_message.specs.declared.message.Message.TheVariants.{Request, Notice, Response, Unreadable}
-use Rattle.lsp_message.specs.declared.message.Notice.TheVariants.{Exit, Opened, Changed, Closed, Other}
 use Rattle.lsp_message.specs.declared.reply.Reply.{Reply}
 use Rattle.lsp_report.specs.declared.report.Report.{Report}
 use Rattle.lsp_serve.specs.declared.end.End.{End}
 use Rattle.lsp_serve.specs.declared.end.End.TheVariants.{Exited, EndOfInput, BadFrame, CutOff, ReadFault, WriteFault, NoMemory}
 use Rattle.lsp_serve.specs.Ends.{exit_at}
-use Rattle.lsp_serve.specs.Said.{AreSaidTo, AreTaken, IsOpen, IsOpenBefore, all_bytes, reply_bytes, said_bytes}
+use Rattle.lsp_serve.specs.Said.{AreSaidTo, AreTaken, IsOpen, IsOpenBefore, SaysEach, all_bytes, reply_bytes, said_bytes}
 use Rattle.lsp_serve.specs.Served.{AreRead, BeginsWith, Served, Streams}
-use Rattle.lsp_serve.specs.Turns.{Hears, SoFar, StopsTurn, TakesPart, TakesTurn}
-use Rattle.lsp_session.specs.Conversation.{document_behind, last_told, later, stage_behind}
-use Rattle.lsp_session.specs.Session.{TellsNow, Told, document_after, document_of, told}
-use Rattle.lsp_session.specs.Stages.{stage_after, stage_called}
+use Rattle.lsp_serve.proofs.Saying.{fresh_before, replies_more, says_anew, says_more, says_same}
+use Rattle.lsp_serve.specs.Turns.{Handles, SoFar, StopsTurn, TakesPart, TakesTurn}
+use Rattle.lsp_session.specs.Conversation.{document_behind, last_published, later, stage_behind}
+use Rattle.lsp_session.specs.Session.{PublishesNow, Published, Says, document_after, document_of, published}
+use Rattle.lsp_session.specs.Stages.{stage_after}
 use Rattle.lsp_session.specs.declared.session.Session.{Session}
 use Rattle.lsp_session.specs.declared.stage.Stage.{Stage}
 use Rattle.lsp_session.specs.declared.stage.Stage.TheVariants.{Fresh, Running, Down, Gone}
-use Rattle.lsp_session.proofs.Conversing.{answered-more, document_behind-more, last_told-more, stage_behind-more, told_onward}
+use Rattle.lsp_session.proofs.Conversing.{answered-more, document_behind-more, last_published-more, stage_behind-more, published_onward}
 use Rattle.squawk_stream.specs.Parts.{AppendsPart}
 use Rattle.squawk_stream.proofs.PartLaws.{part_after}
 
@@ -51,76 +48,24 @@ wrote_part : (a b c : Option (List ℕ)) (replies : List Reply) (said : Option R
     → AppendsPart a c (all_bytes (replies ++ option_to_list said))
 wrote_part a b c replies said p q = subst (AppendsPart a c) (sym (bytes_more replies said)) (part_after a b c (all_bytes replies) (said_bytes said) p q)
 
-taken_more : {C : Type 0} (Takes : Stage → Message → Message → C → C → Type 0) (stage : Stage) (heard messages : List Message) (m t : Message) (first mid last : C)
-    → AreTaken Takes stage heard messages first mid → Takes (stage_behind stage messages) m t mid last → AreTaken Takes stage (heard ++ m ∷ []) (messages ++ t ∷ []) first last
+taken_more : {C : Type 0} (TakenAs : Stage → Message → Message → C → C → Type 0) (stage : Stage) (heard messages : List Message) (m t : Message) (first mid last : C)
+    → AreTaken TakenAs stage heard messages first mid → TakenAs (stage_behind stage messages) m t mid last → AreTaken TakenAs stage (heard ++ m ∷ []) (messages ++ t ∷ []) first last
 unfolding AreTaken stage_behind
-taken_more Takes stage [] [] m t first mid last h one = (last, subst (λ k. Takes stage m t k last) h one, refl)
-taken_more Takes stage [] (y ∷ ys) m t first mid last h one = absurd h
-taken_more Takes stage (x ∷ xs) [] m t first mid last h one = absurd h
-taken_more Takes stage (x ∷ xs) (y ∷ ys) m t first mid last h one = (h.0, h.1, taken_more Takes (stage_after stage y) xs ys m t h.0 mid last h.2 one)
+taken_more TakenAs stage [] [] m t first mid last h one = (last, subst (λ k. TakenAs stage m t k last) h one, refl)
+taken_more TakenAs stage [] (y ∷ ys) m t first mid last h one = absurd h
+taken_more TakenAs stage (x ∷ xs) [] m t first mid last h one = absurd h
+taken_more TakenAs stage (x ∷ xs) (y ∷ ys) m t first mid last h one = (h.0, h.1, taken_more TakenAs (stage_after stage y) xs ys m t h.0 mid last h.2 one)
 
 -- ---- before the session has begun
 
-call_at_work : (c : Call) → stage_called Running c ≢ Fresh
-call_at_work (Initialize root) e = absurd cc
-call_at_work (Unsettled line) e = absurd cc
-call_at_work Shutdown e = absurd cc
-call_at_work (Actions uri start end) e = absurd cc
-call_at_work (Hover uri at) e = absurd cc
-call_at_work Misread e = absurd cc
-call_at_work Unknown e = absurd cc
-
-at_work : (m : Message) → stage_after Running m ≢ Fresh
-at_work (Request id call) e = call_at_work call e
-at_work (Notice Exit) e = absurd cc
-at_work (Notice (Opened uri document)) e = absurd cc
-at_work (Notice (Changed uri document)) e = absurd cc
-at_work (Notice (Closed uri)) e = absurd cc
-at_work (Notice Other) e = absurd cc
-at_work Response e = absurd cc
-at_work (Unreadable why) e = absurd cc
-
-called_down : (c : Call) → stage_called Down c ≢ Fresh
-called_down c e = absurd cc
-
-down : (m : Message) → stage_after Down m ≢ Fresh
-down (Request id call) e = called_down call e
-down (Notice Exit) e = absurd cc
-down (Notice (Opened uri document)) e = absurd cc
-down (Notice (Changed uri document)) e = absurd cc
-down (Notice (Closed uri)) e = absurd cc
-down (Notice Other) e = absurd cc
-down Response e = absurd cc
-down (Unreadable why) e = absurd cc
-
-called_gone : (b : Bool) (c : Call) → stage_called (Gone b) c ≢ Fresh
-called_gone b c e = absurd cc
-
-gone_by : (b : Bool) (m : Message) → stage_after (Gone b) m ≢ Fresh
-gone_by b (Request id call) e = called_gone b call e
-gone_by b (Notice Exit) e = absurd cc
-gone_by b (Notice (Opened uri document)) e = absurd cc
-gone_by b (Notice (Changed uri document)) e = absurd cc
-gone_by b (Notice (Closed uri)) e = absurd cc
-gone_by b (Notice Other) e = absurd cc
-gone_by b Response e = absurd cc
-gone_by b (Unreadable why) e = absurd cc
-
--- a session that has not begun after a message had not begun before it
-fresh_before : (stage : Stage) (m : Message) → stage_after stage m ≡ Fresh → stage ≡ Fresh
-fresh_before Fresh m e = refl
-fresh_before Running m e = absurd (at_work m e)
-fresh_before Down m e = absurd (down m e)
-fresh_before (Gone b) m e = absurd (gone_by b m e)
-
-silent_more : (uri : List ℕ) (replies : List Reply) (said : Option Reply) → last_told uri replies ≡ None → told uri said ≡ None → last_told uri (replies ++ option_to_list said) ≡ None
+silent_more : (uri : List ℕ) (replies : List Reply) (said : Option Reply) → last_published uri replies ≡ None → published uri said ≡ None → last_published uri (replies ++ option_to_list said) ≡ None
 unfolding later
-silent_more uri replies None before now = ap (last_told uri) (append-nil replies) ∙ before
-silent_more uri replies (Some r) before now = last_told-more uri replies r ∙ ap (λ t. later t (last_told uri replies)) now ∙ before
+silent_more uri replies None before now = ap (last_published uri) (append-nil replies) ∙ before
+silent_more uri replies (Some r) before now = last_published-more uri replies r ∙ ap (λ t. later t (last_published uri replies)) now ∙ before
 
--- where nothing is told, it is the same for every checker
-told_anew : (Old New : List ℕ → List Report → Type 0) (before now : Option Document) (said : Option Told) → said ≡ None → TellsNow Old before now said → TellsNow New before now said
-told_anew Old New before now said none h = subst (TellsNow New before now) (sym none) (subst (TellsNow Old before now) none h)
+-- where nothing is published, it is the same for every checker
+published_anew : (Old New : List ℕ → List Report → Type 0) (before now : Option Document) (said : Option Published) → said ≡ None → PublishesNow Old before now said → PublishesNow New before now said
+published_anew Old New before now said none h = subst (PublishesNow New before now) (sym none) (subst (PublishesNow Old before now) none h)
 
 -- the end of a session that is not open any more
 gone : (stage : Stage) (end : End) → exit_at stage ≡ Some end → (in_order : Bool) × (stage ≡ Gone in_order) × (end ≡ Exited in_order)
@@ -129,47 +74,55 @@ gone Running end e = absurd cc
 gone Down end e = absurd cc
 gone (Gone in_order) end e = let same : Exited in_order ≡ end = cc in (in_order, refl, sym same)
 
-module _ {C : Type 0} (Shows : C → List ℕ → List Report → Type 0) (Takes : Stage → Message → Message → C → C → Type 0) where
-  stage_more : (session new : Session C) (messages : List Message) (m : Message) (said : Option Reply) → session.stage ≡ stage_behind Fresh messages → (h : Hears Shows Takes session new m said)
+module _ {C : Type 0} (Shows : C → List ℕ → List Report → Type 0) (TakenAs : Stage → Message → Message → C → C → Type 0) where
+  stage_more : (session new : Session C) (messages : List Message) (m : Message) (said : Option Reply) → session.stage ≡ stage_behind Fresh messages → (h : Handles Shows TakenAs session new m said)
       → new.stage ≡ stage_behind Fresh (messages ++ h.taken ∷ [])
   stage_more session new messages m said at h = h.stage ∙ ap (λ s. stage_after s h.taken) at ∙ sym (stage_behind-more Fresh messages h.taken)
 
   document_more : (session new : Session C) (messages : List Message) (m : Message) (said : Option Reply) (uri : List ℕ) → session.stage ≡ stage_behind Fresh messages
-      → document_of uri session ≡ document_behind Fresh messages uri None → (h : Hears Shows Takes session new m said) → document_of uri new ≡ document_behind Fresh (messages ++ h.taken ∷ []) uri None
+      → document_of uri session ≡ document_behind Fresh messages uri None → (h : Handles Shows TakenAs session new m said) → document_of uri new ≡ document_behind Fresh (messages ++ h.taken ∷ []) uri None
   document_more session new messages m said uri at before h =
       h.documents uri ∙ ap (document_after h.taken session.stage uri) before ∙ ap (λ s. document_after h.taken s uri (document_behind Fresh messages uri None)) at
       ∙ sym (document_behind-more Fresh messages h.taken uri None)
 
   -- what was said before, by the checker after a message
-  said_anew : (session new : Session C) (messages : List Message) (replies : List Reply) → (new.checker ≡ session.checker) ⊎ (session.stage ≡ Fresh)
-      → (session.stage ≡ Fresh → (uri : List ℕ) → last_told uri replies ≡ None) → AreSaidTo (Shows session.checker) messages replies → AreSaidTo (Shows new.checker) messages replies
-  said_anew session new messages replies (inl same) silent s = subst (λ k. AreSaidTo (Shows k) messages replies) (sym same) s
-  said_anew session new messages replies (inr fresh) silent s = record {
+  said_anew : (session new : Session C) (messages : List Message) (replies : List Reply) → session.stage ≡ stage_behind Fresh messages → (new.checker ≡ session.checker) ⊎ (session.stage ≡ Fresh)
+      → (session.stage ≡ Fresh → (uri : List ℕ) → last_published uri replies ≡ None) → AreSaidTo (Shows session.checker) messages replies → AreSaidTo (Shows new.checker) messages replies
+  said_anew session new messages replies at (inl same) silent s = subst (λ k. AreSaidTo (Shows k) messages replies) (sym same) s
+  said_anew session new messages replies at (inr fresh) silent s = record {
+    each = s.each;
+    says = says_anew (Shows session.checker) (Shows new.checker) Fresh (λ uri. None) messages s.each (sym at ∙ fresh) s.says;
+    written = s.written;
     answered = s.answered;
-    told = λ uri. told_anew (Shows session.checker) (Shows new.checker) None (document_behind Fresh messages uri None) (last_told uri replies) (silent fresh uri) (s.told uri);
+    published = λ uri. published_anew (Shows session.checker) (Shows new.checker) None (document_behind Fresh messages uri None) (last_published uri replies) (silent fresh uri) (s.published uri);
   }
 
-  said_more : (session new : Session C) (messages : List Message) (replies : List Reply) (m : Message) (said : Option Reply) (h : Hears Shows Takes session new m said)
-      → (session.stage ≡ Fresh → (uri : List ℕ) → last_told uri replies ≡ None)
+  said_more : (session new : Session C) (messages : List Message) (replies : List Reply) (m : Message) (said : Option Reply) (h : Handles Shows TakenAs session new m said)
+      → session.stage ≡ stage_behind Fresh messages → (session.stage ≡ Fresh → (uri : List ℕ) → last_published uri replies ≡ None)
       → ((uri : List ℕ) → document_of uri session ≡ document_behind Fresh messages uri None) → ((uri : List ℕ) → document_of uri new ≡ document_behind Fresh (messages ++ h.taken ∷ []) uri None)
       → AreSaidTo (Shows session.checker) messages replies → AreSaidTo (Shows new.checker) (messages ++ h.taken ∷ []) (replies ++ option_to_list said)
-  said_more session new messages replies m said h silent before now all =
-      let s = said_anew session new messages replies h.kept silent all in
+  said_more session new messages replies m said h at silent before now all =
+      let s = said_anew session new messages replies at h.kept silent all in
+      let held : List ℕ → Option Document = λ uri. document_behind Fresh messages uri None in
+      let of_held = says_same (Shows new.checker) (λ uri. document_of uri session) held before session.stage h.taken said h.says in
       record {
+        each = s.each ++ said ∷ [];
+        says = says_more (Shows new.checker) Fresh (λ uri. None) messages s.each h.taken said s.says (subst (λ stage. Says (Shows new.checker) stage held h.taken said) at of_held);
+        written = replies_more s.each said replies s.written;
         answered = answered-more messages replies h.taken said s.answered h.answered;
-        told = λ uri.
+        published = λ uri.
             let old = document_behind Fresh messages uri None in
             let last = document_behind Fresh (messages ++ h.taken ∷ []) uri None in
-            let from_old = subst (λ o. TellsNow (Shows new.checker) o (document_of uri new) (told uri said)) (before uri) (h.told uri) in
-            let tells = subst (λ n. TellsNow (Shows new.checker) old n (told uri said)) (now uri) from_old in
-            told_onward (Shows new.checker) None old last uri replies said (replies ++ option_to_list said) refl (s.told uri) tells;
+            let from_old = subst (λ o. PublishesNow (Shows new.checker) o (document_of uri new) (published uri said)) (before uri) (h.published uri) in
+            let publishes = subst (λ n. PublishesNow (Shows new.checker) old n (published uri said)) (now uri) from_old in
+            published_onward (Shows new.checker) None old last uri replies said (replies ++ option_to_list said) refl (s.published uri) publishes;
       }
 
   -- ---- between turns
 
   pub begun : (session : Session C) (input : Option (List ℕ)) (old : Streams) → session.stage ≡ Fresh → ((uri : List ℕ) → document_of uri session ≡ None)
-      → SoFar Shows Takes session.checker session input input old old
-  unfolding AreRead AreTaken IsOpenBefore stage_behind document_behind last_told
+      → SoFar Shows TakenAs session.checker session input input old old
+  unfolding AreRead AreTaken IsOpenBefore SaysEach stage_behind document_behind last_published
   begun session input old fresh none = record {
     heard = [];
     messages = [];
@@ -180,22 +133,22 @@ module _ {C : Type 0} (Shows : C → List ℕ → List Report → Type 0) (Takes
     stage = fresh;
     documents = none;
     silent = λ fresh uri. refl;
-    said = record { answered = refl; told = λ uri. refl };
+    said = record { each = []; says = tt; written = refl; answered = refl; published = λ uri. refl };
     wrote = Appends-nil old.held;
     read_later = omega arith;
     write_later = omega arith;
   }
 
-  takes_more : (first : C) (session new : Session C) (input from : Option (List ℕ)) (old before : Streams) (s : SoFar Shows Takes first session input from old before) (m : Message) (said : Option Reply)
-      (h : Hears Shows Takes session new m said) → AreTaken Takes Fresh (s.heard ++ m ∷ []) (s.messages ++ h.taken ∷ []) first new.checker
+  takes_more : (first : C) (session new : Session C) (input from : Option (List ℕ)) (old before : Streams) (s : SoFar Shows TakenAs first session input from old before) (m : Message) (said : Option Reply)
+      (h : Handles Shows TakenAs session new m said) → AreTaken TakenAs Fresh (s.heard ++ m ∷ []) (s.messages ++ h.taken ∷ []) first new.checker
   takes_more first session new input from old before s m said h =
-      taken_more Takes Fresh s.heard s.messages m h.taken first session.checker new.checker s.taken
-      (subst (λ stage. Takes stage m h.taken session.checker new.checker) s.stage h.takes)
+      taken_more TakenAs Fresh s.heard s.messages m h.taken first session.checker new.checker s.taken
+      (subst (λ stage. TakenAs stage m h.taken session.checker new.checker) s.stage h.takes)
 
-  pub one_turn : (first : C) (session new : Session C) (input from to : Option (List ℕ)) (old before now : Streams) → SoFar Shows Takes first session input from old before → IsOpen session.stage
-      → TakesTurn Shows Takes session new from to before now → before.read_faults ≤ now.read_faults → before.write_faults ≤ now.write_faults → SoFar Shows Takes first new input to old now
+  pub one_turn : (first : C) (session new : Session C) (input from to : Option (List ℕ)) (old before now : Streams) → SoFar Shows TakenAs first session input from old before → IsOpen session.stage
+      → TakesTurn Shows TakenAs session new from to before now → before.read_faults ≤ now.read_faults → before.write_faults ≤ now.write_faults → SoFar Shows TakenAs first new input to old now
   one_turn first session new input from to old before now s going t reads writes =
-      let h = t.responds.hears in
+      let h = t.responds.handles in
       let said = t.responds.said in
       let after : (uri : List ℕ) → document_of uri new ≡ document_behind Fresh (s.messages ++ h.taken ∷ []) uri None = λ uri. document_more session new s.messages t.message said uri s.stage (s.documents uri) h in
       record {
@@ -210,7 +163,7 @@ module _ {C : Type 0} (Shows : C → List ℕ → List Report → Type 0) (Takes
         silent = λ fresh uri.
             let not_begun = fresh_before session.stage h.taken (sym h.stage ∙ fresh) in
             silent_more uri s.replies said (s.silent not_begun uri) (h.silent not_begun uri);
-        said = said_more session new s.messages s.replies t.message said h s.silent s.documents after s.said;
+        said = said_more session new s.messages s.replies t.message said h s.stage s.silent s.documents after s.said;
         wrote = wrote_more old.held before.held now.held s.replies said s.wrote t.responds.wrote;
         read_later = omega (arith, s.read_later, reads);
         write_later = omega (arith, s.write_later, writes);
@@ -218,10 +171,10 @@ module _ {C : Type 0} (Shows : C → List ℕ → List Report → Type 0) (Takes
 
   -- ---- the end
 
-  ends_in_write : (first : C) (session new : Session C) (input from to : Option (List ℕ)) (old before now : Streams) → SoFar Shows Takes first session input from old before → IsOpen session.stage
-      → TakesPart Shows Takes session new from to before now → Served Shows Takes first input old now WriteFault
+  ends_in_write : (first : C) (session new : Session C) (input from to : Option (List ℕ)) (old before now : Streams) → SoFar Shows TakenAs first session input from old before → IsOpen session.stage
+      → TakesPart Shows TakenAs session new from to before now → Served Shows TakenAs first input old now WriteFault
   ends_in_write first session new input from to old before now s going t =
-      let h = t.responds.hears in
+      let h = t.responds.handles in
       let said = t.responds.said in
       let after : (uri : List ℕ) → document_of uri new ≡ document_behind Fresh (s.messages ++ h.taken ∷ []) uri None = λ uri. document_more session new s.messages t.message said uri s.stage (s.documents uri) h in
       record {
@@ -233,13 +186,13 @@ module _ {C : Type 0} (Shows : C → List ℕ → List Report → Type 0) (Takes
         read = read_more input from to s.heard t.message s.read t.read;
         taken = takes_more first session new input from old before s t.message said h;
         open_before = open_more Fresh s.messages h.taken s.open_before (subst IsOpen s.stage going);
-        said = said_more session new s.messages s.replies t.message said h s.silent s.documents after s.said;
+        said = said_more session new s.messages s.replies t.message said h s.stage s.silent s.documents after s.said;
         wrote = wrote_part old.held before.held now.held s.replies said s.wrote t.responds.part;
         cause = omega (arith, s.write_later, t.responds.cause);
       }
 
-  pub ends : (first : C) (session new : Session C) (input from to : Option (List ℕ)) (old before now : Streams) (end : End) → SoFar Shows Takes first session input from old before → IsOpen session.stage
-      → StopsTurn end Shows Takes session new from to before now → Served Shows Takes first input old now end
+  pub ends : (first : C) (session new : Session C) (input from to : Option (List ℕ)) (old before now : Streams) (end : End) → SoFar Shows TakenAs first session input from old before → IsOpen session.stage
+      → StopsTurn end Shows TakenAs session new from to before now → Served Shows TakenAs first input old now end
   ends first session new input from to old before now (Exited in_order) s going t = absurd t
   ends first session new input from to old before now EndOfInput s going t = record {
     last = session.checker;
@@ -308,11 +261,11 @@ module _ {C : Type 0} (Shows : C → List ℕ → List Report → Type 0) (Takes
     cause = tt;
   }
 
-  pub exits : (first : C) (session : Session C) (input rest : Option (List ℕ)) (old now : Streams) (end : End) → SoFar Shows Takes first session input rest old now → exit_at session.stage ≡ Some end
-      → Served Shows Takes first input old now end
+  pub exits : (first : C) (session : Session C) (input rest : Option (List ℕ)) (old now : Streams) (end : End) → SoFar Shows TakenAs first session input rest old now → exit_at session.stage ≡ Some end
+      → Served Shows TakenAs first input old now end
   exits first session input rest old now end s e =
       let left = gone session.stage end e in
-      subst (Served Shows Takes first input old now) (sym left.2) (record {
+      subst (Served Shows TakenAs first input old now) (sym left.2) (record {
         last = session.checker;
         heard = s.heard;
         messages = s.messages;
@@ -327,7 +280,7 @@ module _ {C : Type 0} (Shows : C → List ℕ → List Report → Type 0) (Takes
       })
 
   -- no turn is left to count
-  pub worn_out : (first : C) (session : Session C) (input rest : Option (List ℕ)) (old now : Streams) → SoFar Shows Takes first session input rest old now → Served Shows Takes first input old now NoMemory
+  pub worn_out : (first : C) (session : Session C) (input rest : Option (List ℕ)) (old now : Streams) → SoFar Shows TakenAs first session input rest old now → Served Shows TakenAs first input old now NoMemory
   worn_out first session input rest old now s = record {
     last = session.checker;
     heard = s.heard;
@@ -343,9 +296,9 @@ module _ {C : Type 0} (Shows : C → List ℕ → List Report → Type 0) (Takes
   }
 
 -- nothing was done
-pub nothing_done : {C : Type 0} (Shows : C → List ℕ → List Report → Type 0) (Takes : Stage → Message → Message → C → C → Type 0) (first : C) (input : Option (List ℕ)) (old : Streams) → Served Shows Takes first input old old NoMemory
-unfolding AreRead AreTaken IsOpenBefore document_behind last_told
-nothing_done Shows Takes first input old = record {
+pub nothing_done : {C : Type 0} (Shows : C → List ℕ → List Report → Type 0) (TakenAs : Stage → Message → Message → C → C → Type 0) (first : C) (input : Option (List ℕ)) (old : Streams) → Served Shows TakenAs first input old old NoMemory
+unfolding AreRead AreTaken IsOpenBefore SaysEach document_behind last_published
+nothing_done Shows TakenAs first input old = record {
   last = first;
   heard = [];
   messages = [];
@@ -354,7 +307,7 @@ nothing_done Shows Takes first input old = record {
   read = refl;
   taken = refl;
   open_before = tt;
-  said = record { answered = refl; told = λ uri. refl };
+  said = record { each = []; says = tt; written = refl; answered = refl; published = λ uri. refl };
   wrote = Appends-nil old.held;
   cause = tt;
 }

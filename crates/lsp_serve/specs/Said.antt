@@ -1,12 +1,13 @@
 -- What is said to messages, and the bytes that are written for it.
-use Rattle.std.specs.Prelude.{◌≡◌, ℕ, List, [], ◌∷◌, Option, Some, None, flat_map, ⊤}
+use Rattle.std.specs.Prelude.{◌≡◌, ℕ, List, [], ◌∷◌, Option, Some, None, flat_map, option_to_list, ⊤}
+use Rattle.lsp_message.specs.declared.message.Document.{Document}
 use Rattle.lsp_frame.specs.Frame.{frame}
 use Rattle.lsp_message.specs.declared.message.Message.{Message}
 use Rattle.lsp_message.specs.declared.reply.Reply.{Reply}
 use Rattle.lsp_report.specs.declared.report.Report.{Report}
 use Rattle.lsp_serve.specs.Ends.{exit_at}
-use Rattle.lsp_session.specs.Conversation.{all_answered, all_asked, document_behind, last_told}
-use Rattle.lsp_session.specs.Session.{TellsNow}
+use Rattle.lsp_session.specs.Conversation.{all_answered, all_asked, document_behind, last_published}
+use Rattle.lsp_session.specs.Session.{PublishesNow, Says, document_after}
 use Rattle.lsp_session.specs.Stages.{stage_after}
 use Rattle.lsp_session.specs.declared.stage.Stage.{Stage}
 use Rattle.lsp_session.specs.declared.stage.Stage.TheVariants.{Fresh}
@@ -23,18 +24,31 @@ said_bytes (Some reply) = reply_bytes reply
 abbrev pub all_bytes : List Reply → List ℕ
 all_bytes replies = flat_map reply_bytes replies
 
--- What was said to all messages of a session, from its start: the names under which replies answer are those under which messages ask, in
--- order; and what was told last of each document are the version and the reports of the text that it has now, none where it is closed.
+-- What is said to each of these messages, from this stage and these documents on: what fits the message, the stage and the documents when it
+-- comes.
+unfoldable pub SaysEach : (List ℕ → List Report → Type 0) → Stage → (List ℕ → Option Document) → List Message → List (Option Reply) → Type 0
+SaysEach Shows stage documents [] [] = ⊤
+SaysEach Shows stage documents [] (s ∷ ss) = ⊥
+SaysEach Shows stage documents (m ∷ ms) [] = ⊥
+SaysEach Shows stage documents (m ∷ ms) (s ∷ ss) =
+    Says Shows stage documents m s × SaysEach Shows (stage_after stage m) (λ uri. document_after m stage uri (documents uri)) ms ss
+
+-- What was said to all messages of a session, from its start: the replies are what was said to each of them, in turn, where something was;
+-- the names under which they answer are those under which messages ask, in order; and what was published last of each document are the
+-- version and the reports of the text that it has now, none where it is closed.
 pub record AreSaidTo (Shows : List ℕ → List Report → Type 0) (messages : List Message) (replies : List Reply) : Type 0 where
+  pub each : List (Option Reply)
+  pub says : SaysEach Shows Fresh (λ uri. None) messages each
+  pub written : replies ≡ flat_map option_to_list each
   pub answered : all_answered replies ≡ all_asked messages
-  pub told : (uri : List ℕ) → TellsNow Shows None (document_behind Fresh messages uri None) (last_told uri replies)
+  pub published : (uri : List ℕ) → PublishesNow Shows None (document_behind Fresh messages uri None) (last_published uri replies)
 
 -- These messages of a client are taken for those, one by one, and the checker becomes the other.
 unfoldable pub AreTaken : {C : Type 0} → (Stage → Message → Message → C → C → Type 0) → Stage → List Message → List Message → C → C → Type 0
-AreTaken Takes stage [] [] old new = new ≡ old
-AreTaken Takes stage [] (t ∷ ts) old new = ⊥
-AreTaken Takes stage (m ∷ ms) [] old new = ⊥
-AreTaken {C} Takes stage (m ∷ ms) (t ∷ ts) old new = (mid : C) × Takes stage m t old mid × AreTaken Takes (stage_after stage t) ms ts mid new
+AreTaken TakenAs stage [] [] old new = new ≡ old
+AreTaken TakenAs stage [] (t ∷ ts) old new = ⊥
+AreTaken TakenAs stage (m ∷ ms) [] old new = ⊥
+AreTaken {C} TakenAs stage (m ∷ ms) (t ∷ ts) old new = (mid : C) × TakenAs stage m t old mid × AreTaken TakenAs (stage_after stage t) ms ts mid new
 
 -- The session has not ended.
 abbrev pub IsOpen : Stage → Type 0

@@ -8,8 +8,8 @@ use Rattle.lsp_serve.specs.Said.{AreSaidTo, AreTaken, IsOpenBefore, all_bytes, s
 use Rattle.lsp_serve.specs.Served.{AreRead, BeginsWith, IsNoFrame, IsPartOfFrame, Streams}
 use Rattle.lsp_serve.specs.declared.end.End.{End}
 use Rattle.lsp_serve.specs.declared.end.End.TheVariants.{Exited, EndOfInput, BadFrame, CutOff, ReadFault, WriteFault, NoMemory}
-use Rattle.lsp_session.specs.Conversation.{document_behind, last_told, stage_behind}
-use Rattle.lsp_session.specs.Session.{TellsNow, answered, asked, document_after, document_of, told}
+use Rattle.lsp_session.specs.Conversation.{document_behind, last_published, stage_behind}
+use Rattle.lsp_session.specs.Session.{PublishesNow, Says, answered, asked, document_after, document_of, published}
 use Rattle.lsp_session.specs.Stages.{stage_after}
 use Rattle.lsp_session.specs.declared.session.Session.{Session}
 use Rattle.lsp_session.specs.declared.stage.Stage.{Stage}
@@ -17,28 +17,29 @@ use Rattle.lsp_session.specs.declared.stage.Stage.TheVariants.{Fresh}
 use Rattle.squawk_stream.specs.Faults.{Rose}
 use Rattle.squawk_stream.specs.Parts.{AppendsPart}
 
--- What a session takes a message for, what it is after it, and what it says to it. Its checker is another only after it began, and nothing
--- is told of a document before.
-pub record Hears {C : Type 0} (Shows : C → List ℕ → List Report → Type 0) (Takes : Stage → Message → Message → C → C → Type 0) (old new : Session C) (m : Message) (said : Option Reply) : Type 0 where
+-- What a session takes a message for, what it is after it, and what it says to it. Its checker changes only before it has begun, and nothing
+-- is published then.
+pub record Handles {C : Type 0} (Shows : C → List ℕ → List Report → Type 0) (TakenAs : Stage → Message → Message → C → C → Type 0) (old new : Session C) (m : Message) (said : Option Reply) : Type 0 where
   pub taken : Message
-  pub takes : Takes old.stage m taken old.checker new.checker
+  pub takes : TakenAs old.stage m taken old.checker new.checker
   pub kept : (new.checker ≡ old.checker) ⊎ (old.stage ≡ Fresh)
   pub stage : new.stage ≡ stage_after old.stage taken
   pub documents : (uri : List ℕ) → document_of uri new ≡ document_after taken old.stage uri (document_of uri old)
-  pub silent : old.stage ≡ Fresh → (uri : List ℕ) → told uri said ≡ None
-  pub told : (uri : List ℕ) → TellsNow (Shows new.checker) (document_of uri old) (document_of uri new) (told uri said)
+  pub silent : old.stage ≡ Fresh → (uri : List ℕ) → published uri said ≡ None
+  pub published : (uri : List ℕ) → PublishesNow (Shows new.checker) (document_of uri old) (document_of uri new) (published uri said)
   pub answered : answered said ≡ asked taken
+  pub says : Says (Shows new.checker) old.stage (λ uri. document_of uri old) taken said
 
 -- what was said to a message, and was written
-pub record Responds {C : Type 0} (Shows : C → List ℕ → List Report → Type 0) (Takes : Stage → Message → Message → C → C → Type 0) (old new : Session C) (m : Message) (held held_now : Option (List ℕ)) : Type 0 where
+pub record Responds {C : Type 0} (Shows : C → List ℕ → List Report → Type 0) (TakenAs : Stage → Message → Message → C → C → Type 0) (old new : Session C) (m : Message) (held held_now : Option (List ℕ)) : Type 0 where
   pub said : Option Reply
-  pub hears : Hears Shows Takes old new m said
+  pub handles : Handles Shows TakenAs old new m said
   pub wrote : Appends held held_now (said_bytes said)
 
 -- the same, but a write failed
-pub record RespondsPart {C : Type 0} (Shows : C → List ℕ → List Report → Type 0) (Takes : Stage → Message → Message → C → C → Type 0) (old new : Session C) (m : Message) (held held_now : Option (List ℕ)) (before now : ℕ) : Type 0 where
+pub record RespondsPart {C : Type 0} (Shows : C → List ℕ → List Report → Type 0) (TakenAs : Stage → Message → Message → C → C → Type 0) (old new : Session C) (m : Message) (held held_now : Option (List ℕ)) (before now : ℕ) : Type 0 where
   pub said : Option Reply
-  pub hears : Hears Shows Takes old new m said
+  pub handles : Handles Shows TakenAs old new m said
   pub part : AppendsPart held held_now (said_bytes said)
   pub cause : Rose before now
 
@@ -54,47 +55,47 @@ StopsSaying NoMemory bytes held held_now before now = Keeps held held_now
 
 -- why a message has no answer
 abbrev pub StopsResponding : {C : Type 0} → End → (C → List ℕ → List Report → Type 0) → (Stage → Message → Message → C → C → Type 0) → Session C → Session C → Message → Option (List ℕ) → Option (List ℕ) → ℕ → ℕ → Type 0
-StopsResponding (Exited in_order) Shows Takes old new m held held_now before now = ⊥
-StopsResponding EndOfInput Shows Takes old new m held held_now before now = ⊥
-StopsResponding (BadFrame fault) Shows Takes old new m held held_now before now = ⊥
-StopsResponding CutOff Shows Takes old new m held held_now before now = ⊥
-StopsResponding ReadFault Shows Takes old new m held held_now before now = ⊥
-StopsResponding WriteFault Shows Takes old new m held held_now before now = RespondsPart Shows Takes old new m held held_now before now
-StopsResponding NoMemory Shows Takes old new m held held_now before now = Keeps held held_now
+StopsResponding (Exited in_order) Shows TakenAs old new m held held_now before now = ⊥
+StopsResponding EndOfInput Shows TakenAs old new m held held_now before now = ⊥
+StopsResponding (BadFrame fault) Shows TakenAs old new m held held_now before now = ⊥
+StopsResponding CutOff Shows TakenAs old new m held held_now before now = ⊥
+StopsResponding ReadFault Shows TakenAs old new m held held_now before now = ⊥
+StopsResponding WriteFault Shows TakenAs old new m held held_now before now = RespondsPart Shows TakenAs old new m held held_now before now
+StopsResponding NoMemory Shows TakenAs old new m held held_now before now = Keeps held held_now
 
 -- one turn: a message that was read, and what was said to it
-pub record TakesTurn {C : Type 0} (Shows : C → List ℕ → List Report → Type 0) (Takes : Stage → Message → Message → C → C → Type 0) (old new : Session C) (from to : Option (List ℕ)) (before now : Streams) : Type 0 where
+pub record TakesTurn {C : Type 0} (Shows : C → List ℕ → List Report → Type 0) (TakenAs : Stage → Message → Message → C → C → Type 0) (old new : Session C) (from to : Option (List ℕ)) (before now : Streams) : Type 0 where
   pub message : Message
   pub read : BeginsWith message from to
-  pub responds : Responds Shows Takes old new message before.held now.held
+  pub responds : Responds Shows TakenAs old new message before.held now.held
 
 -- the same, but a write failed
-pub record TakesPart {C : Type 0} (Shows : C → List ℕ → List Report → Type 0) (Takes : Stage → Message → Message → C → C → Type 0) (old new : Session C) (from to : Option (List ℕ)) (before now : Streams) : Type 0 where
+pub record TakesPart {C : Type 0} (Shows : C → List ℕ → List Report → Type 0) (TakenAs : Stage → Message → Message → C → C → Type 0) (old new : Session C) (from to : Option (List ℕ)) (before now : Streams) : Type 0 where
   pub message : Message
   pub read : BeginsWith message from to
-  pub responds : RespondsPart Shows Takes old new message before.held now.held before.write_faults now.write_faults
+  pub responds : RespondsPart Shows TakenAs old new message before.held now.held before.write_faults now.write_faults
 
 -- why there is no further turn
 abbrev pub StopsTurn : {C : Type 0} → End → (C → List ℕ → List Report → Type 0) → (Stage → Message → Message → C → C → Type 0) → Session C → Session C → Option (List ℕ) → Option (List ℕ) → Streams → Streams → Type 0
-StopsTurn (Exited in_order) Shows Takes old new from to before now = ⊥
-StopsTurn EndOfInput Shows Takes old new from to before now = IsAtEnd from × Keeps before.held now.held
-StopsTurn (BadFrame fault) Shows Takes old new from to before now = IsNoFrame from fault × Keeps before.held now.held
-StopsTurn CutOff Shows Takes old new from to before now = IsPartOfFrame from × Keeps before.held now.held
-StopsTurn ReadFault Shows Takes old new from to before now = Rose before.read_faults now.read_faults × Keeps before.held now.held
-StopsTurn WriteFault Shows Takes old new from to before now = TakesPart Shows Takes old new from to before now
-StopsTurn NoMemory Shows Takes old new from to before now = Keeps before.held now.held
+StopsTurn (Exited in_order) Shows TakenAs old new from to before now = ⊥
+StopsTurn EndOfInput Shows TakenAs old new from to before now = IsAtEnd from × Keeps before.held now.held
+StopsTurn (BadFrame fault) Shows TakenAs old new from to before now = IsNoFrame from fault × Keeps before.held now.held
+StopsTurn CutOff Shows TakenAs old new from to before now = IsPartOfFrame from × Keeps before.held now.held
+StopsTurn ReadFault Shows TakenAs old new from to before now = Rose before.read_faults now.read_faults × Keeps before.held now.held
+StopsTurn WriteFault Shows TakenAs old new from to before now = TakesPart Shows TakenAs old new from to before now
+StopsTurn NoMemory Shows TakenAs old new from to before now = Keeps before.held now.held
 
 -- what is known between two turns of all that was read, said and written, with the checker that the session had first
-pub record SoFar {C : Type 0} (Shows : C → List ℕ → List Report → Type 0) (Takes : Stage → Message → Message → C → C → Type 0) (first : C) (session : Session C) (input rest : Option (List ℕ)) (old now : Streams) : Type 0 where
+pub record SoFar {C : Type 0} (Shows : C → List ℕ → List Report → Type 0) (TakenAs : Stage → Message → Message → C → C → Type 0) (first : C) (session : Session C) (input rest : Option (List ℕ)) (old now : Streams) : Type 0 where
   pub heard : List Message
   pub messages : List Message
   pub replies : List Reply
   pub read : AreRead input heard rest
-  pub taken : AreTaken Takes Fresh heard messages first session.checker
+  pub taken : AreTaken TakenAs Fresh heard messages first session.checker
   pub open_before : IsOpenBefore Fresh messages
   pub stage : session.stage ≡ stage_behind Fresh messages
   pub documents : (uri : List ℕ) → document_of uri session ≡ document_behind Fresh messages uri None
-  pub silent : session.stage ≡ Fresh → (uri : List ℕ) → last_told uri replies ≡ None
+  pub silent : session.stage ≡ Fresh → (uri : List ℕ) → last_published uri replies ≡ None
   pub said : AreSaidTo (Shows session.checker) messages replies
   pub wrote : Appends old.held now.held (all_bytes replies)
   pub read_later : old.read_faults ≤ now.read_faults

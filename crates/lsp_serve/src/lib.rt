@@ -1,4 +1,4 @@
-//! The loop of a language server, over any source, any sink and any checker: it reads a frame, hears the message in it, and writes what is
+//! The loop of a language server, over any source, any sink and any checker: it reads a frame, handles the message in it, and writes what is
 //! said to it, until the client asks to exit, the input ends or something fails.
 //!
 //! `specs/Served.antt` says what was read, said and written, and why it ended.

@@ -4,7 +4,7 @@ ghost use Rattle.std.specs.Io.KnownBytes.{Appends};
 ghost use Rattle.lsp_read.specs.Message.{message_of};
 ghost use Rattle.lsp_serve.specs.Said.{said_bytes};
 ghost use Rattle.lsp_session.specs.Entry.{IsTakenAs};
-ghost use Rattle.lsp_serve.specs.Turns.{Hears, Responds, StopsResponding, StopsSaying};
+ghost use Rattle.lsp_serve.specs.Turns.{Handles, Responds, StopsResponding, StopsSaying};
 
 use crate::end::End;
 use lsp_frame::push_frame;
@@ -44,13 +44,13 @@ fn write_said<K: Sink>(alloc: Global, said: &Option<Reply>, out: &mut K) -> Resu
     }
 }
 
-// Hears the message that a content is.
+// Handles the message that a content is.
 fn hear<C: Checker + Enter>(
     alloc: Global,
     session: &mut Session<C>,
     content: &[u8],
 ) -> Result<Option<Reply>, NoMemory>
-    ensures { IfOk result (Hears C.shows (IsTakenAs C.enters C.refuses) session.old session.new (message_of content.now)) }
+    ensures { IfOk result (Handles C.shows (IsTakenAs C.enters C.refuses) session.old session.new (message_of content.now)) }
 {
     let heard = read_message(alloc, content)?;
     let message = session.take(heard)?;
@@ -58,7 +58,7 @@ fn hear<C: Checker + Enter>(
     Ok(said)
 }
 
-/// Hears the message that a content is, and writes what is said to it. The error is `WriteFault` or `NoMemory`.
+/// Handles the message that a content is, and writes what is said to it. The error is `WriteFault` or `NoMemory`.
 pub(crate) fn respond<C: Checker + Enter, K: Sink>(
     alloc: Global,
     session: &mut Session<C>,

@@ -8,8 +8,8 @@ use Rattle.lsp_message.specs.declared.message.Message.{Message}
 use Rattle.lsp_message.specs.declared.reply.Reply.{Reply}
 use Rattle.lsp_report.specs.declared.report.Report.{Report}
 use Rattle.lsp_session.specs.declared.stage.Stage.{Stage}
-use Rattle.lsp_session.specs.Conversation.{all_answered, all_asked, last_told, later, stage_behind, document_behind}
-use Rattle.lsp_session.specs.Session.{answered, asked, document_after, told, Told, TellsNow}
+use Rattle.lsp_session.specs.Conversation.{all_answered, all_asked, last_published, later, stage_behind, document_behind}
+use Rattle.lsp_session.specs.Session.{answered, asked, document_after, published, Published, PublishesNow}
 use Rattle.lsp_session.specs.Stages.{stage_after}
 
 -- the stage and a document after all messages, from those after the first
@@ -26,7 +26,7 @@ document_onward stage now m rest all uri old new end step text first h =
     ap (λ s. document_behind s rest uri new) step ∙ ap (document_behind (stage_after stage m) rest uri) text
     ∙ ap (λ l. document_behind stage l uri old) (sym first) ∙ h
 
--- what is told last, with one more reply
+-- what is published last, with one more reply
 later-none : {X : Type 0} (a : Option X) → later a None ≡ a
 unfolding later
 later-none None = refl
@@ -41,17 +41,17 @@ none-later : {X : Type 0} (a : Option X) → later None a ≡ a
 unfolding later
 none-later a = refl
 
-pub last_told-more : (uri : List ℕ) (replies : List Reply) (r : Reply)
-    → last_told uri (replies ++ r ∷ []) ≡ later (told uri (Some r)) (last_told uri replies)
-unfolding last_told
-last_told-more uri [] r = none-later (told uri (Some r)) ∙ sym (later-none (told uri (Some r)))
-last_told-more uri (x ∷ xs) r = ap (λ l. later l (told uri (Some x))) (last_told-more uri xs r) ∙ later-assoc _ _ _
+pub last_published-more : (uri : List ℕ) (replies : List Reply) (r : Reply)
+    → last_published uri (replies ++ r ∷ []) ≡ later (published uri (Some r)) (last_published uri replies)
+unfolding last_published
+last_published-more uri [] r = none-later (published uri (Some r)) ∙ sym (later-none (published uri (Some r)))
+last_published-more uri (x ∷ xs) r = ap (λ l. later l (published uri (Some x))) (last_published-more uri xs r) ∙ later-assoc _ _ _
 
-pub tells_later : (Shows : List ℕ → List Report → Type 0) (old mid new : Option Document) (first second : Option Told)
-    → TellsNow Shows old mid first → TellsNow Shows mid new second → TellsNow Shows old new (later second first)
+pub publishes_later : (Shows : List ℕ → List Report → Type 0) (old mid new : Option Document) (first second : Option Published)
+    → PublishesNow Shows old mid first → PublishesNow Shows mid new second → PublishesNow Shows old new (later second first)
 unfolding later
-tells_later Shows old mid new first None p q = subst (λ n. TellsNow Shows old n first) (sym q) p
-tells_later Shows old mid new first (Some found) p q = q
+publishes_later Shows old mid new first None p q = subst (λ n. PublishesNow Shows old n first) (sym q) p
+publishes_later Shows old mid new first (Some found) p q = q
 
 answered_one : (r : Option Reply) → all_answered (option_to_list r) ≡ answered r
 answered_one None = refl
@@ -68,16 +68,16 @@ answered_onward replies said more m rest all end grown same first h =
     ∙ ap (λ l. all_answered replies ++ (l ++ all_asked rest)) same
     ∙ ap (λ l. all_answered replies ++ all_asked l) (sym first) ∙ h
 
--- what is told last of a document fits it, after one more message
-pub told_onward : (Shows : List ℕ → List Report → Type 0) (old mid new : Option Document) (uri : List ℕ) (replies : List Reply) (said : Option Reply) (more : List Reply)
-    → more ≡ replies ++ option_to_list said → TellsNow Shows old mid (last_told uri replies) → TellsNow Shows mid new (told uri said)
-    → TellsNow Shows old new (last_told uri more)
+-- what is published last of a document fits it, after one more message
+pub published_onward : (Shows : List ℕ → List Report → Type 0) (old mid new : Option Document) (uri : List ℕ) (replies : List Reply) (said : Option Reply) (more : List Reply)
+    → more ≡ replies ++ option_to_list said → PublishesNow Shows old mid (last_published uri replies) → PublishesNow Shows mid new (published uri said)
+    → PublishesNow Shows old new (last_published uri more)
 unfolding later
-told_onward Shows old mid new uri replies None more grown p q =
-    subst (λ l. TellsNow Shows old new (last_told uri l)) (sym (grown ∙ append-nil replies)) (tells_later Shows old mid new (last_told uri replies) None p q)
-told_onward Shows old mid new uri replies (Some r) more grown p q =
-    subst (λ l. TellsNow Shows old new (last_told uri l)) (sym grown) (
-    subst (TellsNow Shows old new) (sym (last_told-more uri replies r)) (tells_later Shows old mid new (last_told uri replies) (told uri (Some r)) p q)
+published_onward Shows old mid new uri replies None more grown p q =
+    subst (λ l. PublishesNow Shows old new (last_published uri l)) (sym (grown ∙ append-nil replies)) (publishes_later Shows old mid new (last_published uri replies) None p q)
+published_onward Shows old mid new uri replies (Some r) more grown p q =
+    subst (λ l. PublishesNow Shows old new (last_published uri l)) (sym grown) (
+    subst (PublishesNow Shows old new) (sym (last_published-more uri replies r)) (publishes_later Shows old mid new (last_published uri replies) (published uri (Some r)) p q)
     )
 
 -- no message is left

@@ -5,7 +5,7 @@ use Rattle.lsp_message.specs.declared.message.Id.{Id}
 use Rattle.lsp_message.specs.declared.message.Message.{Message}
 use Rattle.lsp_message.specs.declared.reply.Reply.{Reply}
 use Rattle.lsp_session.specs.declared.stage.Stage.{Stage}
-use Rattle.lsp_session.specs.Session.{answered, asked, document_after, told, Told}
+use Rattle.lsp_session.specs.Session.{answered, asked, document_after, published, Published}
 use Rattle.lsp_session.specs.Stages.{stage_after}
 
 -- the names under which messages ask for answers, and those under which replies answer, in order
@@ -25,12 +25,12 @@ unfoldable pub document_behind : Stage → List Message → List ℕ → Option 
 document_behind stage [] uri document = document
 document_behind stage (m ∷ ms) uri document = document_behind (stage_after stage m) ms uri (document_after m stage uri document)
 
--- the later of two things that may be told
+-- the later of two things that may be published
 unfoldable pub later : {X : Type 0} → Option X → Option X → Option X
 later None old = old
 later (Some new) old = Some new
 
--- what is told last of a document, where anything is told of it
-unfoldable pub last_told : List ℕ → List Reply → Option Told
-last_told uri [] = None
-last_told uri (r ∷ rs) = later (last_told uri rs) (told uri (Some r))
+-- what is published last of a document, where anything is published of it
+unfoldable pub last_published : List ℕ → List Reply → Option Published
+last_published uri [] = None
+last_published uri (r ∷ rs) = later (last_published uri rs) (published uri (Some r))

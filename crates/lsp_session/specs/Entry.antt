@@ -1,7 +1,7 @@
 -- How a session takes the message by which it begins.
 use Rattle.std.specs.Prelude.{◌≡◌, ℕ, List, Option}
 use Rattle.lsp_message.specs.declared.message.Call.{Call}
-use Rattle.lsp_message.specs.declared.message.Call.TheVariants.{Initialize, Unsettled}
+use Rattle.lsp_message.specs.declared.message.Call.TheVariants.{Initialize, ConfigRefused}
 use Rattle.lsp_message.specs.declared.message.Message.{Message}
 use Rattle.lsp_message.specs.declared.message.Message.TheVariants.{Request}
 use Rattle.lsp_session.specs.declared.stage.Stage.{Stage}
@@ -11,7 +11,7 @@ module _ {C : Type 0} (Enters : C → Option (List ℕ) → C → Type 0) (Refus
   -- An `initialize` is taken as it is where the checker was entered at its root, and else as a refusal with the line that says why.
   abbrev pub IsEntryAs : Option (List ℕ) → Call → C → C → Type 0
   IsEntryAs root (Initialize named) old new = (named ≡ root) × Enters old root new
-  IsEntryAs root (Unsettled line) old new = Refuses old root line new
+  IsEntryAs root (ConfigRefused line) old new = Refuses old root line new
   IsEntryAs root other old new = ⊥
 
   -- Everything else is taken as it is, and the checker stays the same.

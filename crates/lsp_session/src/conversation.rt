@@ -1,7 +1,7 @@
 //! Whole conversations.
 ghost use Rattle.std.specs.Prelude.{◌≡◌, IfOk, OnOk, List, ℕ};
-ghost use Rattle.lsp_session.specs.Conversation.{all_answered, all_asked, last_told, stage_behind, document_behind};
-ghost use Rattle.lsp_session.specs.Session.{document_of, TellsNow};
+ghost use Rattle.lsp_session.specs.Conversation.{all_answered, all_asked, last_published, stage_behind, document_behind};
+ghost use Rattle.lsp_session.specs.Session.{document_of, PublishesNow};
 
 use crate::session::Session;
 use lsp_message::{Message, Reply};
@@ -19,7 +19,7 @@ pub fn converse<C: Checker>(
     ensures stage { OnOk result (session.new.stage ≡ stage_behind session.old.stage messages.items) }
     ensures documents { OnOk result ((uri : List ℕ) → document_of uri session.new ≡ document_behind session.old.stage messages.items uri (document_of uri session.old)) }
     ensures answered { IfOk result (λ replies. all_answered replies.items ≡ all_asked messages.items) }
-    ensures told { IfOk result (λ replies. (uri : List ℕ) → TellsNow (C.shows session.old.checker) (document_of uri session.old) (document_of uri session.new) (last_told uri replies.items)) }
+    ensures published { IfOk result (λ replies. (uri : List ℕ) → PublishesNow (C.shows session.old.checker) (document_of uri session.old) (document_of uri session.new) (last_published uri replies.items)) }
 {
     let mut all = Vec::new(alloc);
     for message in messages {

@@ -4,7 +4,7 @@ ghost use Rattle.lsp_message.specs.declared.message.Message.TheVariants as messa
 ghost use Rattle.lsp_message.specs.declared.message.Notice.TheVariants.{Changed, Closed, Opened};
 ghost use Rattle.lsp_session.specs.declared.stage.Stage.TheVariants.{Fresh};
 ghost use Rattle.lsp_session.specs.Entry.{BeginsAs, IsCallAs, IsTakenAs};
-ghost use Rattle.lsp_session.specs.Session.{answered, asked, document_after, document_by, document_of, told, AnswerFits, AreReportsOf, Says, TellsNow};
+ghost use Rattle.lsp_session.specs.Session.{answered, asked, document_after, document_by, document_of, published, AnswerFits, AreReportsOf, IsPublication, PublishesNow, Says, SaysOf};
 ghost use Rattle.lsp_session.specs.Stages.{stage_after};
 
 use crate::entry::Enter;
@@ -55,10 +55,10 @@ impl<C: Checker> Session<C> {
         ensures checker { self.new.checker ≡ self.old.checker }
         ensures stage { OnOk result (self.new.stage ≡ stage_after self.old.stage message) }
         ensures documents { OnOk result ((uri : List ℕ) → document_of uri self.new ≡ document_after message self.old.stage uri (document_of uri self.old)) }
-        ensures told { IfOk result (λ said. (uri : List ℕ) → TellsNow (C.shows self.old.checker) (document_of uri self.old) (document_of uri self.new) (told uri said)) }
+        ensures published { IfOk result (λ said. (uri : List ℕ) → PublishesNow (C.shows self.old.checker) (document_of uri self.old) (document_of uri self.new) (published uri said)) }
         ensures answered { IfOk result (λ said. answered said ≡ asked message) }
-        ensures silent { IfOk result (λ said. self.old.stage ≡ Fresh → (uri : List ℕ) → told uri said ≡ None) }
-        ensures says { IfOk result (λ said. Says (C.shows self.old.checker) self.old message said) }
+        ensures silent { IfOk result (λ said. self.old.stage ≡ Fresh → (uri : List ℕ) → published uri said ≡ None) }
+        ensures says { IfOk result (λ said. Says (C.shows self.old.checker) self.old.stage (λ uri. document_of uri self.old) message said) }
     {
         match message {
             Message::Request { id, call } => {
@@ -79,14 +79,14 @@ impl<C: Checker> Session<C> {
     /// The answer to a request.
     fn answer(&mut self, call: Call) -> Result<Answer, NoMemory>
         ensures same { self.new ≡ self.old }
-        ensures fits { IfOk result (λ answer. AnswerFits (C.shows self.old.checker) self.old call answer) }
+        ensures fits { IfOk result (λ answer. AnswerFits (C.shows self.old.checker) self.old.stage (λ uri. document_of uri self.old) call answer) }
     {
         if let Some(refusal) = refusal_at(self.stage, &call) {
             return Ok(Answer::Refused(refusal));
         }
         match call {
             Call::Initialize { root: _root } => Ok(Answer::Capabilities),
-            Call::Unsettled { line } => Ok(Answer::Failed { why: line }),
+            Call::ConfigRefused { line } => Ok(Answer::Failed { why: line }),
             Call::Actions { uri, start, end } => {
                 let reports = self.reports_of(uri.as_str())?;
                 Ok(Answer::Remedies {
@@ -120,9 +120,10 @@ impl<C: Checker> Session<C> {
         ensures checker { self.new.checker ≡ self.old.checker }
         ensures stage { OnOk result (self.new.stage ≡ stage_after self.old.stage (message.Notice notice)) }
         ensures documents { OnOk result ((uri : List ℕ) → document_of uri self.new ≡ document_after (message.Notice notice) self.old.stage uri (document_of uri self.old)) }
-        ensures told { IfOk result (λ said. (uri : List ℕ) → TellsNow (C.shows self.old.checker) (document_of uri self.old) (document_of uri self.new) (told uri said)) }
+        ensures published { IfOk result (λ said. (uri : List ℕ) → PublishesNow (C.shows self.old.checker) (document_of uri self.old) (document_of uri self.new) (published uri said)) }
         ensures quiet { IfOk result (λ said. answered said ≡ []) }
-        ensures silent { IfOk result (λ said. self.old.stage ≡ Fresh → (uri : List ℕ) → told uri said ≡ None) }
+        ensures says { IfOk result (λ said. Says (C.shows self.old.checker) self.old.stage (λ uri. document_of uri self.old) (message.Notice notice) said) }
+        ensures silent { IfOk result (λ said. self.old.stage ≡ Fresh → (uri : List ℕ) → published uri said ≡ None) }
     {
         let stage = self.stage;
         self.stage = stage_heard(stage, &notice);
@@ -137,8 +138,9 @@ impl<C: Checker> Session<C> {
         ensures checker { self.new.checker ≡ self.old.checker }
         ensures stage { self.new.stage ≡ self.old.stage }
         ensures documents { OnOk result ((uri : List ℕ) → document_of uri self.new ≡ document_by notice uri (document_of uri self.old)) }
-        ensures told { IfOk result (λ said. (uri : List ℕ) → TellsNow (C.shows self.old.checker) (document_of uri self.old) (document_of uri self.new) (told uri said)) }
+        ensures published { IfOk result (λ said. (uri : List ℕ) → PublishesNow (C.shows self.old.checker) (document_of uri self.old) (document_of uri self.new) (published uri said)) }
         ensures quiet { IfOk result (λ said. answered said ≡ []) }
+        ensures says { IfOk result (λ said. SaysOf (C.shows self.old.checker) (λ uri. document_of uri self.old) notice said) }
     {
         match notice {
             Notice::Opened { uri, document } => self.renew(uri, document),
@@ -148,13 +150,14 @@ impl<C: Checker> Session<C> {
         }
     }
 
-    /// Gives a document a text if it is open, and tells its reports.
+    /// Gives a document a text if it is open, and publishes its reports.
     fn change(&mut self, uri: Text, document: Document) -> Result<Option<Reply>, NoMemory>
         ensures checker { self.new.checker ≡ self.old.checker }
         ensures stage { self.new.stage ≡ self.old.stage }
         ensures documents { OnOk result ((name : List ℕ) → document_of name self.new ≡ document_by (Changed uri document) name (document_of name self.old)) }
-        ensures told { IfOk result (λ said. (name : List ℕ) → TellsNow (C.shows self.old.checker) (document_of name self.old) (document_of name self.new) (told name said)) }
+        ensures published { IfOk result (λ said. (name : List ℕ) → PublishesNow (C.shows self.old.checker) (document_of name self.old) (document_of name self.new) (published name said)) }
         ensures quiet { IfOk result (λ said. answered said ≡ []) }
+        ensures says { IfOk result (λ said. SaysOf (C.shows self.old.checker) (λ name. document_of name self.old) (Changed uri document) said) }
     {
         if self.documents.contains_key(uri.as_str()) {
             self.renew(uri, document)
@@ -163,13 +166,14 @@ impl<C: Checker> Session<C> {
         }
     }
 
-    /// Forgets a document, and tells that it has no reports.
+    /// Forgets a document, and publishes that it has no reports.
     fn close(&mut self, uri: Text) -> Reply
         ensures checker { self.new.checker ≡ self.old.checker }
         ensures stage { self.new.stage ≡ self.old.stage }
         ensures documents { (name : List ℕ) → document_of name self.new ≡ document_by (Closed uri) name (document_of name self.old) }
-        ensures told { (name : List ℕ) → TellsNow (C.shows self.old.checker) (document_of name self.old) (document_of name self.new) (told name (Some result)) }
+        ensures published { (name : List ℕ) → PublishesNow (C.shows self.old.checker) (document_of name self.old) (document_of name self.new) (published name (Some result)) }
         ensures quiet { answered (Some result) ≡ [] }
+        ensures says { IsPublication (C.shows self.old.checker) uri None (Some result) }
     {
         let _closed = self.documents.remove(uri.as_str());
         Reply::Reports {
@@ -179,13 +183,14 @@ impl<C: Checker> Session<C> {
         }
     }
 
-    /// Gives a document a text, and tells its reports.
+    /// Gives a document a text, and publishes its reports.
     fn renew(&mut self, uri: Text, document: Document) -> Result<Option<Reply>, NoMemory>
         ensures checker { self.new.checker ≡ self.old.checker }
         ensures stage { self.new.stage ≡ self.old.stage }
         ensures documents { OnOk result ((name : List ℕ) → document_of name self.new ≡ document_by (Opened uri document) name (document_of name self.old)) }
-        ensures told { IfOk result (λ said. (name : List ℕ) → TellsNow (C.shows self.old.checker) (document_of name self.old) (document_of name self.new) (told name said)) }
+        ensures published { IfOk result (λ said. (name : List ℕ) → PublishesNow (C.shows self.old.checker) (document_of name self.old) (document_of name self.new) (published name said)) }
         ensures quiet { IfOk result (λ said. answered said ≡ []) }
+        ensures says { IfOk result (λ said. IsPublication (C.shows self.old.checker) uri (Some document) said) }
     {
         let reports = self.checker.check(self.alloc, document.text.as_str())?;
         let version = document.version;
@@ -203,7 +208,7 @@ impl<C: Checker> Session<C> {
 
 impl<C: Enter> Session<C> {
     /// The message as a session takes it. Where it is the `initialize` of a session that has not begun, the checker is entered at the root
-    /// that it names; where that is refused, the message is a [`Call::Unsettled`] of the same name. Every other message stays as it is.
+    /// that it names; where that is refused, the message is a [`Call::ConfigRefused`] of the same name. Every other message stays as it is.
     /// Call it before [`Session::step`]. After an error the session is of no more use.
     pub fn take(&mut self, message: Message) -> Result<Message, NoMemory>
         ensures stage { self.new.stage ≡ self.old.stage }
@@ -240,7 +245,7 @@ impl<C: Enter> Session<C> {
         match call {
             Call::Initialize { root } => match self.checker.enter(self.alloc, &root)? {
                 None => Ok(Call::Initialize { root }),
-                Some(line) => Ok(Call::Unsettled { line }),
+                Some(line) => Ok(Call::ConfigRefused { line }),
             },
             other => Ok(other),
         }

@@ -23,9 +23,9 @@ pub(crate) fn refusal_at(stage: Stage, call: &Call) -> Option<Refusal>
     ensures { result ≡ refusal_at stage call.now }
 {
     match (stage, call) {
-        (Stage::Fresh, Call::Initialize { .. } | Call::Unsettled { .. }) => None,
+        (Stage::Fresh, Call::Initialize { .. } | Call::ConfigRefused { .. }) => None,
         (Stage::Fresh, _) => Some(Refusal::NotInitialized),
-        (Stage::Running, Call::Initialize { .. } | Call::Unsettled { .. }) => Some(
+        (Stage::Running, Call::Initialize { .. } | Call::ConfigRefused { .. }) => Some(
             Refusal::BadRequest,
         ),
         (Stage::Running, Call::Misread) => Some(Refusal::BadParams),

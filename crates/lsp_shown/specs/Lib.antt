@@ -1,4 +1,5 @@
 pub mod Ignore
+pub mod Notes
 pub mod Places
 pub mod Shown
 pub mod Tokens

@@ -34,8 +34,8 @@ remedy_if text None = None
 remedy_if text (Some f) = remedy_by text f.class f.fix
 
 -- a report at positions, with its fix and the comment that tells the linter to leave it
-abbrev pub report_of : List ℕ → List Lines → found.Report → Report
-report_of text tokens r = record {
+abbrev pub report_of : List ℕ → List Lines → List Pos → found.Report → Report
+report_of text tokens notes r = record {
   start = position_of text r.text_range.start;
   end = position_of text r.text_range.end;
   code = Some r.code;
@@ -43,12 +43,12 @@ report_of text tokens r = record {
   note = r.note;
   help = r.help;
   fix = remedy_if text r.fix;
-  ignore = ignore_if tokens r.code (position_of text r.text_range.start).line;
+  ignore = ignore_if tokens notes r.code (position_of text r.text_range.start).line;
 }
 
 -- the reports of a text, in their order
-abbrev pub shown : List ℕ → List Lines → List found.Report → List Report
-shown text tokens reports = map (report_of text tokens) reports
+abbrev pub shown : List ℕ → List Lines → List Pos → List found.Report → List Report
+shown text tokens notes reports = map (report_of text tokens notes) reports
 
 -- the one report of a text that is refused, at the place of the fault
 abbrev pub refused_at : List ℕ → Pos → Report

@@ -1,6 +1,7 @@
 //! Comments that tell the linter to leave a report.
-ghost use Rattle.std.specs.Prelude.{◌≡◌, IfOk, string_bytes};
-ghost use Rattle.std.specs.List.{list_any};
+ghost use Rattle.std.specs.Prelude.{◌≡◌, ◌++◌, IfOk, codes, string_bytes};
+ghost use Rattle.std.specs.List.{find, list_any};
+ghost use Rattle.lint_report.specs.Codes.{name_of};
 ghost use Rattle.lsp_shown.specs.Ignore as spec;
 
 use lint_base::{Rule, Text};
@@ -60,9 +61,35 @@ fn title(alloc: Global, code: Code) -> Result<String, AllocError>
     Ok(text)
 }
 
+// The name of a rule or a hazard, before other names.
+fn name_before(alloc: Global, code: Code) -> Result<String, AllocError>
+    ensures { IfOk result (λ s. string_bytes s ≡ name_of code ++ codes ", ") }
+{
+    let mut text = String::from_str(alloc, code.name())?;
+    text.push_str(", ")?;
+    Ok(text)
+}
+
+// The name put before the names of a comment, which begin at a place.
+fn new_name(alloc: Global, code: Code, at: Pos) -> Result<Remedy, NoMemory>
+    ensures { IfOk result (λ made. made ≡ spec.new_name code at) }
+{
+    let mut changes = Vec::new(alloc);
+    changes.push(Change {
+        start: at,
+        end: at,
+        text: Some(Text::made(name_before(alloc, code)?)),
+    })?;
+    Ok(Remedy {
+        title: Text::made(title(alloc, code)?),
+        is_preferred: false,
+        changes,
+    })
+}
+
 // The comment put before a line.
-fn remedy(alloc: Global, code: Code, line: u32) -> Result<Remedy, NoMemory>
-    ensures { IfOk result (λ made. made ≡ spec.remedy code line) }
+fn new_comment(alloc: Global, code: Code, line: u32) -> Result<Remedy, NoMemory>
+    ensures { IfOk result (λ made. made ≡ spec.new_comment code line) }
 {
     let at = Pos { line, col: 0 };
     let mut changes = Vec::new(alloc);
@@ -78,18 +105,42 @@ fn remedy(alloc: Global, code: Code, line: u32) -> Result<Remedy, NoMemory>
     })
 }
 
-/// The comment that tells the linter to leave the reports of a rule or a hazard that begin on a line, on a line of its own above it; none
-/// where that line begins inside of one of these tokens, or no comment names the rule. The error comes when memory runs out.
+// The first of some places that is on the line before.
+fn note_above(notes: &[Pos], line: u32) -> Option<Pos>
+    ensures { result ≡ find (spec.is_above line) notes.now }
+{
+    for at in notes {
+        if line.saturating_sub(at.line) == 1 {
+            return Some(*at);
+        }
+    }
+    None
+}
+
+// The name in the comment on the line before, where there is one, or else in a comment of its own.
+fn remedy(alloc: Global, notes: &[Pos], code: Code, line: u32) -> Result<Remedy, NoMemory>
+    ensures { IfOk result (λ made. made ≡ spec.remedy_in (find (spec.is_above line) notes.now) code line) }
+{
+    match note_above(notes, line) {
+        Some(at) => new_name(alloc, code, at),
+        None => new_comment(alloc, code, line),
+    }
+}
+
+/// The comment that tells the linter to leave the reports of a rule or a hazard that begin on a line, on a line of its own above it, or its
+/// name in the comment that is there already (`notes`); none where that line begins inside of one of these tokens, or no comment names the
+/// rule. The error comes when memory runs out.
 pub(crate) fn ignore_if(
     alloc: Global,
     tokens: &[Lines],
+    notes: &[Pos],
     code: Code,
     line: u32,
 ) -> Result<Option<Remedy>, NoMemory>
-    ensures { IfOk result (λ made. made ≡ spec.ignore_if tokens.now code line) }
+    ensures { IfOk result (λ made. made ≡ spec.ignore_if tokens.now notes.now code line) }
 {
     if is_named(code) && !is_inside(tokens, line) {
-        Ok(Some(remedy(alloc, code, line)?))
+        Ok(Some(remedy(alloc, notes, code, line)?))
     } else {
         Ok(None)
     }

@@ -5,11 +5,13 @@
 #![tactic(auto)]
 
 mod ignore;
+mod notes;
 mod refused;
 mod report;
 mod tokens;
 
 pub use ignore::Lines;
+pub use notes::notes_in;
 pub use refused::refused_at;
 pub use report::shown;
 pub use tokens::long_tokens;

@@ -9,7 +9,7 @@ use lint_report::{FixClass, ReportFix};
 use lsp_report::{Change, Remedy, Report};
 use std::alloc::Global;
 use text_pos::NoMemory;
-use text_utf16::PosIndex;
+use text_utf16::{Pos, PosIndex};
 
 fn change_of(index: &PosIndex<'_>, edit: Edit) -> Change
     requires { EditIn index.now edit }
@@ -88,10 +88,11 @@ fn report_of(
     alloc: Global,
     index: &PosIndex<'_>,
     tokens: &[Lines],
+    notes: &[Pos],
     report: lint_report::Report,
 ) -> Result<Report, NoMemory>
     requires { ReportIn index.now report }
-    ensures { IfOk result (λ made. made ≡ spec.report_of index.now tokens.now report) }
+    ensures { IfOk result (λ made. made ≡ spec.report_of index.now tokens.now notes.now report) }
 {
     let start = index.pos(report.text_range.start());
     Ok(Report {
@@ -102,24 +103,25 @@ fn report_of(
         note: report.note,
         help: report.help,
         fix: remedy_if(alloc, index, report.fix)?,
-        ignore: ignore_if(alloc, tokens, report.code, start.line)?,
+        ignore: ignore_if(alloc, tokens, notes, report.code, start.line)?,
     })
 }
 
 /// What is shown of some reports of a text, in their order. `tokens` are those tokens of the text that go over several lines, so that no
-/// comment is put into one. The error comes when memory runs out.
+/// comment is put into one, and `notes` the places in its comments to which names can be added. The error comes when memory runs out.
 pub fn shown(
     alloc: Global,
     index: &PosIndex<'_>,
     tokens: &[Lines],
+    notes: &[Pos],
     reports: Vec<lint_report::Report>,
 ) -> Result<Vec<Report>, NoMemory>
     requires { All (ReportIn index.now) reports.items }
-    ensures { IfOk result (λ made. made.items ≡ spec.shown index.now tokens.now reports.items) }
+    ensures { IfOk result (λ made. made.items ≡ spec.shown index.now tokens.now notes.now reports.items) }
 {
     let mut made = Vec::with_capacity(alloc, reports.len())?;
     for report in reports {
-        made.push(report_of(alloc, index, tokens, report)?)?;
+        made.push(report_of(alloc, index, tokens, notes, report)?)?;
     }
     Ok(made)
 }

@@ -8,8 +8,8 @@ use Rattle.lsp_serve.specs.Served.{Served as HasServed, Streams}
 use Rattle.lsp_session.specs.Entry.{IsTakenAs}
 use Rattle.server_command.specs.declared.outcome.Outcome.{Outcome}
 use Rattle.server_command.specs.declared.outcome.Outcome.TheVariants.{Printed, Served, Failed}
-use Rattle.server_command.specs.declared.rooted.Rooted.{Rooted}
-use Rattle.server_command.specs.Rooted.{Enters, IsFirst, Refuses, RootedShows}
+use Rattle.server_command.specs.declared.workspace.Workspace.{Workspace}
+use Rattle.server_command.specs.Workspace.{Enters, IsFirst, Refuses, WorkspaceShows}
 use Rattle.server_command.specs.Settled.{IsUnchosen}
 use Rattle.squawk_run.specs.declared.stop.Stop.TheVariants.{BadArguments, NotUtf8, TooLong, ReadFault, WriteFault, NoMemory}
 use Rattle.squawk_stream.specs.Faults.{Rose}
@@ -25,9 +25,9 @@ pub record Devices (F : Type 0) : Type 0 where
 
 -- a server whose linter the words of the line choose first, and the configuration of the root where the client begins
 pub record HasServedBy {F : Type 0} (content : F → Text → Content) (faults : F → ℕ) (line : List Text) (d : Devices F) (end : End) : Type 0 where
-  pub first : Rooted F
+  pub first : Workspace F
   pub is : IsFirst d.files line first
-  pub served : HasServed RootedShows (IsTakenAs (Enters content faults) (Refuses content faults)) first d.input d.old d.new end
+  pub served : HasServed WorkspaceShows (IsTakenAs (Enters content faults) (Refuses content faults)) first d.input d.old d.new end
 
 -- the words ask for the help, which is this text: it was written, or a front part of it before a write failed
 abbrev pub HasHelped : List ℕ → Option (List ℕ) → Option (List ℕ) → ℕ → ℕ → Outcome → Type 0

@@ -1,5 +1,5 @@
 pub mod Asked
 pub mod Outcomes
 pub mod Settled
-pub mod Rooted
+pub mod Workspace
 pub mod Command

@@ -9,9 +9,9 @@ use Rattle.code_choice.specs.declared.choices.CodeChoices.{CodeChoices}
 use Rattle.config_file.specs.Loaded.{IsLoadedIn, IsRefusedIn}
 use Rattle.file_store.specs.Contents.{Content}
 use Rattle.lsp_linter.specs.declared.linting.Linting.{Linting}
-use Rattle.server_command.specs.declared.outcome.Failure.{Failure}
-use Rattle.server_command.specs.declared.outcome.Failure.TheVariants as failure
-use Rattle.server_command.specs.Outcomes.{failure_line}
+use Rattle.server_command.specs.declared.outcome.Refusal.{Refusal}
+use Rattle.server_command.specs.declared.outcome.Refusal.TheVariants as refusal
+use Rattle.server_command.specs.Outcomes.{refusal_line}
 use Rattle.squawk_run.specs.declared.stop.Stop.{Stop}
 use Rattle.squawk_run.specs.declared.stop.Stop.TheVariants.{BadArguments, NotUtf8, TooLong, ReadFault, WriteFault, NoMemory}
 use Rattle.squawk_words.specs.Words.{Text}
@@ -64,15 +64,10 @@ pub record IsRefusedBeside (content : Text → Content) (folder : Text) (line : 
   pub loaded : IsLoadedIn content folder config
   pub refused : code_choices_of (linter_words config line) ≡ None
 
--- why there is none
-abbrev pub IsUnsettled : (Text → Content) → ℕ → ℕ → Text → List Text → Failure → Type 0
-IsUnsettled content before now folder line (failure.Config why) = IsRefusedIn content before now folder why.items
-IsUnsettled content before now folder line (failure.Stop BadArguments) = IsRefusedBeside content folder line
-IsUnsettled content before now folder line (failure.Stop NotUtf8) = ⊥
-IsUnsettled content before now folder line (failure.Stop TooLong) = ⊥
-IsUnsettled content before now folder line (failure.Stop ReadFault) = ⊥
-IsUnsettled content before now folder line (failure.Stop WriteFault) = ⊥
-IsUnsettled content before now folder line (failure.Stop NoMemory) = ⊤
+-- why it is refused
+abbrev pub IsRefusedFor : (Text → Content) → ℕ → ℕ → Text → List Text → Refusal → Type 0
+IsRefusedFor content before now folder line (refusal.Config why) = IsRefusedIn content before now folder why.items
+IsRefusedFor content before now folder line refusal.Words = IsRefusedBeside content folder line
 
 -- ---- what is said of it
 
@@ -84,6 +79,6 @@ short line = take (length line - 1) line
 abbrev pub IsText : List ℕ → List ℕ → Type 0
 IsText bytes said = (IsUtf8 bytes × (said ≡ bytes)) ⊎ ((¬ (IsUtf8 bytes)) × (said ≡ codes "error: the configuration is refused"))
 
--- what is said of a failure
-abbrev pub IsSaidOf : Failure → List ℕ → Type 0
-IsSaidOf failure said = IsText (short (failure_line failure)) said
+-- what is said of a refusal
+abbrev pub IsSaidOf : Refusal → List ℕ → Type 0
+IsSaidOf why said = IsText (short (refusal_line why)) said

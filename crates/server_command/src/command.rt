@@ -10,7 +10,7 @@ ghost use Rattle.squawk_stream.specs.Parts.{AppendsPart};
 use crate::asked::asks_for_help;
 use crate::help::HELP;
 use crate::outcome::Outcome;
-use crate::rooted::first_linter;
+use crate::workspace::first_linter;
 use file_store::FileStore;
 use lsp_serve::serve;
 use squawk_run::Stop;

@@ -8,7 +8,7 @@ Usage: lavkheto server [OPTIONS]
 
 It shows what lavkheto check finds in each open document, with what is to be known of it and how to mend it. A .squawk.toml in the root of
 the workspace that the editor names, or else in this folder, or in one above it, up to the repository's, counts as it does for lavkheto check.
-Where it is refused, the editor is told why, and nothing is shown.
+Where it is refused, the editor shows why, and no reports.
 
   --only RULES             exactly these rules and hazards, with commas between them
   --include RULES          these rules and hazards too

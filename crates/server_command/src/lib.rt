@@ -1,6 +1,6 @@
 //! The command `server`: a language server over any files, source and sinks, from the words after the program's name to the exit status.
 //!
-//! `specs/Asked.antt` says what words ask for, `specs/Settled.antt` which linter words and a configuration choose, `specs/Rooted.antt` how it is
+//! `specs/Asked.antt` says what words ask for, `specs/Settled.antt` which linter words and a configuration choose, `specs/Workspace.antt` how it is
 //! entered, and `specs/Command.antt` what a run does.
 #![tactic(auto)]
 
@@ -8,11 +8,11 @@ mod asked;
 mod command;
 mod help;
 mod outcome;
-mod rooted;
 mod settled;
+mod workspace;
 
 pub use asked::is_server;
 pub use command::run;
 pub use help::HELP;
-pub use outcome::{Failure, Outcome};
-pub use rooted::Rooted;
+pub use outcome::{Outcome, Refusal};
+pub use workspace::Workspace;

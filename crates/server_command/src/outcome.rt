@@ -2,16 +2,15 @@
 ghost use Rattle.std.specs.Prelude.{◌≡◌};
 ghost use Rattle.server_command.specs.Outcomes as spec;
 
-use config_file::LoadError;
 use lsp_serve::End;
 use squawk_run::Stop;
 
-/// Why the linter of a workspace is not settled.
+/// Why no linter is chosen in a workspace.
 #[derive(Debug, Drop)]
-pub enum Failure {
-    /// A stop that every program has.
-    Stop(Stop),
-    /// The configuration is refused. This line says why, with its line feed.
+pub enum Refusal {
+    /// The words are refused beside its configuration.
+    Words,
+    /// Its configuration is refused. This line says why, with its line feed.
     Config(Vec<u8>),
 }
 
@@ -26,14 +25,14 @@ pub enum Outcome {
     Failed(Stop),
 }
 
-impl Failure {
+impl Refusal {
     /// The line that says why, with its line feed.
     pub(crate) fn line(&self) -> &[u8]
-        ensures { result.now ≡ spec.failure_line self.now }
+        ensures { result.now ≡ spec.refusal_line self.now }
     {
         match self {
-            Failure::Stop(stop) => stop.line().as_bytes(),
-            Failure::Config(line) => line.as_slice(),
+            Refusal::Words => Stop::BadArguments.line().as_bytes(),
+            Refusal::Config(line) => line.as_slice(),
         }
     }
 }
@@ -59,15 +58,5 @@ impl Outcome {
             Outcome::Served(end) => end.line().as_bytes(),
             Outcome::Failed(stop) => stop.line().as_bytes(),
         }
-    }
-}
-
-// The failure of a workspace that has no configuration.
-pub(crate) fn failure_of(error: LoadError) -> Failure
-    ensures { result ≡ spec.failure_of error }
-{
-    match error {
-        LoadError::Refused(line) => Failure::Config(line),
-        LoadError::NoMemory => Failure::Stop(Stop::NoMemory),
     }
 }

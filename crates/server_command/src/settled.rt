@@ -1,14 +1,14 @@
 //! The linter that the words and the configuration of a folder choose.
 ghost use Rattle.std.specs.Prelude.{◌≡◌, ◌≤◌, IfErr, IfOk};
 ghost use Rattle.server_command.specs.Settled as spec;
-ghost use Rattle.server_command.specs.Settled.{IsChosenAlone, IsChosenBy, IsSettled, IsUnchosen, IsUnsettled};
+ghost use Rattle.server_command.specs.Settled.{IsChosenAlone, IsChosenBy, IsRefusedFor, IsSettled, IsUnchosen};
 ghost use Rattle.check_config.specs.Config.{empty};
 ghost use Rattle.file_store.specs.Contents.{KeepsContents};
 
-use crate::outcome::{Failure, failure_of};
+use crate::outcome::Refusal;
 use check_config::{Config, linter_words};
 use code_choice::{CodeChoices, read_code_choices};
-use config_file::folder_config;
+use config_file::{LoadError, folder_config};
 use file_store::FileStore;
 use lsp_linter::Linting;
 use squawk_linter::Linter;
@@ -62,24 +62,26 @@ pub(crate) fn alone(alloc: Global, line: &Words) -> Result<Linting, Stop>
     }
 }
 
-/// What finds reports by the words of the line and the configuration that is found from a folder on.
+/// What finds reports by the words of the line and the configuration that is found from a folder on, or why nothing is chosen there.
 pub(crate) fn settled_in<F: FileStore>(
     alloc: Global,
     line: &Words,
     files: &mut F,
     folder: &str,
-) -> Result<Linting, Failure>
-    ensures settled { IfOk result (IsSettled (F.content files.old) folder.now line.now) }
-    ensures unsettled { IfErr result (IsUnsettled (F.content files.old) (F.faults files.old) (F.faults files.new) folder.now line.now) }
+) -> Result<Result<Linting, Refusal>, NoMemory>
+    ensures settled { IfOk result (λ found. IfOk found (IsSettled (F.content files.old) folder.now line.now)) }
+    ensures refused { IfOk result (λ found. IfErr found (IsRefusedFor (F.content files.old) (F.faults files.old) (F.faults files.new) folder.now line.now)) }
     ensures kept { KeepsContents (F.content files.old) (F.content files.new) }
     ensures later { F.faults files.old ≤ F.faults files.new }
 {
     let config = match folder_config(alloc, files, folder) {
         Ok(config) => config,
-        Err(error) => return Err(failure_of(error)),
+        Err(LoadError::Refused(line)) => return Ok(Err(Refusal::Config(line))),
+        Err(LoadError::NoMemory) => return Err(NoMemory),
     };
     match chosen(alloc, &config, line) {
-        Ok(choices) => Ok(linting_by(choices)),
-        Err(stop) => Err(Failure::Stop(stop)),
+        Ok(choices) => Ok(Ok(linting_by(choices))),
+        Err(Stop::BadArguments) => Ok(Err(Refusal::Words)),
+        Err(_) => Err(NoMemory),
     }
 }

@@ -1,7 +1,7 @@
 use Rattle.std.proofs.Common.{subst}
 use Rattle.lsp_message.specs.declared.message.Message.{Message}
-use Rattle.lsp_serve.specs.Turns.{Hears}
-use Rattle.lsp_serve.proofs.Hearing.{heard_as}
+use Rattle.lsp_serve.specs.Turns.{Handles}
+use Rattle.lsp_serve.proofs.Handling.{handled_as}
 use Rattle.lsp_session.specs.Entry.{IsTakenAs}
 use Rattle.lsp_serve.proofs.respond.hear.Goals as goal
 
@@ -12,6 +12,6 @@ returns g c =
     let shows = g.C.Checker.shows in
     let enters = g.C.Enter.enters in
     let refuses = g.C.Enter.refuses in
-    subst (λ (m : Message). Hears shows (IsTakenAs enters refuses) c.args.session.now c.step.new.self m c.in_ok-said.said) c.in_ok-heard.ensures
-    (heard_as enters refuses shows c.args.session.now c.take.new.self c.step.new.self c.in_ok-heard.heard c.in_ok-message.message c.in_ok-said.said
-    take.taken take.stage take.documents step.checker step.stage step.documents step.told step.answered step.silent)
+    subst (λ (m : Message). Handles shows (IsTakenAs enters refuses) c.args.session.now c.step.new.self m c.in_ok-said.said) c.in_ok-heard.ensures
+    (handled_as enters refuses shows c.args.session.now c.take.new.self c.step.new.self c.in_ok-heard.heard c.in_ok-message.message c.in_ok-said.said
+    take.taken take.stage take.documents step.checker step.stage step.documents step.published step.answered step.silent step.says)

@@ -6,7 +6,7 @@ use Rattle.lsp_serve.proofs.respond.respond.Goals as goal
 
 pub returns-in-Ok-clause-done : goal.returns-in-Ok-clause-done
 returns-in-Ok-clause-done g c =
-    on_ok c.write_said.result _ _ (λ wrote. record { said = c.in-Ok.said; hears = c.in-Ok.ensures; wrote = wrote }) c.write_said.ensures.whole
+    on_ok c.write_said.result _ _ (λ wrote. record { said = c.in-Ok.said; handles = c.in-Ok.ensures; wrote = wrote }) c.write_said.ensures.whole
 
 pub returns-in-Ok-clause-stop : goal.returns-in-Ok-clause-stop
 returns-in-Ok-clause-stop g c =

@@ -1,4 +1,4 @@
-use Rattle.std.proofs.Common.{◌∙◌, ap, refl, subst, sym}
+use Rattle.std.proofs.Common.{◌∙◌, ap, sym}
 use Rattle.lsp_frame.specs.Reading.{coming}
 use Rattle.lsp_serve.specs.Ends.{exit_at}
 use Rattle.lsp_serve.specs.Served.{Streams}

@@ -1,13 +1,13 @@
 use Rattle.std.proofs.Common.{◌≡◌, ◌∙◌, [], ◌++◌, None, option_to_list, ap, arith, refl, rules, sym, subst, append-nil}
 use Rattle.std.proofs.lemmas.Grind.{common_steps}
 use Rattle.std.specs.Vec.Iter.{into_iter_items}
-use Rattle.lsp_session.specs.Conversation.{all_answered, all_asked, last_told, stage_behind, document_behind}
-use Rattle.lsp_session.specs.Session.{document_of, told, TellsNow}
-use Rattle.lsp_session.proofs.Conversing.{answered_onward, stage_at_end, stage_onward, document_at_end, document_onward, told_onward}
+use Rattle.lsp_session.specs.Conversation.{all_answered, all_asked, last_published, stage_behind, document_behind}
+use Rattle.lsp_session.specs.Session.{document_of, published, PublishesNow}
+use Rattle.lsp_session.proofs.Conversing.{answered_onward, stage_at_end, stage_onward, document_at_end, document_onward, published_onward}
 use Rattle.lsp_session.proofs.conversation.converse.Goals as goal
 
 pub loop-message-init : goal.loop-message-init
-unfolding last_told
+unfolding last_published
 loop-message-init g c =
     let given = c.into_iter-message-iterator.ensures.into_iter_gives.0 in
     record {
@@ -17,7 +17,7 @@ loop-message-init g c =
       stage = ap (stage_behind c.args.session.now.stage) given;
       documents = λ uri. ap (λ l. document_behind c.args.session.now.stage l uri (document_of uri c.args.session.now)) given;
       answered = ap (λ l. all_answered l ++ all_asked (into_iter_items c.into_iter-message-iterator.result)) c.new-all.ensures.items ∙ ap all_asked given;
-      told = λ uri. rw c.new-all.ensures.items refl;
+      published = λ uri. rw c.new-all.ensures.items refl;
     }
 
 pub loop-message-preserved-in-Continue-branch-3 : goal.loop-message-preserved-in-Continue-branch-3
@@ -34,9 +34,9 @@ loop-message-preserved-in-Continue-branch-3 g c =
       stage = stage_onward c.loop-message.session.stage _ _ c.in-Some.message _ _ step.stage first before.stage;
       documents = λ uri. document_onward c.loop-message.session.stage _ c.in-Some.message _ _ uri (document_of uri c.loop-message.session) _ _ step.stage (step.documents uri) first (before.documents uri);
       answered = answered_onward c.loop-message.all.items said _ c.in-Some.message _ _ _ grown step.answered first before.answered;
-      told = λ uri.
-          let tells = subst (λ k. TellsNow (g.C.Checker.shows k) (document_of uri c.loop-message.session) (document_of uri c.step.new.self) (told uri said)) before.checker (step.told uri) in
-          told_onward (g.C.Checker.shows c.args.session.now.checker) _ (document_of uri c.loop-message.session) _ uri c.loop-message.all.items said _ grown (before.told uri) tells;
+      published = λ uri.
+          let publishes = subst (λ k. PublishesNow (g.C.Checker.shows k) (document_of uri c.loop-message.session) (document_of uri c.step.new.self) (published uri said)) before.checker (step.published uri) in
+          published_onward (g.C.Checker.shows c.args.session.now.checker) _ (document_of uri c.loop-message.session) _ uri c.loop-message.all.items said _ grown (before.published uri) publishes;
     }
 
 pub loop-message-preserved : goal.loop-message-preserved
@@ -54,9 +54,9 @@ loop-message-preserved g c =
       stage = stage_onward c.loop-message.session.stage _ _ c.in-Some.message _ _ step.stage first before.stage;
       documents = λ uri. document_onward c.loop-message.session.stage _ c.in-Some.message _ _ uri (document_of uri c.loop-message.session) _ _ step.stage (step.documents uri) first (before.documents uri);
       answered = answered_onward c.loop-message.all.items said _ c.in-Some.message _ _ _ grown step.answered first before.answered;
-      told = λ uri.
-          let tells = subst (λ k. TellsNow (g.C.Checker.shows k) (document_of uri c.loop-message.session) (document_of uri c.step.new.self) (told uri said)) before.checker (step.told uri) in
-          told_onward (g.C.Checker.shows c.args.session.now.checker) _ (document_of uri c.loop-message.session) _ uri c.loop-message.all.items said _ grown (before.told uri) tells;
+      published = λ uri.
+          let publishes = subst (λ k. PublishesNow (g.C.Checker.shows k) (document_of uri c.loop-message.session) (document_of uri c.step.new.self) (published uri said)) before.checker (step.published uri) in
+          published_onward (g.C.Checker.shows c.args.session.now.checker) _ (document_of uri c.loop-message.session) _ uri c.loop-message.all.items said _ grown (before.published uri) publishes;
     }
 
 pub returns-clause-stage : goal.returns-clause-stage

@@ -1,7 +1,7 @@
 use Rattle.std.proofs.Common.{◌≡◌, ◌++◌, ℕ, List}
 use Rattle.std.specs.Vec.Iter.{into_iter_items}
-use Rattle.lsp_session.specs.Conversation.{all_answered, all_asked, last_told, stage_behind, document_behind}
-use Rattle.lsp_session.specs.Session.{document_of, TellsNow}
+use Rattle.lsp_session.specs.Conversation.{all_answered, all_asked, last_published, stage_behind, document_behind}
+use Rattle.lsp_session.specs.Session.{document_of, PublishesNow}
 use Rattle.lsp_session.proofs.conversation.converse.Given as goal
 
 -- what the messages that are left will do to the session ends where all messages would have ended
@@ -14,5 +14,5 @@ invariant-loop-message g l = record {
   documents : (uri : List ℕ) → document_behind l.session.stage (into_iter_items l.message-iterator) uri (document_of uri l.session)
       ≡ document_behind l.fn.session.stage l.fn.messages.items uri (document_of uri l.fn.session);
   answered : all_answered l.all.items ++ all_asked (into_iter_items l.message-iterator) ≡ all_asked l.fn.messages.items;
-  told : (uri : List ℕ) → TellsNow (g.C.Checker.shows l.fn.session.checker) (document_of uri l.fn.session) (document_of uri l.session) (last_told uri l.all.items);
+  published : (uri : List ℕ) → PublishesNow (g.C.Checker.shows l.fn.session.checker) (document_of uri l.fn.session) (document_of uri l.session) (last_published uri l.all.items);
 }

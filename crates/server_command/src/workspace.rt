@@ -1,12 +1,12 @@
 //! The linter of a workspace.
 ghost use Rattle.std.specs.Prelude.{◌≡◌, ◌≤◌, IfErr, IfOk, drop, string_bytes};
 ghost use Rattle.file_store.specs.Contents.{KeepsContents};
-ghost use Rattle.server_command.specs.Rooted.{Enters, IsFirst, Refuses, RootedShows};
-ghost use Rattle.server_command.specs.Settled.{IsSaidOf, IsSettled, IsText, IsUnchosen, IsUnsettled, folder_of};
+ghost use Rattle.server_command.specs.Workspace.{Enters, IsFirst, Refuses, WorkspaceShows};
+ghost use Rattle.server_command.specs.Settled.{IsRefusedFor, IsSaidOf, IsSettled, IsText, IsUnchosen, folder_of};
 ghost use Rattle.check_config.specs.Config.{empty};
 
 use crate::asked::words_after_first;
-use crate::outcome::Failure;
+use crate::outcome::Refusal;
 use crate::settled::{alone, settled_in};
 use file_store::FileStore;
 use lint_base::Text;
@@ -20,7 +20,7 @@ use text_pos::NoMemory;
 
 /// What finds the reports of a workspace: a linter that the words choose, and from the entry of the workspace on the configuration too.
 #[derive(Drop)]
-pub struct Rooted<F> {
+pub struct Workspace<F> {
     files: F,
     line: Words,
     linting: Linting,
@@ -38,22 +38,20 @@ fn folder_of(alloc: Global, root: &Option<Text>) -> Result<String, NoMemory>
     Ok(folder)
 }
 
-// What finds reports in the workspace of a root, by the words of the line and its configuration.
+// What finds reports in the workspace of a root, by the words of the line and its configuration, or why nothing is chosen there.
 fn settled_at<F: FileStore>(
     alloc: Global,
     line: &Words,
     files: &mut F,
     root: &Option<Text>,
-) -> Result<Linting, Failure>
-    ensures settled { IfOk result (IsSettled (F.content files.old) (folder_of root.now) line.now) }
-    ensures unsettled { IfErr result (IsUnsettled (F.content files.old) (F.faults files.old) (F.faults files.new) (folder_of root.now) line.now) }
+) -> Result<Result<Linting, Refusal>, NoMemory>
+    ensures settled { IfOk result (λ found. IfOk found (IsSettled (F.content files.old) (folder_of root.now) line.now)) }
+    ensures refused { IfOk result (λ found. IfErr found (IsRefusedFor (F.content files.old) (F.faults files.old) (F.faults files.new) (folder_of root.now) line.now)) }
     ensures kept { KeepsContents (F.content files.old) (F.content files.new) }
     ensures later { F.faults files.old ≤ F.faults files.new }
 {
-    match folder_of(alloc, root) {
-        Ok(folder) => settled_in(alloc, line, files, folder.as_str()),
-        Err(NoMemory) => Err(Failure::Stop(Stop::NoMemory)),
-    }
+    let folder = folder_of(alloc, root)?;
+    settled_in(alloc, line, files, folder.as_str())
 }
 
 // A text of these bytes, or words in place of it.
@@ -66,39 +64,34 @@ fn text_of(alloc: Global, bytes: &[u8]) -> Result<Text, NoMemory>
     }
 }
 
-// What is said of a failure: its line, without the line feed. That memory ran out is an error.
-fn said_of(alloc: Global, failure: &Failure) -> Result<Text, NoMemory>
-    ensures { IfOk result (IsSaidOf failure.now) }
+// What is said of a refusal: its line, without the line feed.
+fn said_of(alloc: Global, refusal: &Refusal) -> Result<Text, NoMemory>
+    ensures { IfOk result (IsSaidOf refusal.now) }
 {
-    match failure {
-        Failure::Stop(Stop::NoMemory) => Err(NoMemory),
-        Failure::Stop(_) | Failure::Config(_) => {
-            let line = failure.line();
-            text_of(alloc, &line[..line.len().saturating_sub(1)])
-        }
-    }
+    let line = refusal.line();
+    text_of(alloc, &line[..line.len().saturating_sub(1)])
 }
 
-impl<F: FileStore> Checker for Rooted<F> {
-    ghost shows = { λ rooted text found. RootedShows rooted text found };
+impl<F: FileStore> Checker for Workspace<F> {
+    ghost shows = { λ workspace text found. WorkspaceShows workspace text found };
 
     fn check(&mut self, alloc: Global, text: &str) -> Result<Vec<Report>, NoMemory> {
         self.linting.check(alloc, text)
     }
 }
 
-impl<F: FileStore> Enter for Rooted<F> {
+impl<F: FileStore> Enter for Workspace<F> {
     ghost enters = { Enters F.content F.faults };
 
     ghost refuses = { Refuses F.content F.faults };
 
     fn enter(&mut self, alloc: Global, root: &Option<Text>) -> Result<Option<Text>, NoMemory> {
-        match settled_at(alloc, &self.line, &mut self.files, root) {
+        match settled_at(alloc, &self.line, &mut self.files, root)? {
             Ok(linting) => {
                 self.linting = linting;
                 Ok(None)
             }
-            Err(failure) => Ok(Some(said_of(alloc, &failure)?)),
+            Err(refusal) => Ok(Some(said_of(alloc, &refusal)?)),
         }
     }
 }
@@ -108,7 +101,7 @@ pub(crate) fn first_linter<F: FileStore + Drop>(
     alloc: Global,
     words: &Words,
     files: F,
-) -> Result<Rooted<F>, Stop>
+) -> Result<Workspace<F>, Stop>
     ensures first { IfOk result (IsFirst files (drop 1 words.now)) }
     ensures unchosen { IfErr result (IsUnchosen empty (drop 1 words.now)) }
 {
@@ -117,7 +110,7 @@ pub(crate) fn first_linter<F: FileStore + Drop>(
         Err(NoMemory) => return Err(Stop::NoMemory),
     };
     let linting = alone(alloc, &line)?;
-    Ok(Rooted {
+    Ok(Workspace {
         files,
         line,
         linting,
