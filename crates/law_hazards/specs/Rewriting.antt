@@ -1,5 +1,6 @@
 -- What writes a whole table anew, or builds its indexes anew, while nobody can use it (PostgreSQL manual: VACUUM FULL, CLUSTER,
--- REINDEX, ALTER TABLE, and section 8.1.4, "Serial Types").
+-- REINDEX, ALTER TABLE, and section 8.1.4, "Serial Types"). Not all of it is here: a rule speaks of a new type of a column, and nothing
+-- of ALTER TABLE ALL IN TABLESPACE, nor of indexes and materialized views that an ALTER moves.
 use Rattle.std.specs.Prelude.{◌≡◌, ℕ, pos, Bool, true, false, List, [], ◌∷◌, codes, slice_index_or, Option, Some, None, Contains}
 use Rattle.std.specs.Int.Signed.{le_z}
 use Rattle.sql_keyword.specs.declared.words.TheConstants.Keyword as keyword
