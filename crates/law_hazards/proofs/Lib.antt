@@ -1,9 +1,12 @@
+pub mod ActionReading
 pub mod AdditionLaws
+pub mod Begun
 pub mod BuildLaws
 pub mod InsideLaws
 pub mod KindLaws
 pub mod Nodes
 pub mod Numbers
+pub mod OtherActions
 pub mod PathLaws
 pub mod Prepared
 pub mod Reading

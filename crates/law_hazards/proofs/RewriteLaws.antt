@@ -6,6 +6,7 @@ use Rattle.std.specs.Str.{bytes_eq}
 use Rattle.std.proofs.lemmas.Bool.{false_from_ne_true, not_from_false, false≢true}
 use Rattle.sql_keyword.specs.declared.words.TheConstants.Keyword as keyword
 use Rattle.sql_token.specs.declared.token.Span.{Span}
+use Rattle.sql_token.specs.Terminal.{terminals}
 use Rattle.sql_tree.specs.declared.kinds.ActionKind.{ActionKind}
 use Rattle.sql_tree.specs.declared.kinds.ActionKind.TheVariants as action
 use Rattle.sql_tree.specs.declared.kinds.PieceKind.TheVariants as piece
@@ -17,7 +18,7 @@ use Rattle.sql_tree.specs.declared.nodes.Column.{Column}
 use Rattle.sql_tree.specs.declared.nodes.Piece.{Piece}
 use Rattle.sql_tree.specs.declared.nodes.ReindexTarget.TheVariants as target
 use Rattle.sql_tree.specs.declared.nodes.Stmt.{Stmt}
-use Rattle.sql_tree.specs.Statement.{Tree}
+use Rattle.sql_tree.specs.Statement.{IsTree, Tree}
 use Rattle.lint_base.specs.declared.settings.LinterSettings.{LinterSettings}
 use Rattle.lint_node.specs.Same.{same_piece}
 use Rattle.lint_transaction.specs.Names.{is_listed, name_at}
@@ -35,7 +36,11 @@ use Rattle.law_hazards.specs.Rewriting.{ActionRewrites, IsBeforeRepack, Rewrites
 use Rattle.law_hazards.specs.Rewriting.{ActionRewrites as does, Rewrites as way}
 use Rattle.law_hazards.specs.Silence.{IsNotFound, begins_inside}
 use Rattle.law_hazards.specs.Tables.{IsOurs}
+use Rattle.law_hazards.specs.Words.{action_tokens}
+use Rattle.law_hazards.proofs.ActionReading.{IsReadAction, action_read}
 use Rattle.law_hazards.proofs.Nodes.{action_in, any_of, both_on, else_some, piece_on, some_where, spoken, table_is, then_some, type_is}
+use Rattle.law_hazards.proofs.OtherActions.{access_form, logged_form, other_kind, tablespace_form, two_words, unlogged_form}
+use Rattle.law_hazards.proofs.Reading.{read_there}
 use Rattle.law_hazards.proofs.Silent.{none_rewrites, silent}
 use Rattle.law_hazards.proofs.TableLaws.{ours}
 use Rattle.law_hazards.proofs.WordLaws.{begins_so}
@@ -77,32 +82,33 @@ no_serial tree a c t quiet adds has ty array one listed =
     (sym quiet ∙ (ap (is_serial_type tree) (type_is a c adds has t ty)
     ∙ both_on (not t.array) (is_serial_path tree t.inner) (not_from_false t.array array) (serial_path tree t.inner one listed)))
 
-no_action : (tree : Tree) (a : Action) → action_rewrites tree a ≡ None → adds_serial tree a ≡ false → ActionRewrites tree a → ⊥
+no_action : (tree : Tree) (a : Action) → IsReadAction (terminals tree.text tree.toks) a → action_rewrites tree a ≡ None → adds_serial tree a ≡ false → ActionRewrites tree a → ⊥
 unfolding other_rewrites sets_logged sets_unlogged sets_access_method sets_expression moves
-no_action tree a quiet none (does.logged is words) =
-    by_other tree a quiet is
+no_action tree a read quiet none (does.logged words) =
+    by_other tree a quiet (other_kind keyword.LOGGED logged_form tree a read words)
     (then_some (begins tree (keyword.SET ∷ keyword.LOGGED ∷ []) a.first a.last) _ _ (begins_so tree (keyword.SET ∷ keyword.LOGGED ∷ []) a.first a.last ∙ words))
-no_action tree a quiet none (does.unlogged is words) =
-    by_other tree a quiet is
+no_action tree a read quiet none (does.unlogged words) =
+    by_other tree a quiet (other_kind keyword.UNLOGGED unlogged_form tree a read words)
     (else_some (begins tree (keyword.SET ∷ keyword.LOGGED ∷ []) a.first a.last) _ _
     (then_some (begins tree (keyword.SET ∷ keyword.UNLOGGED ∷ []) a.first a.last) _ _ (begins_so tree (keyword.SET ∷ keyword.UNLOGGED ∷ []) a.first a.last ∙ words)))
-no_action tree a quiet none (does.tablespace is words) =
-    by_other tree a quiet is
+no_action tree a read quiet none (does.tablespace words) =
+    by_other tree a quiet (other_kind keyword.TABLESPACE tablespace_form tree a read words)
     (else_some (begins tree (keyword.SET ∷ keyword.LOGGED ∷ []) a.first a.last) _ _
     (else_some (begins tree (keyword.SET ∷ keyword.UNLOGGED ∷ []) a.first a.last) _ _
     (then_some (begins tree (keyword.SET ∷ keyword.TABLESPACE ∷ []) a.first a.last) _ _ (begins_so tree (keyword.SET ∷ keyword.TABLESPACE ∷ []) a.first a.last ∙ words))))
-no_action tree a quiet none (does.access_method is words) =
-    by_other tree a quiet is
+no_action tree a read quiet none (does.access_method words) =
+    by_other tree a quiet
+    (other_kind keyword.ACCESS access_form tree a read (two_words tree.text keyword.SET keyword.ACCESS keyword.METHOD (action_tokens tree a) words))
     (else_some (begins tree (keyword.SET ∷ keyword.LOGGED ∷ []) a.first a.last) _ _
     (else_some (begins tree (keyword.SET ∷ keyword.UNLOGGED ∷ []) a.first a.last) _ _
     (else_some (begins tree (keyword.SET ∷ keyword.TABLESPACE ∷ []) a.first a.last) _ _
     (then_some (begins tree (keyword.SET ∷ keyword.ACCESS ∷ keyword.METHOD ∷ []) a.first a.last) _ _
     (begins_so tree (keyword.SET ∷ keyword.ACCESS ∷ keyword.METHOD ∷ []) a.first a.last ∙ words)))))
-no_action tree a quiet none (does.expression p is in_a set) =
+no_action tree a read quiet none (does.expression p is in_a set) =
     by_kind tree a quiet action.AlterColumn is
     (some_where (list_any (λ (q : Piece). same_piece q.kind piece.SetExpression) a.pieces) _
     (any_of (λ (q : Piece). same_piece q.kind piece.SetExpression) a.pieces p in_a (piece_on p.kind piece.SetExpression set)))
-no_action tree a quiet none (does.serial c t adds has ty array one listed) = no_serial tree a c t none adds has ty array one listed
+no_action tree a read quiet none (does.serial c t adds has ty array one listed) = no_serial tree a c t none adds has ty array one listed
 
 -- ---- statements
 
@@ -131,8 +137,8 @@ named_ours settings tree i table is not_old =
     ours (is_assumed settings tree) tree i table
     (ap (is_old (is_assumed settings tree) tree i) (sym is) ∙ false_from_ne_true (is_old (is_assumed settings tree) tree i (table_of (stmt_at tree i))) not_old)
 
-module _ (kept : TablesAreKept) (enabled : HazardSet) (settings : LinterSettings) (tree : Tree) (quiet : IsNotFound hazard.TableRewrite enabled settings tree) (i : ℕ)
-    (l : i < length tree.stmts) where
+module _ (kept : TablesAreKept) (enabled : HazardSet) (settings : LinterSettings) (tree : Tree) (read : IsTree tree)
+    (quiet : IsNotFound hazard.TableRewrite enabled settings tree) (i : ℕ) (l : i < length tree.stmts) where
   before : IsBeforeRepack settings → not (known_at settings tree i).has_repack ≡ true
   before h = not_from_false _ (repack_known settings tree i ∙ h)
 
@@ -151,7 +157,7 @@ module _ (kept : TablesAreKept) (enabled : HazardSet) (settings : LinterSettings
   ours_at _ (way.alters table of a kind has is rewrites_table) =
       named_ours settings tree i table (table_is (stmt_at tree i) table of kind has)
       (λ old. let both = kept enabled settings tree (silent hazard.TableRewrite enabled settings tree quiet) i l old a (action_in (stmt_at tree i) table of kind has a is) in
-      no_action tree a both.0 both.1 rewrites_table)
+      no_action tree a (action_read (terminals tree.text tree.toks) (stmt_at tree i) (read_there tree read i l) kind table of has a is) both.0 both.1 rewrites_table)
 
 pub only_ours_are_rewritten : TablesAreKept → OnlyOursAreRewritten
-only_ours_are_rewritten kept enabled settings tree quiet i table l does_so = ours_at kept enabled settings tree quiet i l table does_so
+only_ours_are_rewritten kept enabled settings tree read quiet i table l does_so = ours_at kept enabled settings tree read quiet i l table does_so

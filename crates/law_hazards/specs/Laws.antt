@@ -28,7 +28,7 @@ NothingIsRefusedInside =
 -- creates, or that is temporary. So there is no VACUUM FULL before version 19, and no REINDEX SYSTEM.
 abbrev pub OnlyOursAreRewritten : Type 0
 OnlyOursAreRewritten =
-    (enabled : HazardSet) (settings : LinterSettings) (tree : Tree) → IsNotFound hazard.TableRewrite enabled settings tree
+    (enabled : HazardSet) (settings : LinterSettings) (tree : Tree) → IsTree tree → IsNotFound hazard.TableRewrite enabled settings tree
     → (i : ℕ) (table : Option Span) → i < length tree.stmts → Rewrites settings tree (stmt_at tree i) table
     → IsOurs (begins_inside settings tree) tree i table
 

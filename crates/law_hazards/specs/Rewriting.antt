@@ -1,5 +1,6 @@
 -- What writes a whole table anew, or builds its indexes anew, while nobody can use it (PostgreSQL manual: VACUUM FULL, CLUSTER,
--- REINDEX, ALTER TABLE, and section 8.1.4, "Serial Types").
+-- REINDEX, ALTER TABLE, and section 8.1.4, "Serial Types"). Not all of it is here: a rule speaks of a new type of a column, and nothing
+-- of ALTER TABLE ALL IN TABLESPACE, nor of indexes and materialized views that an ALTER moves.
 use Rattle.std.specs.Prelude.{◌≡◌, ℕ, pos, Bool, true, false, List, [], ◌∷◌, codes, slice_index_or, Option, Some, None, Contains}
 use Rattle.std.specs.Int.Signed.{le_z}
 use Rattle.sql_keyword.specs.declared.words.TheConstants.Keyword as keyword
@@ -24,13 +25,12 @@ abbrev pub serial_names : List (List ℕ)
 serial_names =
     codes "serial" ∷ codes "smallserial" ∷ codes "bigserial" ∷ codes "serial4" ∷ codes "serial2" ∷ codes "serial8" ∷ []
 
--- An action of an ALTER TABLE that writes the whole table anew. Other is said of an action for which the tree has no kind of its own: it has
--- none that begins with these words.
+-- An action of an ALTER TABLE that writes the whole table anew.
 pub data ActionRewrites (tree : Tree) (a : Action) : Type 0 where
-  logged : a.kind ≡ action.Other → begin_with tree.text (keyword.SET ∷ keyword.LOGGED ∷ []) (action_tokens tree a) ≡ true → ActionRewrites tree a
-  unlogged : a.kind ≡ action.Other → begin_with tree.text (keyword.SET ∷ keyword.UNLOGGED ∷ []) (action_tokens tree a) ≡ true → ActionRewrites tree a
-  tablespace : a.kind ≡ action.Other → begin_with tree.text (keyword.SET ∷ keyword.TABLESPACE ∷ []) (action_tokens tree a) ≡ true → ActionRewrites tree a
-  access_method : a.kind ≡ action.Other → begin_with tree.text (keyword.SET ∷ keyword.ACCESS ∷ keyword.METHOD ∷ []) (action_tokens tree a) ≡ true → ActionRewrites tree a
+  logged : begin_with tree.text (keyword.SET ∷ keyword.LOGGED ∷ []) (action_tokens tree a) ≡ true → ActionRewrites tree a
+  unlogged : begin_with tree.text (keyword.SET ∷ keyword.UNLOGGED ∷ []) (action_tokens tree a) ≡ true → ActionRewrites tree a
+  tablespace : begin_with tree.text (keyword.SET ∷ keyword.TABLESPACE ∷ []) (action_tokens tree a) ≡ true → ActionRewrites tree a
+  access_method : begin_with tree.text (keyword.SET ∷ keyword.ACCESS ∷ keyword.METHOD ∷ []) (action_tokens tree a) ≡ true → ActionRewrites tree a
   expression : (p : Piece) → a.kind ≡ action.AlterColumn → Contains a.pieces p → p.kind ≡ piece.SetExpression → ActionRewrites tree a
   serial : (c : Column) (t : ColType) → a.kind ≡ action.AddColumn → a.column ≡ Some c → c.ty ≡ Some t → t.array ≡ false → t.inner.first ≡ t.inner.last
       → is_listed serial_names tree t.inner.first ≡ true → ActionRewrites tree a
