@@ -104,7 +104,8 @@ Details
   COLUMN` of the type `serial`, `smallserial`, `bigserial`, `serial2`,
   `serial4` or `serial8`.
 - Not reported: `VACUUM (FULL OFF)`; `CLUSTER ON`, `SET WITHOUT CLUSTER`, `SET
-  (..)`; the columns of a `CREATE TABLE`.
+  (..)`; the columns of a `CREATE TABLE`; what is moved by `ALTER TABLE ALL IN
+  TABLESPACE`, `ALTER INDEX` or `ALTER MATERIALIZED VIEW`.
 - In PostgreSQL: ACCESS EXCLUSIVE, and new files for the table and all its
   indexes. Of 400,000 rows `ADD COLUMN .. bigserial` took 1060 milliseconds,
   `SET LOGGED` 892, `CLUSTER` 753, `VACUUM FULL` 736, `SET UNLOGGED` 441. `SET
@@ -233,7 +234,8 @@ Details
   both.
 - Not reported: a build in a transaction, which fails; where the text sets no
   timeout, or `SET LOCAL` did, or `RESET` or `DISCARD ALL` came since; `0`,
-  also as a string and with `ms`, `s`, `min` or `h`; `DEFAULT`.
+  also as a string and with `ms`, `s`, `min` or `h`; `DEFAULT`; a value with a
+  sign, or in dollar or double quotes.
 - In PostgreSQL: with `lock_timeout = '500ms'` and one reader of another table
   the build was cancelled, and its index was invalid (`indisvalid`); with
   `statement_timeout` the same. A `REINDEX` leaves an invalid index whose name
