@@ -4,21 +4,27 @@ use Rattle.std.specs.Io.KnownBytes.{Keeps}
 use Rattle.std.proofs.KnownBytes.{Keeps-refl}
 use Rattle.checked_file.specs.declared.status.Status.{Status}
 use Rattle.file_store.specs.Contents.{Content, KeepsContents}
-use Rattle.fix_asked.specs.Command.{AnswersBy, HasFailed, HasFailedFor, HasFixedFor, IsNothing}
+use Rattle.fix_asked.specs.Command.{AnswersBy, HasFailed, HasFailedFor, HasFixedFor, HasStoppedFor, IsNothing}
 use Rattle.fix_asked.specs.declared.failure.Failure.{Failure}
-use Rattle.fix_asked.specs.declared.failure.Failure.TheVariants.{Stop, Words, Config}
+use Rattle.fix_asked.specs.declared.failure.Failure.TheVariants.{Stop, Words, Config, File}
 use Rattle.fix_asked.specs.declared.settled.Settled.{Settled}
 use Rattle.fix_asked.specs.Settled.{IsSettled, IsUnsettled}
 use Rattle.fix_run.proofs.Moved.{fixed_moved, stopped_moved}
+use Rattle.fix_asked.specs.Failures.{failure_by}
+use Rattle.fix_run.specs.declared.stop.FixStop.{FixStop}
+use Rattle.fix_run.specs.declared.stop.FixStop.TheVariants as fix_stop
 use Rattle.fix_run.specs.Giving.{Sinks}
 use Rattle.fix_run.specs.Inputs.{Devices}
 use Rattle.fix_run.specs.Runs.{HasFixed, HasStopped}
 use Rattle.fix_words.specs.declared.asked.Asked.{Asked}
 use Rattle.fix_words.specs.declared.asked.Asked.TheVariants.{Fix, Help, Refused}
 use Rattle.fix_words.specs.declared.request.Request.{Request}
-use Rattle.squawk_run.specs.declared.stop.Stop.{Stop as AnyStop}
 use Rattle.squawk_run.specs.declared.stop.Stop.TheVariants.{BadArguments, NotUtf8, TooLong, ReadFault, WriteFault, NoMemory}
 use Rattle.squawk_words.specs.Words.{Text}
+
+by_stop : {by : AnswersBy} {request : Request} {d : Devices} {old new : Sinks} (stop : FixStop) → HasStoppedFor by request d old new stop → HasFailedFor by request d old new (failure_by stop)
+by_stop (fix_stop.Any stop) h = inr h
+by_stop (fix_stop.File line) h = h
 
 module _ (by : AnswersBy) (content now : Text → Content) (before first last : ℕ) (left : Option (List ℕ)) (input input_now : ℕ) (kept : KeepsContents content now) (later : before ≤ first)
     (request : Request) (old new : Sinks) (settled : Settled) (chosen : IsSettled content request settled) where
@@ -34,11 +40,11 @@ module _ (by : AnswersBy) (content now : Text → Content) (before first last : 
   }
 
   -- the same where it stopped
-  pub stopped_for : (stop : AnyStop)
+  pub stopped_for : (stop : FixStop)
       → HasStopped (by settled.choices.choices request.with_unsafe) settled.config.excluded_paths request
       (record { content = now; files_before = first; files_now = last; left = left; input_before = input; input_now = input_now }) old new stop
-      → HasFailedFor by request (record { content = content; files_before = before; files_now = last; left = left; input_before = input; input_now = input_now }) old new (Stop stop)
-  stopped_for stop h = inr (record {
+      → HasFailedFor by request (record { content = content; files_before = before; files_now = last; left = left; input_before = input; input_now = input_now }) old new (failure_by stop)
+  stopped_for stop h = by_stop stop (record {
     settled = settled;
     chosen = chosen;
     stopped = stopped_moved (by settled.choices.choices request.with_unsafe) content now before first last left input input_now settled.config.excluded_paths kept later request old new stop h;
@@ -49,6 +55,7 @@ pub unsettled_for : (by : AnswersBy) (request : Request) (d : Devices) (old new 
     → HasFailedFor by request d old new failure
 unsettled_for by request d old new (Words line) h nothing = (h, nothing)
 unsettled_for by request d old new (Config line) h nothing = (h, nothing)
+unsettled_for by request d old new (File line) h nothing = absurd h
 unsettled_for by request d old new (Stop NoMemory) h nothing = inl (refl, nothing)
 unsettled_for by request d old new (Stop BadArguments) h nothing = absurd h
 unsettled_for by request d old new (Stop NotUtf8) h nothing = absurd h

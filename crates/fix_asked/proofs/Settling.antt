@@ -7,7 +7,7 @@ use Rattle.config_file.specs.declared.error.LoadError.TheVariants as load
 use Rattle.config_file.specs.Loaded.{IsLoaded, IsRefusedLoad}
 use Rattle.file_store.specs.Contents.{Content}
 use Rattle.fix_asked.specs.declared.failure.Failure.{Failure}
-use Rattle.fix_asked.specs.declared.failure.Failure.TheVariants.{Stop, Words, Config}
+use Rattle.fix_asked.specs.declared.failure.Failure.TheVariants.{Stop, Words, Config, File}
 use Rattle.fix_asked.specs.Failures.{failure_of}
 use Rattle.fix_asked.specs.Settled.{AreRefused, IsLineOf, IsUnchosen, IsUnsettled}
 use Rattle.fix_words.specs.declared.fault.Fault.TheVariants.{Linter}
@@ -19,6 +19,7 @@ use Rattle.squawk_words.specs.Words.{Text}
 pub words_refused : (words : List Text) (failure : Failure) → code_choices_of words ≡ None → IsLineOf (Linter words) failure → AreRefused words failure
 words_refused words (Words line) none told = (none, told)
 words_refused words (Config line) none told = absurd told
+words_refused words (File line) none told = absurd told
 words_refused words (Stop NoMemory) none told = tt
 words_refused words (Stop BadArguments) none told = absurd told
 words_refused words (Stop NotUtf8) none told = absurd told
@@ -41,6 +42,7 @@ pub not_chosen : (content : Text → Content) (before now : ℕ) (request : Requ
     → IsUnchosen config request.linter failure → IsUnsettled content before now request failure
 not_chosen content before now request config (Words line) loaded h = record { config = config; loaded = loaded; refused = h.0; told = h.1 }
 not_chosen content before now request config (Config line) loaded h = absurd h
+not_chosen content before now request config (File line) loaded h = absurd h
 not_chosen content before now request config (Stop NoMemory) loaded h = tt
 not_chosen content before now request config (Stop BadArguments) loaded h = absurd h
 not_chosen content before now request config (Stop NotUtf8) loaded h = absurd h

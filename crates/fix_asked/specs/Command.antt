@@ -7,19 +7,20 @@ use Rattle.checked_file.specs.declared.status.Status.TheVariants.{Clean}
 use Rattle.config_file.specs.Loaded.{IsRefusedFor}
 use Rattle.file_store.specs.Contents.{KeepsContents}
 use Rattle.fix_asked.specs.declared.failure.Failure.{Failure}
-use Rattle.fix_asked.specs.declared.failure.Failure.TheVariants.{Stop, Words, Config}
+use Rattle.fix_asked.specs.declared.failure.Failure.TheVariants.{Stop, Words, Config, File}
 use Rattle.fix_asked.specs.declared.settled.Settled.{Settled}
 use Rattle.fix_asked.specs.Settled.{IsLineOf, IsRefusedBeside, IsSettled}
+use Rattle.fix_run.specs.declared.stop.FixStop.{FixStop}
+use Rattle.fix_run.specs.declared.stop.FixStop.TheVariants as fix_stop
 use Rattle.fix_run.specs.Giving.{Sinks, StopsWriting}
 use Rattle.fix_run.specs.Inputs.{Devices}
-use Rattle.fix_run.specs.Mending.{Answers}
+use Rattle.fix_run.specs.Outcomes.{Answers}
 use Rattle.fix_run.specs.Runs.{HasFixed, HasStopped}
 use Rattle.fix_words.specs.declared.asked.Asked.{Asked}
 use Rattle.fix_words.specs.declared.asked.Asked.TheVariants.{Fix, Help, Refused}
 use Rattle.fix_words.specs.declared.fault.Fault.{Fault}
 use Rattle.fix_words.specs.declared.help.TheConstants.{HELP}
 use Rattle.fix_words.specs.declared.request.Request.{Request}
-use Rattle.squawk_run.specs.declared.stop.Stop.{Stop as AnyStop}
 use Rattle.squawk_run.specs.declared.stop.Stop.TheVariants.{NoMemory}
 use Rattle.squawk_stream.specs.Faults.{Rose}
 use Rattle.squawk_stream.specs.Parts.{AppendsPart}
@@ -42,7 +43,7 @@ pub record HasFixedFor (by : AnswersBy) (request : Request) (d : Devices) (old n
   pub fixed : HasFixed (by settled.choices.choices request.with_unsafe) settled.config.excluded_paths request d old new status lines
 
 -- the same of a run that stopped
-pub record HasStoppedFor (by : AnswersBy) (request : Request) (d : Devices) (old new : Sinks) (stop : AnyStop) : Type 0 where
+pub record HasStoppedFor (by : AnswersBy) (request : Request) (d : Devices) (old new : Sinks) (stop : FixStop) : Type 0 where
   pub settled : Settled
   pub chosen : IsSettled d.content request settled
   pub stopped : HasStopped (by settled.choices.choices request.with_unsafe) settled.config.excluded_paths request d old new stop
@@ -51,7 +52,8 @@ pub record HasStoppedFor (by : AnswersBy) (request : Request) (d : Devices) (old
 abbrev pub HasFailedFor : AnswersBy → Request → Devices → Sinks → Sinks → Failure → Type 0
 HasFailedFor by request d old new (Words line) = IsRefusedBeside d.content request line.items × IsNothing old new
 HasFailedFor by request d old new (Config line) = IsRefusedFor d.content d.files_before d.files_now request.config line.items × IsNothing old new
-HasFailedFor by request d old new (Stop stop) = ((stop ≡ NoMemory) × IsNothing old new) ⊎ HasStoppedFor by request d old new stop
+HasFailedFor by request d old new (Stop stop) = ((stop ≡ NoMemory) × IsNothing old new) ⊎ HasStoppedFor by request d old new (fix_stop.Any stop)
+HasFailedFor by request d old new (File line) = HasStoppedFor by request d old new (fix_stop.File line)
 
 -- ---- the help
 
@@ -63,6 +65,7 @@ HasHelped old new status lines = (status ≡ Clean) × (lines ≡ []) × Appends
 abbrev pub HasNotHelped : Option (List ℕ) → Option (List ℕ) → ℕ → ℕ → Failure → Type 0
 HasNotHelped old new before now (Words line) = ⊥
 HasNotHelped old new before now (Config line) = ⊥
+HasNotHelped old new before now (File line) = ⊥
 HasNotHelped old new before now (Stop stop) = StopsWriting stop HELP.now old new before now
 
 -- ---- all

@@ -7,7 +7,7 @@ use Rattle.code_choice.specs.declared.choices.CodeChoices.{CodeChoices}
 use Rattle.config_file.specs.Loaded.{IsLoaded, IsRefusedFor}
 use Rattle.file_store.specs.Contents.{Content}
 use Rattle.fix_asked.specs.declared.failure.Failure.{Failure}
-use Rattle.fix_asked.specs.declared.failure.Failure.TheVariants.{Stop, Words, Config}
+use Rattle.fix_asked.specs.declared.failure.Failure.TheVariants.{Stop, Words, Config, File}
 use Rattle.fix_asked.specs.declared.settled.Settled.{Settled}
 use Rattle.fix_words.specs.declared.fault.Fault.{Fault}
 use Rattle.fix_words.specs.declared.fault.Fault.TheVariants.{Linter}
@@ -20,6 +20,7 @@ use Rattle.squawk_words.specs.Words.{Text}
 abbrev pub IsLineOf : Fault → Failure → Type 0
 IsLineOf fault (Words line) = line.items ≡ fault_line fault
 IsLineOf fault (Config line) = ⊥
+IsLineOf fault (File line) = ⊥
 IsLineOf fault (Stop NoMemory) = ⊤
 IsLineOf fault (Stop BadArguments) = ⊥
 IsLineOf fault (Stop NotUtf8) = ⊥
@@ -35,6 +36,7 @@ AreChoicesOf words choices = code_choices_of words ≡ Some choices
 abbrev pub AreRefused : List Text → Failure → Type 0
 AreRefused words (Words line) = (code_choices_of words ≡ None) × (line.items ≡ fault_line (Linter words))
 AreRefused words (Config line) = ⊥
+AreRefused words (File line) = ⊥
 AreRefused words (Stop NoMemory) = ⊤
 AreRefused words (Stop BadArguments) = ⊥
 AreRefused words (Stop NotUtf8) = ⊥
@@ -66,6 +68,7 @@ pub record IsRefusedBeside (content : Text → Content) (request : Request) (lin
 abbrev pub IsUnsettled : (Text → Content) → ℕ → ℕ → Request → Failure → Type 0
 IsUnsettled content before now request (Config line) = IsRefusedFor content before now request.config line.items
 IsUnsettled content before now request (Words line) = IsRefusedBeside content request line.items
+IsUnsettled content before now request (File line) = ⊥
 IsUnsettled content before now request (Stop NoMemory) = ⊤
 IsUnsettled content before now request (Stop BadArguments) = ⊥
 IsUnsettled content before now request (Stop NotUtf8) = ⊥

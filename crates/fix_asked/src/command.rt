@@ -6,12 +6,12 @@ ghost use Rattle.fix_asked.specs.Failures.{line_of};
 ghost use Rattle.fix_words.specs.Asked.{asked_of};
 
 use crate::chosen::Chosen;
-use crate::failure::Failure;
+use crate::failure::{Failure, stopped};
 use crate::settled::{Settled, refused, settle};
 use checked_file::Status;
 use file_store::FileStore;
 use file_write::FileWriter;
-use fix_run::{Done, Mender, fix};
+use fix_run::{Done, Fixer, fix};
 use fix_words::{Asked, HELP, Request, read_asked};
 use squawk_run::Stop;
 use squawk_stream::{Sink, Source, write_all};
@@ -20,7 +20,7 @@ use std::alloc::Global;
 use text_pos::NoMemory;
 
 // A run over files, or over the input.
-fn fix_request<F: FileStore, W: FileWriter, S: Source, K: Sink, M: Mender + Chosen + Drop>(
+fn fix_request<F: FileStore, W: FileWriter, S: Source, K: Sink, M: Fixer + Chosen + Drop>(
     alloc: Global,
     request: &Request,
     files: &mut F,
@@ -56,11 +56,11 @@ fn fix_request<F: FileStore, W: FileWriter, S: Source, K: Sink, M: Mender + Chos
         Ok(settled) => settled,
         Err(failure) => return Err(failure),
     };
-    let mender = M::by_choices(choices.choices, request.with_unsafe);
+    let fixer = M::by_choices(choices.choices, request.with_unsafe);
     let patterns = &config.excluded_paths;
-    match fix(alloc, &mender, patterns, request, files, writer, src, out) {
+    match fix(alloc, &fixer, patterns, request, files, writer, src, out) {
         Ok(done) => Ok(done),
-        Err(stop) => Err(Failure::Stop(stop)),
+        Err(stop) => Err(stopped(stop)),
     }
 }
 
@@ -79,7 +79,7 @@ fn help<K: Sink>(alloc: Global, out: &mut K) -> Result<Done, Failure>
 }
 
 // All of a run but the lines on the error sink.
-fn work<F: FileStore, W: FileWriter, S: Source, K: Sink, M: Mender + Chosen + Drop>(
+fn work<F: FileStore, W: FileWriter, S: Source, K: Sink, M: Fixer + Chosen + Drop>(
     alloc: Global,
     words: &Words,
     files: &mut F,
@@ -131,7 +131,7 @@ fn say<E: Sink>(err: &mut E, lines: &[u8])
 /// Does what the words after the program's name ask for, of which the first is `fix`: reads the files that they name, or the input, makes
 /// the fixes that the classes allow, and prints the differences to `out`, or writes the files or the text that is made of the input. A line
 /// about each file of which nothing is made goes to `err`, or the one about a failure; a failure there changes nothing else.
-pub fn run<F: FileStore, W: FileWriter, S: Source, K: Sink, E: Sink, M: Mender + Chosen + Drop>(
+pub fn run<F: FileStore, W: FileWriter, S: Source, K: Sink, E: Sink, M: Fixer + Chosen + Drop>(
     alloc: Global,
     words: &Words,
     files: &mut F,

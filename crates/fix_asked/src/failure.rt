@@ -3,6 +3,7 @@ ghost use Rattle.std.specs.Prelude.{◌≡◌};
 ghost use Rattle.fix_asked.specs.Failures as spec;
 
 use config_file::LoadError;
+use fix_run::FixStop;
 use squawk_run::Stop;
 
 /// Why a run makes nothing, or stops.
@@ -14,6 +15,8 @@ pub enum Failure {
     Words(Vec<u8>),
     /// The configuration is refused. This line says why, with its line feed.
     Config(Vec<u8>),
+    /// The write of a file failed. This line names it, with its line feed.
+    File(Vec<u8>),
 }
 
 impl Failure {
@@ -24,6 +27,7 @@ impl Failure {
         match self {
             Failure::Stop(stop) => stop.code(),
             Failure::Words(_) | Failure::Config(_) => 2,
+            Failure::File(_) => 6,
         }
     }
 
@@ -33,12 +37,22 @@ impl Failure {
     {
         match self {
             Failure::Stop(stop) => stop.line().as_bytes(),
-            Failure::Words(line) | Failure::Config(line) => line.as_slice(),
+            Failure::Words(line) | Failure::Config(line) | Failure::File(line) => line.as_slice(),
         }
     }
 }
 
-// The failure of a run that has no configuration.
+/// The failure of a run that stops.
+pub(crate) fn stopped(stop: FixStop) -> Failure
+    ensures { result ≡ spec.failure_by stop }
+{
+    match stop {
+        FixStop::Any(stop) => Failure::Stop(stop),
+        FixStop::File(line) => Failure::File(line),
+    }
+}
+
+/// The failure of a run that has no configuration.
 pub(crate) fn failure_of(error: LoadError) -> Failure
     ensures { result ≡ spec.failure_of error }
 {

@@ -1,9 +1,10 @@
 -- What is made of a text.
-use Rattle.std.specs.Prelude.{◌≡◌, Bool}
+use Rattle.std.specs.Prelude.{◌≡◌, Bool, List}
 use Rattle.fix_asked.specs.Command.{AnswersBy}
-use Rattle.fix_run.specs.declared.mender.Made.{Made}
-use Rattle.fix_run.specs.declared.mender.Made.TheVariants.{Mended, Refused}
+use Rattle.fix_run.specs.declared.fixer.TextOutcome.{TextOutcome}
+use Rattle.fix_run.specs.declared.fixer.TextOutcome.TheVariants.{Fixed, Refused}
 use Rattle.fix_text.specs.Fixing.{FixedValue, IsFixedText}
+use Rattle.other_fix.specs.declared.other.OtherFix.{OtherFix}
 use Rattle.source_file.specs.declared.refusal.Refusal.TheVariants as refusal
 use Rattle.sql_token.specs.Token.{OpenAt, Text}
 use Rattle.sql_tree.specs.Statement.{IsSyntaxAt}
@@ -11,15 +12,16 @@ use Rattle.squawk_linter.specs.declared.linter.Linter.{Linter}
 use Rattle.squawk_words.specs.declared.choices.Choices.{Choices}
 
 -- The new text is reached from the old one by steps, each of which makes one fix that the classes allow, until no such fix is left: the safe
--- fixes, and the unsafe ones too where `wide` says so.
-pub record IsReached (wide : Bool) (linter : Linter) (old new : Text) : Type 0 where
+-- fixes, and the unsafe ones too where `wide` says so. The others are the fixes of the old text that change the same bytes as one that comes first.
+pub record IsReached (wide : Bool) (linter : Linter) (old new : Text) (others : List OtherFix) : Type 0 where
   pub fixed : FixedValue
   pub by_steps : IsFixedText old wide linter.rules linter.settings fixed
   pub text : new ≡ fixed.text
+  pub others_are : others ≡ fixed.others
 
 -- This comes of a text: the text that is reached from it, or where it can't be parsed.
-abbrev pub IsAnswerOf : Bool → Linter → Text → Made → Type 0
-IsAnswerOf wide linter text (Mended new) = IsReached wide linter text new
+abbrev pub IsAnswerOf : Bool → Linter → Text → TextOutcome → Type 0
+IsAnswerOf wide linter text (Fixed new others) = IsReached wide linter text new others.items
 IsAnswerOf wide linter text (Refused refusal.Missing) = ⊥
 IsAnswerOf wide linter text (Refused refusal.Unreadable) = ⊥
 IsAnswerOf wide linter text (Refused (refusal.NotUtf8 at)) = ⊥

@@ -5,7 +5,7 @@ ghost use Rattle.fix_asked.specs.Failures.{line_of};
 ghost use Rattle.fix_command.specs.Fixes.{fixes_by};
 ghost use Rattle.fix_words.specs.Asked.{asked_of};
 
-use crate::mender::FixLinter;
+use crate::fixer::FixLinter;
 use checked_file::Status;
 use file_store::FileStore;
 use file_write::FileWriter;

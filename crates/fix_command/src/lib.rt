@@ -4,8 +4,8 @@
 #![tactic(auto)]
 
 mod command;
-mod mender;
+mod fixer;
 
 pub use command::run;
 pub use fix_asked::Failure;
-pub use mender::FixLinter;
+pub use fixer::FixLinter;

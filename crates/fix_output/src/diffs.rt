@@ -2,13 +2,13 @@
 ghost use Rattle.std.specs.Prelude.{OnOk};
 ghost use Rattle.fix_output.specs.Differences as spec;
 
-use crate::file::{MendedFile, is_changed};
+use crate::file::{FixedFile, is_changed};
 use std::alloc::Global;
 use text_diff::push_diff;
 use text_pos::NoMemory;
 
 // Adds the difference of a file, if it is changed.
-fn push_if(to: &mut Vec<u8>, alloc: Global, file: &MendedFile) -> Result<(), NoMemory>
+fn push_if(to: &mut Vec<u8>, alloc: Global, file: &FixedFile) -> Result<(), NoMemory>
     ensures { OnOk result (spec.HasDiffIf (spec.is_changed file.now) file.now to.old.items to.new.items) }
 {
     if is_changed(file) {
@@ -25,7 +25,7 @@ fn push_if(to: &mut Vec<u8>, alloc: Global, file: &MendedFile) -> Result<(), NoM
 }
 
 /// Adds the differences of those files that are changed, one after another, in the unified format. The error comes when memory runs out.
-pub fn push_diffs(to: &mut Vec<u8>, alloc: Global, files: &[MendedFile]) -> Result<(), NoMemory>
+pub fn push_diffs(to: &mut Vec<u8>, alloc: Global, files: &[FixedFile]) -> Result<(), NoMemory>
     ensures { OnOk result (spec.HasDiffs files.now to.old.items to.new.items) }
 {
     for file in files {

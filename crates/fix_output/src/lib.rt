@@ -8,5 +8,5 @@ mod file;
 mod write;
 
 pub use diffs::push_diffs;
-pub use file::MendedFile;
-pub use write::write_changed;
+pub use file::FixedFile;
+pub use write::{WriteStop, write_changed};

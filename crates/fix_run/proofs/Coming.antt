@@ -1,18 +1,17 @@
 -- What came of a name, by how it came.
-use Rattle.std.proofs.Common.{◌≡◌, ◌≤◌, ◌^◌, ◌⊎◌, inl, inr, ap, arith, subst, sym, ℕ, List, [], Option, Some, None}
+use Rattle.std.proofs.Common.{◌≡◌, ◌^◌, inl, inr, subst, sym, ℕ, List, [], Option, Some, None}
 use Rattle.std.specs.Str.{IsUtf8}
 use Rattle.file_store.specs.Contents.{Content, IsBytes}
 use Rattle.file_store.specs.declared.store.FileError.{FileError}
 use Rattle.file_store.specs.declared.store.FileError.TheVariants as error
 use Rattle.file_store.specs.Refused.{MayBeLong, RefusedFits}
-use Rattle.fix_run.specs.declared.mend.Came.{Came}
-use Rattle.fix_run.specs.declared.mend.Came.TheVariants as came
-use Rattle.fix_run.specs.declared.mender.Made.TheVariants.{Mended, Refused}
+use Rattle.fix_run.specs.declared.outcome.FileOutcome.{FileOutcome}
+use Rattle.fix_run.specs.declared.outcome.FileOutcome.TheVariants as outcome
+use Rattle.fix_run.specs.declared.fixer.TextOutcome.TheVariants.{Fixed, Refused}
 use Rattle.fix_run.specs.Inputs.{input_content}
-use Rattle.fix_run.specs.Mending.{Answers, HasCome, IsNoText, IsOfBytes, IsOfError, IsOfStop, IsOfText, IsStoppedBy}
+use Rattle.fix_run.specs.Outcomes.{Answers, HasCome, IsNoText, IsOfBytes, IsOfError, IsOfStop, IsOfText, IsStoppedBy}
 use Rattle.gate_files.specs.Read.{IsUnread, IsUnreadBy}
 use Rattle.source_file.specs.declared.refusal.Refusal.{Refusal}
-use Rattle.source_file.specs.declared.refusal.Refusal.TheVariants as refusal
 use Rattle.squawk_run.proofs.Runs.{took_fits}
 use Rattle.squawk_run.specs.declared.stop.Stop.{Stop}
 use Rattle.squawk_run.specs.declared.stop.Stop.TheVariants.{BadArguments, NotUtf8, TooLong, ReadFault, WriteFault, NoMemory}
@@ -23,14 +22,14 @@ use Rattle.squawk_words.specs.Words.{Text}
 module _ (answers : Answers) (content : Content) (before now : ℕ) (name : Text) where
   -- ---- a text
 
-  text_came : (bytes : List ℕ) (c : Came) → IsBytes content bytes → IsUtf8 bytes → IsOfText answers name bytes c → HasCome answers content before now name c
-  text_came bytes (came.Mended file) held u (n, o, m) = record {
+  text_came : (bytes : List ℕ) (c : FileOutcome) → IsBytes content bytes → IsUtf8 bytes → IsOfText answers name bytes c → HasCome answers content before now name c
+  text_came bytes (outcome.Fixed file) held u (n, o, m) = record {
     named = n;
     held = subst (IsBytes content) (sym o) held;
     utf8 = subst IsUtf8 (sym o) u;
-    made = subst (λ (t : Text). answers t (Mended file.new)) (sym o) m;
+    made = subst (λ (t : Text). answers t (Fixed file.new file.others)) (sym o) m;
   }
-  text_came bytes (came.Unread v) held u (n, f, m) = (
+  text_came bytes (outcome.Unread v) held u (n, f, m) = (
     n,
     inr (record {
       held = subst (IsBytes content) (sym f) held;
@@ -39,12 +38,12 @@ module _ (answers : Answers) (content : Content) (before now : ℕ) (name : Text
     }),
   )
 
-  no_text : (bytes : List ℕ) (c : Came) → IsBytes content bytes → IsNoText name bytes c → HasCome answers content before now name c
-  no_text bytes (came.Mended file) held bad = absurd bad
-  no_text bytes (came.Unread v) held (at, n, r, bad) =
+  no_text : (bytes : List ℕ) (c : FileOutcome) → IsBytes content bytes → IsNoText name bytes c → HasCome answers content before now name c
+  no_text bytes (outcome.Fixed file) held bad = absurd bad
+  no_text bytes (outcome.Unread v) held (at, n, r, bad) =
       (n, inl (subst (λ (x : Refusal). IsUnread content before now v.front x) (sym r) (record { bytes = bytes; held = held; no_text = bad })))
 
-  pub read_came : (bytes : List ℕ) (c : Came) → IsBytes content bytes → IsOfBytes answers name bytes c → HasCome answers content before now name c
+  pub read_came : (bytes : List ℕ) (c : FileOutcome) → IsBytes content bytes → IsOfBytes answers name bytes c → HasCome answers content before now name c
   read_came bytes c held of = elim of [
     | inl t ↦ text_came bytes c held t.0 t.1
     | inr bad ↦ no_text bytes c held bad
@@ -58,9 +57,9 @@ module _ (answers : Answers) (content : Content) (before now : ℕ) (name : Text
   unread_by error.TooLong front r fits f by = subst (λ (x : Refusal). IsUnread content before now front x) (sym by) (fits, f)
   unread_by error.NoMemory front r fits f by = absurd by
 
-  pub error_came : (e : FileError) (c : Came) → RefusedFits e content before now → IsOfError name e c → HasCome answers content before now name c
-  error_came e (came.Mended file) fits of = absurd of
-  error_came e (came.Unread u) fits (n, f, by) = (n, inl (unread_by e u.front u.refusal fits f by))
+  pub error_came : (e : FileError) (c : FileOutcome) → RefusedFits e content before now → IsOfError name e c → HasCome answers content before now name c
+  error_came e (outcome.Fixed file) fits of = absurd of
+  error_came e (outcome.Unread u) fits (n, f, by) = (n, inl (unread_by e u.front u.refusal fits f by))
 
 -- ---- an input that was not read to its end
 
@@ -77,7 +76,7 @@ stopped_by left new before now BadArguments front r read cause f by = absurd by
 stopped_by left new before now NotUtf8 front r read cause f by = absurd by
 stopped_by left new before now WriteFault front r read cause f by = absurd by
 
-pub stop_came : (answers : Answers) (left new : Option (List ℕ)) (before now : ℕ) (name : Text) (stop : Stop) (c : Came) → ReadFor (Stopped stop) left new → SourceCause (Stopped stop) before now
+pub stop_came : (answers : Answers) (left new : Option (List ℕ)) (before now : ℕ) (name : Text) (stop : Stop) (c : FileOutcome) → ReadFor (Stopped stop) left new → SourceCause (Stopped stop) before now
     → IsOfStop name stop c → HasCome answers (input_content left) before now name c
-stop_came answers left new before now name stop (came.Mended file) read cause of = absurd of
-stop_came answers left new before now name stop (came.Unread u) read cause (n, f, by) = (n, inl (stopped_by left new before now stop u.front u.refusal read cause f by))
+stop_came answers left new before now name stop (outcome.Fixed file) read cause of = absurd of
+stop_came answers left new before now name stop (outcome.Unread u) read cause (n, f, by) = (n, inl (stopped_by left new before now stop u.front u.refusal read cause f by))

@@ -3,17 +3,16 @@ use Rattle.std.proofs.Common.{◌≤◌, subst, ℕ, Bool, true, false, List, []
 use Rattle.checked_file.specs.declared.status.Status.{Status}
 use Rattle.file_choice.specs.Choice.{chosen_of}
 use Rattle.file_store.specs.Contents.{Content, KeepsContents}
-use Rattle.fix_output.specs.declared.file.MendedFile.{MendedFile}
+use Rattle.fix_output.specs.declared.file.FixedFile.{FixedFile}
+use Rattle.fix_run.specs.declared.stop.FixStop.{FixStop}
 use Rattle.fix_run.specs.Giving.{Sinks}
 use Rattle.fix_run.specs.Inputs.{reads_input}
-use Rattle.fix_run.specs.Mending.{Answers}
+use Rattle.fix_run.specs.Outcomes.{Answers}
 use Rattle.fix_run.specs.Runs.{AllCame, AllCameBy, Early, FilesCame, HasFixed, HasStopped, Late}
 use Rattle.fix_run.proofs.Lists.{have_moved}
 use Rattle.fix_words.specs.declared.request.Request.{Request}
-use Rattle.gate_files.specs.declared.order.Order.TheVariants.{Given}
 use Rattle.gate_files.specs.declared.read.Unread.{Unread}
 use Rattle.gate_files.specs.Named.{AreNamed, StandFor}
-use Rattle.squawk_run.specs.declared.stop.Stop.{Stop}
 use Rattle.squawk_words.specs.Words.{Text}
 
 module _ (A : Answers) (content now : Text → Content) (before first last : ℕ) (left : Option (List ℕ)) (input input_now : ℕ) (patterns : List Text)
@@ -23,40 +22,40 @@ module _ (A : Answers) (content now : Text → Content) (before first last : ℕ
   named_moved (word ∷ words) names (front, rest, same, stand, more) =
       (front, rest, same, subst (λ (c : Content). StandFor c word front) (kept word) stand, named_moved words rest more)
 
-  files_moved : (words : List Text) (mended : List MendedFile) (unread : List Unread) → FilesCame A now first last patterns words mended unread
-      → FilesCame A content before last patterns words mended unread
-  files_moved words mended unread h = record {
+  files_moved : (words : List Text) (fixed : List FixedFile) (unread : List Unread) → FilesCame A now first last patterns words fixed unread
+      → FilesCame A content before last patterns words fixed unread
+  files_moved words fixed unread h = record {
     names = h.names;
     named = record { given = h.named.given; result = h.named.result; named = named_moved words h.named.given h.named.named; in_order = h.named.in_order; once = h.named.once };
-    come = have_moved A content now before last first (chosen_of patterns h.names) mended unread kept later h.come;
+    come = have_moved A content now before last first (chosen_of patterns h.names) fixed unread kept later h.come;
   }
 
-  by : (b : Bool) (words : List Text) (mended : List MendedFile) (unread : List Unread)
-      → AllCameBy b A (record { content = now; files_before = first; files_now = last; left = left; input_before = input; input_now = input_now }) patterns words mended unread
-      → AllCameBy b A (record { content = content; files_before = before; files_now = last; left = left; input_before = input; input_now = input_now }) patterns words mended unread
-  by true words mended unread h = h
-  by false words mended unread h = files_moved words mended unread h
+  by : (b : Bool) (words : List Text) (fixed : List FixedFile) (unread : List Unread)
+      → AllCameBy b A (record { content = now; files_before = first; files_now = last; left = left; input_before = input; input_now = input_now }) patterns words fixed unread
+      → AllCameBy b A (record { content = content; files_before = before; files_now = last; left = left; input_before = input; input_now = input_now }) patterns words fixed unread
+  by true words fixed unread h = h
+  by false words fixed unread h = files_moved words fixed unread h
 
-  came_moved : (words : List Text) (mended : List MendedFile) (unread : List Unread)
-      → AllCame A (record { content = now; files_before = first; files_now = last; left = left; input_before = input; input_now = input_now }) patterns words mended unread
-      → AllCame A (record { content = content; files_before = before; files_now = last; left = left; input_before = input; input_now = input_now }) patterns words mended unread
-  came_moved words mended unread h = by (reads_input words) words mended unread h
+  came_moved : (words : List Text) (fixed : List FixedFile) (unread : List Unread)
+      → AllCame A (record { content = now; files_before = first; files_now = last; left = left; input_before = input; input_now = input_now }) patterns words fixed unread
+      → AllCame A (record { content = content; files_before = before; files_now = last; left = left; input_before = input; input_now = input_now }) patterns words fixed unread
+  came_moved words fixed unread h = by (reads_input words) words fixed unread h
 
   -- what a run did that began later is what one did that began before
   pub fixed_moved : (request : Request) (old new : Sinks) (status : Status) (lines : List ℕ)
       → HasFixed A patterns request (record { content = now; files_before = first; files_now = last; left = left; input_before = input; input_now = input_now }) old new status lines
       → HasFixed A patterns request (record { content = content; files_before = before; files_now = last; left = left; input_before = input; input_now = input_now }) old new status lines
   fixed_moved request old new status lines h = record {
-    mended = h.mended;
+    fixed = h.fixed;
     unread = h.unread;
-    came = came_moved request.files h.mended h.unread h.came;
+    came = came_moved request.files h.fixed h.unread h.came;
     given = h.given;
     status_is = h.status_is;
     lines_are = h.lines_are;
   }
 
-  pub stopped_moved : (request : Request) (old new : Sinks) (stop : Stop)
+  pub stopped_moved : (request : Request) (old new : Sinks) (stop : FixStop)
       → HasStopped A patterns request (record { content = now; files_before = first; files_now = last; left = left; input_before = input; input_now = input_now }) old new stop
       → HasStopped A patterns request (record { content = content; files_before = before; files_now = last; left = left; input_before = input; input_now = input_now }) old new stop
   stopped_moved request old new stop (Early ran kept_out kept_files) = Early ran kept_out kept_files
-  stopped_moved request old new stop (Late mended unread came cut) = Late mended unread (came_moved request.files mended unread came) cut
+  stopped_moved request old new stop (Late fixed unread came cut) = Late fixed unread (came_moved request.files fixed unread came) cut

@@ -1,5 +1,5 @@
 -- Where the front of a file ends that is UTF-8.
-use Rattle.std.proofs.Common.{◌≡◌, ◌∙◌, ◌<◌, ◌^◌, ap, arith, subst, sym, ℕ, List, [], length}
+use Rattle.std.proofs.Common.{◌≡◌, ◌∙◌, ◌<◌, ◌^◌, arith, subst, sym, ℕ, List, [], length}
 use Rattle.std.proofs.lemmas.List.{length-take-le}
 use Rattle.std.proofs.lemmas.Str.{IsCharBoundary-end, utf8_valid_len_le}
 use Rattle.std.specs.Str.{IsCharBoundary}

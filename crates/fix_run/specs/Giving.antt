@@ -1,5 +1,5 @@
 -- What is printed or written, and the status.
-use Rattle.std.specs.Prelude.{◌&&◌, ◌≡◌, ℕ, Bool, true, false, not, List, [], ◌∷◌, flat_map, fold, if◌then◌else◌}
+use Rattle.std.specs.Prelude.{◌&&◌, ◌≡◌, ℕ, Bool, not, List, [], ◌∷◌, ◌++◌, codes, flat_map, fold, if◌then◌else◌}
 use Rattle.std.specs.declared.option.Option.{Option}
 use Rattle.std.specs.Io.KnownBytes.{Appends, Keeps}
 use Rattle.std.specs.List.{list_any}
@@ -8,15 +8,21 @@ use Rattle.checked_file.specs.declared.status.Status.TheVariants.{Clean, Found}
 use Rattle.checked_file.specs.Answers.{refused_status}
 use Rattle.checked_file.specs.Statuses.{worse}
 use Rattle.file_store.specs.Contents.{Content, KeepsContents}
-use Rattle.fix_output.specs.declared.file.MendedFile.{MendedFile}
+use Rattle.fix_output.specs.declared.file.FixedFile.{FixedFile}
 use Rattle.fix_output.specs.Differences.{HasDiffs, is_changed}
-use Rattle.fix_output.specs.Writing.{AreWritten, SomeAreWritten}
+use Rattle.fix_output.specs.Writing.{AreWritten, IsWrittenUpTo, SomeAreWritten}
 use Rattle.fix_run.specs.declared.give.Way.{Way}
 use Rattle.fix_run.specs.declared.give.Way.TheVariants.{Print, Input, Files}
+use Rattle.fix_run.specs.declared.stop.FixStop.{FixStop}
+use Rattle.fix_run.specs.declared.stop.FixStop.TheVariants.{Any, File}
 use Rattle.fix_run.specs.Inputs.{reads_input}
+use Rattle.fix_run.specs.Stops.{IsAny, failed_line}
 use Rattle.fix_words.specs.declared.request.Request.{Request}
+use Rattle.lint_base.specs.Rules as rules
+use Rattle.source_file.specs.File.{FileValue}
 use Rattle.gate_files.specs.declared.read.Unread.{Unread}
-use Rattle.report_lines.specs.Concise.{concise}
+use Rattle.other_fix.specs.declared.other.OtherFix.{OtherFix}
+use Rattle.report_lines.specs.Concise.{concise, place_part}
 use Rattle.report_lines.specs.declared.concise.Order.TheVariants.{RuleFirst}
 use Rattle.source_file.specs.declared.level.Level.TheVariants.{Error}
 use Rattle.source_file.specs.Refusals.{message_of, name_of, place_of}
@@ -26,14 +32,32 @@ use Rattle.squawk_stream.specs.Faults.{Rose}
 use Rattle.squawk_stream.specs.Parts.{AppendsPart}
 use Rattle.squawk_words.specs.Words.{Text}
 
+-- ---- the notes about fixes that are not made
+
+-- `note[prefer-identity]: the fix of prefer-bigint-over-int changes the same part and comes first`
+abbrev pub note_part : OtherFix → List ℕ
+note_part other =
+    codes "note[" ++ rules.name_of other.rule ++ codes "]: the fix of " ++ rules.name_of other.first ++ codes " changes the same part and comes first\n"
+
+-- the same behind its place, as in `migrations/2.sql:1:20: `
+abbrev pub note_of : FileValue → OtherFix → List ℕ
+note_of file other = place_part file other.at ++ note_part other
+
+-- those of a file, by the text that was read
+abbrev pub notes_of : FixedFile → List ℕ
+notes_of file = flat_map (note_of (record { name = file.name; text = file.old })) file.others.items
+
 -- ---- the lines about files of which nothing is made
 
 -- `migrations/2.sql:3:1: error[syntax-error]: the statement that begins here can't be read`
 abbrev pub line_of : Unread → List ℕ
 line_of u = concise RuleFirst (record { name = u.name; text = u.front }) (place_of u.refusal) Error (name_of u.refusal) (message_of u.refusal)
 
-abbrev pub lines_of : List Unread → List ℕ
-lines_of all = flat_map line_of all
+-- ---- both
+
+-- first the notes about all files of which something is made, in their order, and then the lines about the others, in theirs
+abbrev pub lines_of : List FixedFile → List Unread → List ℕ
+lines_of files all = flat_map notes_of files ++ flat_map line_of all
 
 -- ---- the status
 
@@ -42,12 +66,12 @@ abbrev pub unread_status : List Unread → Status
 unread_status all = fold (λ s u. worse s (refused_status u.refusal)) Clean all
 
 -- something is found where a file is changed and only its difference is printed
-abbrev pub mended_status : Bool → List MendedFile → Status
-mended_status is_written files = if not is_written && list_any is_changed files then Found else Clean
+abbrev pub fixed_status : Bool → List FixedFile → Status
+fixed_status is_written files = if not is_written && list_any is_changed files then Found else Clean
 
 -- the greatest status of all files, by whether what is made is written
-abbrev pub status_of : Bool → List MendedFile → List Unread → Status
-status_of is_written files all = worse (mended_status is_written files) (unread_status all)
+abbrev pub status_of : Bool → List FixedFile → List Unread → Status
+status_of is_written files all = worse (fixed_status is_written files) (unread_status all)
 
 -- ---- what is given
 
@@ -56,12 +80,12 @@ abbrev pub way_of : Request → Way
 way_of request = if not request.write then Print else if reads_input request.files then Input else Files
 
 -- the text that is made of the first of these, which the input is
-abbrev pub first_text : List MendedFile → Text
+abbrev pub first_text : List FixedFile → Text
 first_text [] = []
 first_text (file ∷ files) = file.new
 
 -- the differences of these files, one after another
-abbrev pub AreDiffs : List MendedFile → List ℕ → Type 0
+abbrev pub AreDiffs : List FixedFile → List ℕ → Type 0
 AreDiffs files bytes = HasDiffs files [] bytes
 
 -- what a sink holds and what the names of a writer hold, as far as that is known, and how often calls on them failed
@@ -83,11 +107,11 @@ StopsWriting WriteFault bytes old new before now = AppendsPart old new bytes × 
 StopsWriting NoMemory bytes old new before now = Keeps old new
 
 -- the differences of these files are such bytes
-abbrev pub HasDiffsThat : List MendedFile → (List ℕ → Type 0) → Type 0
+abbrev pub HasDiffsThat : List FixedFile → (List ℕ → Type 0) → Type 0
 HasDiffsThat files P = (bytes : List ℕ) × AreDiffs files bytes × P bytes
 
 -- why the differences were not printed: a write failed, and a front part of them was; or memory ran out, and nothing was
-abbrev pub StopsDiffs : Stop → List MendedFile → Option (List ℕ) → Option (List ℕ) → ℕ → ℕ → Type 0
+abbrev pub StopsDiffs : Stop → List FixedFile → Option (List ℕ) → Option (List ℕ) → ℕ → ℕ → Type 0
 StopsDiffs BadArguments files old new before now = ⊥
 StopsDiffs NotUtf8 files old new before now = ⊥
 StopsDiffs TooLong files old new before now = ⊥
@@ -97,25 +121,33 @@ StopsDiffs NoMemory files old new before now = Keeps old new
 
 -- ---- files are written
 
--- why not all files were written: a write failed, or memory ran out, and the first of them were
-abbrev pub StopsFiles : Stop → List MendedFile → (Text → Content) → (Text → Content) → ℕ → ℕ → Type 0
-StopsFiles BadArguments files old new before now = ⊥
-StopsFiles NotUtf8 files old new before now = ⊥
-StopsFiles TooLong files old new before now = ⊥
-StopsFiles ReadFault files old new before now = ⊥
-StopsFiles WriteFault files old new before now = SomeAreWritten files old new × Rose before now
-StopsFiles NoMemory files old new before now = SomeAreWritten files old new
+-- the line names this one of the files, which was not written; those before it were
+pub record IsFailedFile (files : List FixedFile) (line : List ℕ) (old new : Text → Content) : Type 0 where
+  pub number : ℕ
+  pub file : FixedFile
+  pub up_to : IsWrittenUpTo files number file old new
+  pub line_is : line ≡ failed_line file.name
+
+-- why not all files were written: the write of one failed, or memory ran out, and the first of them were
+abbrev pub StopsFiles : FixStop → List FixedFile → (Text → Content) → (Text → Content) → ℕ → ℕ → Type 0
+StopsFiles (File line) files old new before now = IsFailedFile files line.items old new × Rose before now
+StopsFiles (Any BadArguments) files old new before now = ⊥
+StopsFiles (Any NotUtf8) files old new before now = ⊥
+StopsFiles (Any TooLong) files old new before now = ⊥
+StopsFiles (Any ReadFault) files old new before now = ⊥
+StopsFiles (Any WriteFault) files old new before now = ⊥
+StopsFiles (Any NoMemory) files old new before now = SomeAreWritten files old new
 
 -- ---- both
 
 -- What became of these files. Where something is printed no file is written, and the other way round.
-abbrev pub IsGiven : Way → List MendedFile → Sinks → Sinks → Type 0
+abbrev pub IsGiven : Way → List FixedFile → Sinks → Sinks → Type 0
 IsGiven Print files old new = HasDiffsThat files (Appends old.held new.held) × KeepsContents old.written new.written
 IsGiven Input files old new = Appends old.held new.held (first_text files) × KeepsContents old.written new.written
 IsGiven Files files old new = AreWritten files old.written new.written × Keeps old.held new.held
 
 -- the same where it stopped
-abbrev pub IsCut : Way → List MendedFile → Sinks → Sinks → Stop → Type 0
-IsCut Print files old new stop = StopsDiffs stop files old.held new.held old.faults new.faults × KeepsContents old.written new.written
-IsCut Input files old new stop = StopsWriting stop (first_text files) old.held new.held old.faults new.faults × KeepsContents old.written new.written
+abbrev pub IsCut : Way → List FixedFile → Sinks → Sinks → FixStop → Type 0
+IsCut Print files old new stop = IsAny (λ s. StopsDiffs s files old.held new.held old.faults new.faults) stop × KeepsContents old.written new.written
+IsCut Input files old new stop = IsAny (λ s. StopsWriting s (first_text files) old.held new.held old.faults new.faults) stop × KeepsContents old.written new.written
 IsCut Files files old new stop = StopsFiles stop files old.written new.written old.write_faults new.write_faults × Keeps old.held new.held

@@ -1,4 +1,5 @@
 pub mod Inputs
-pub mod Mending
+pub mod Outcomes
+pub mod Stops
 pub mod Giving
 pub mod Runs

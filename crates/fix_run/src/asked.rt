@@ -1,13 +1,13 @@
 //! What comes of the files that words stand for, or of the input.
 ghost use Rattle.std.specs.Prelude.{◌≡◌, All, IfOk};
-ghost use Rattle.fix_run.specs.Mending as spec;
+ghost use Rattle.fix_run.specs.Outcomes as spec;
 ghost use Rattle.fix_run.specs.Inputs.{input_content, input_name, reads_input};
 ghost use Rattle.fix_run.specs.Runs.{AllCame, FilesCame, InputCame};
 ghost use Rattle.squawk_run.specs.Stops.{IsReadStop};
 
-use crate::files::{Files, keep, mend_files, no_files};
-use crate::mend::{Came, of_bytes, unread};
-use crate::mender::Mender;
+use crate::files::{Files, fix_files, keep, no_files};
+use crate::fixer::Fixer;
+use crate::outcome::{FileOutcome, of_bytes, unread};
 use file_choice::chosen;
 use file_store::FileStore;
 use gate_files::{Order, named_files};
@@ -47,7 +47,7 @@ fn refusal_of(stop: Stop) -> Result<Refusal, NoMemory>
 }
 
 // What comes of an input that was not read to its end.
-fn of_stop(alloc: Global, stop: Stop) -> Result<Came, NoMemory>
+fn of_stop(alloc: Global, stop: Stop) -> Result<FileOutcome, NoMemory>
     requires { IsReadStop stop }
     ensures came { IfOk result (spec.IsOfStop input_name stop) }
     ensures sound { IfOk result spec.IsSoundCame }
@@ -57,61 +57,59 @@ fn of_stop(alloc: Global, stop: Stop) -> Result<Came, NoMemory>
 }
 
 // What comes of the input.
-fn input_came<S: Source, M: Mender>(
+fn input_came<S: Source, M: Fixer>(
     alloc: Global,
-    mender: &M,
+    fixer: &M,
     src: &mut S,
-) -> Result<Came, NoMemory>
-    ensures came { IfOk result (spec.HasCome (M.answers mender.now) (input_content (S.left src.old)) (S.faults src.old) (S.faults src.new) input_name) }
+) -> Result<FileOutcome, NoMemory>
+    ensures came { IfOk result (spec.HasCome (M.answers fixer.now) (input_content (S.left src.old)) (S.faults src.old) (S.faults src.new) input_name) }
     ensures sound { IfOk result spec.IsSoundCame }
 {
     match read_input(alloc, src) {
-        Ok(bytes) => of_bytes(alloc, mender, NAME, bytes.as_slice()),
+        Ok(bytes) => of_bytes(alloc, fixer, NAME, bytes.as_slice()),
         Err(stop) => of_stop(alloc, stop),
     }
 }
 
 // What comes of the input alone.
-fn mend_input<S: Source, M: Mender>(
-    alloc: Global,
-    mender: &M,
-    src: &mut S,
-) -> Result<Files, NoMemory>
-    ensures come { IfOk result (λ all. InputCame (M.answers mender.now) (S.left src.old) (S.faults src.old) (S.faults src.new) all.mended.items all.unread.items) }
+fn fix_input<S: Source, M: Fixer>(alloc: Global, fixer: &M, src: &mut S) -> Result<Files, NoMemory>
+    ensures come { IfOk result (λ all. InputCame (M.answers fixer.now) (S.left src.old) (S.faults src.old) (S.faults src.new) all.fixed.items all.unread.items) }
     ensures sound { IfOk result (λ all. All spec.IsSound all.unread.items) }
+    ensures sound_files { IfOk result (λ all. All spec.IsSoundFile all.fixed.items) }
 {
-    let came = input_came(alloc, mender, src)?;
+    let came = input_came(alloc, fixer, src)?;
     let mut all = no_files(alloc);
     keep(&mut all, came)?;
     Ok(all)
 }
 
 // What comes of the files that words stand for and no pattern leaves out.
-fn mend_named<F: FileStore, M: Mender>(
+fn fix_named<F: FileStore, M: Fixer>(
     alloc: Global,
-    mender: &M,
+    fixer: &M,
     files: &mut F,
     patterns: &Words,
     words: &Words,
 ) -> Result<Files, NoMemory>
-    ensures come { IfOk result (λ all. FilesCame (M.answers mender.now) (F.content files.old) (F.faults files.old) (F.faults files.new) patterns.now words.now all.mended.items all.unread.items) }
+    ensures come { IfOk result (λ all. FilesCame (M.answers fixer.now) (F.content files.old) (F.faults files.old) (F.faults files.new) patterns.now words.now all.fixed.items all.unread.items) }
     ensures sound { IfOk result (λ all. All spec.IsSound all.unread.items) }
+    ensures sound_files { IfOk result (λ all. All spec.IsSoundFile all.fixed.items) }
 {
     let named = named_files(alloc, files, Order::Given, words)?;
     let names = chosen(alloc, patterns, &named)?;
-    mend_files(alloc, mender, files, &names)
+    fix_files(alloc, fixer, files, &names)
 }
 
 /// What comes of the files that words stand for, or of the input. The error comes when memory runs out.
-pub(crate) fn mend_asked<F: FileStore, S: Source, M: Mender>(
+pub(crate) fn fix_requested<F: FileStore, S: Source, M: Fixer>(
     alloc: Global,
-    mender: &M,
+    fixer: &M,
     patterns: &Words,
     words: &Words,
     files: &mut F,
     src: &mut S,
 ) -> Result<Files, NoMemory>
-    ensures come { IfOk result (λ all. AllCame (M.answers mender.now)
+    ensures come { IfOk result (λ all. AllCame (M.answers fixer.now)
         (record {
           content = F.content files.old;
           files_before = F.faults files.old;
@@ -120,12 +118,13 @@ pub(crate) fn mend_asked<F: FileStore, S: Source, M: Mender>(
           input_before = S.faults src.old;
           input_now = S.faults src.new;
         })
-        patterns.now words.now all.mended.items all.unread.items) }
+        patterns.now words.now all.fixed.items all.unread.items) }
     ensures sound { IfOk result (λ all. All spec.IsSound all.unread.items) }
+    ensures sound_files { IfOk result (λ all. All spec.IsSoundFile all.fixed.items) }
 {
     if reads_input(words) {
-        mend_input(alloc, mender, src)
+        fix_input(alloc, fixer, src)
     } else {
-        mend_named(alloc, mender, files, patterns, words)
+        fix_named(alloc, fixer, files, patterns, words)
     }
 }

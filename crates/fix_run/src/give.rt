@@ -3,10 +3,12 @@ ghost use Rattle.std.specs.Prelude.{◌≡◌, IfErr, IfOk, OnOk};
 ghost use Rattle.std.specs.Io.KnownBytes.{Appends};
 ghost use Rattle.fix_output.specs.Writing.{AreWritten};
 ghost use Rattle.fix_run.specs.Giving as spec;
+ghost use Rattle.fix_run.specs.Stops.{IsAny};
 
 use crate::asked::reads_input;
-use file_write::{FileWriter, WriteError};
-use fix_output::{MendedFile, push_diffs, write_changed};
+use crate::stop::{FixStop, failed_at};
+use file_write::FileWriter;
+use fix_output::{FixedFile, WriteStop, push_diffs, write_changed};
 use fix_words::Request;
 use squawk_run::Stop;
 use squawk_stream::{Sink, write_all};
@@ -38,7 +40,7 @@ pub(crate) fn way_of(request: &Request) -> Way
 }
 
 // The text that is made of the first of these.
-fn first_text(files: &[MendedFile]) -> &str
+fn first_text(files: &[FixedFile]) -> &str
     ensures { result.now ≡ spec.first_text files.entry.now }
 {
     match files.first() {
@@ -48,7 +50,7 @@ fn first_text(files: &[MendedFile]) -> &str
 }
 
 // The differences of files.
-fn diffs(alloc: Global, files: &[MendedFile]) -> Result<Vec<u8>, NoMemory>
+fn diffs(alloc: Global, files: &[FixedFile]) -> Result<Vec<u8>, NoMemory>
     ensures { IfOk result (λ bytes. spec.AreDiffs files.now bytes.items) }
 {
     let mut bytes = Vec::new(alloc);
@@ -57,40 +59,40 @@ fn diffs(alloc: Global, files: &[MendedFile]) -> Result<Vec<u8>, NoMemory>
 }
 
 // Writes bytes to a sink.
-fn print_bytes<K: Sink>(bytes: &[u8], out: &mut K) -> Result<(), Stop>
+fn print_bytes<K: Sink>(bytes: &[u8], out: &mut K) -> Result<(), FixStop>
     ensures whole { OnOk result (Appends (K.held out.old) (K.held out.new) bytes.now) }
-    ensures stop { IfErr result (λ stop. spec.StopsWriting stop bytes.now (K.held out.old) (K.held out.new) (K.faults out.old) (K.faults out.new)) }
+    ensures stop { IfErr result (IsAny (λ s. spec.StopsWriting s bytes.now (K.held out.old) (K.held out.new) (K.faults out.old) (K.faults out.new))) }
 {
     match write_all(out, bytes) {
         Ok(()) => Ok(()),
-        Err(_) => Err(Stop::WriteFault),
+        Err(_) => Err(FixStop::Any(Stop::WriteFault)),
     }
 }
 
 // Prints the differences of files.
-fn print_diffs<K: Sink>(alloc: Global, files: &[MendedFile], out: &mut K) -> Result<(), Stop>
+fn print_diffs<K: Sink>(alloc: Global, files: &[FixedFile], out: &mut K) -> Result<(), FixStop>
     ensures whole { OnOk result (spec.HasDiffsThat files.now (Appends (K.held out.old) (K.held out.new))) }
-    ensures stop { IfErr result (λ stop. spec.StopsDiffs stop files.now (K.held out.old) (K.held out.new) (K.faults out.old) (K.faults out.new)) }
+    ensures stop { IfErr result (IsAny (λ s. spec.StopsDiffs s files.now (K.held out.old) (K.held out.new) (K.faults out.old) (K.faults out.new))) }
 {
     match diffs(alloc, files) {
         Ok(bytes) => print_bytes(bytes.as_slice(), out),
-        Err(NoMemory) => Err(Stop::NoMemory),
+        Err(NoMemory) => Err(FixStop::Any(Stop::NoMemory)),
     }
 }
 
 // Writes files.
 fn write_files<W: FileWriter>(
     alloc: Global,
-    files: &[MendedFile],
+    files: &[FixedFile],
     writer: &mut W,
-) -> Result<(), Stop>
+) -> Result<(), FixStop>
     ensures whole { OnOk result (AreWritten files.now (W.content writer.old) (W.content writer.new)) }
     ensures stop { IfErr result (λ stop. spec.StopsFiles stop files.now (W.content writer.old) (W.content writer.new) (W.faults writer.old) (W.faults writer.new)) }
 {
     match write_changed(alloc, writer, files) {
         Ok(()) => Ok(()),
-        Err(WriteError::Fault) => Err(Stop::WriteFault),
-        Err(WriteError::NoMemory) => Err(Stop::NoMemory),
+        Err(WriteStop::Fault(number)) => Err(failed_at(alloc, files, number)),
+        Err(WriteStop::NoMemory) => Err(FixStop::Any(Stop::NoMemory)),
     }
 }
 
@@ -98,10 +100,10 @@ fn write_files<W: FileWriter>(
 pub(crate) fn give<W: FileWriter, K: Sink>(
     alloc: Global,
     way: Way,
-    files: &[MendedFile],
+    files: &[FixedFile],
     writer: &mut W,
     out: &mut K,
-) -> Result<(), Stop>
+) -> Result<(), FixStop>
     ensures given { OnOk result (spec.IsGiven way files.now
         (record { held = K.held out.old; faults = K.faults out.old; written = W.content writer.old; write_faults = W.faults writer.old })
         (record { held = K.held out.new; faults = K.faults out.new; written = W.content writer.new; write_faults = W.faults writer.new })) }

@@ -1,17 +1,19 @@
 //! `fix` over files, or over an input: what is made of each, and what is printed or written of it.
 //!
-//! What fixes a text is a [`Mender`], so that nothing here depends on the linter. `specs/Mending.antt` says what comes of a file, `Giving`
+//! What fixes a text is a [`Fixer`], so that nothing here depends on the linter. `specs/Outcomes.antt` says what comes of a file, `Giving`
 //! what is printed or written, and `Runs` what a run does.
 #![tactic(auto)]
 
 mod asked;
 mod files;
+mod fixer;
 mod give;
 mod lines;
-mod mend;
-mod mender;
+mod outcome;
 mod run;
 mod status;
+mod stop;
 
-pub use mender::{Made, Mender};
+pub use fixer::{Fixer, TextOutcome};
 pub use run::{Done, fix};
+pub use stop::FixStop;

@@ -1,15 +1,16 @@
 //! A run: what is made of the files or of the input, and what is printed or written of it.
 ghost use Rattle.std.specs.Prelude.{◌≡◌, All, IfErr, IfOk};
 ghost use Rattle.fix_run.specs.Giving.{lines_of};
-ghost use Rattle.fix_run.specs.Mending.{IsSound};
+ghost use Rattle.fix_run.specs.Outcomes.{IsSound};
 ghost use Rattle.fix_run.specs.Runs.{AllCame, HasFixed, HasStopped};
 
-use crate::asked::mend_asked;
+use crate::asked::fix_requested;
 use crate::files::Files;
+use crate::fixer::Fixer;
 use crate::give::{give, way_of};
 use crate::lines::lines_of;
-use crate::mender::Mender;
 use crate::status::status_of;
+use crate::stop::FixStop;
 use checked_file::Status;
 use file_store::FileStore;
 use file_write::FileWriter;
@@ -25,11 +26,11 @@ use text_pos::NoMemory;
 pub struct Done {
     /// The greatest status of the files.
     pub status: Status,
-    /// The lines about files of which nothing is made.
+    /// The notes about fixes that are not made, and the lines about files of which nothing is made.
     pub lines: Vec<u8>,
 }
 
-// What comes of all files, and the lines about those of which nothing is made.
+// What comes of all files, and the lines about them.
 #[derive(Drop)]
 struct Plan {
     files: Files,
@@ -37,15 +38,15 @@ struct Plan {
 }
 
 // What is to be printed or written.
-fn planned<F: FileStore, S: Source, M: Mender>(
+fn planned<F: FileStore, S: Source, M: Fixer>(
     alloc: Global,
-    mender: &M,
+    fixer: &M,
     patterns: &Words,
     request: &Request,
     files: &mut F,
     src: &mut S,
 ) -> Result<Plan, NoMemory>
-    ensures come { IfOk result (λ plan. AllCame (M.answers mender.now)
+    ensures come { IfOk result (λ plan. AllCame (M.answers fixer.now)
         (record {
           content = F.content files.old;
           files_before = F.faults files.old;
@@ -54,11 +55,11 @@ fn planned<F: FileStore, S: Source, M: Mender>(
           input_before = S.faults src.old;
           input_now = S.faults src.new;
         })
-        patterns.now request.now.files plan.files.mended.items plan.files.unread.items) }
-    ensures lines { IfOk result (λ plan. plan.lines.items ≡ lines_of plan.files.unread.items) }
+        patterns.now request.now.files plan.files.fixed.items plan.files.unread.items) }
+    ensures lines { IfOk result (λ plan. plan.lines.items ≡ lines_of plan.files.fixed.items plan.files.unread.items) }
 {
-    let all = mend_asked(alloc, mender, patterns, &request.files, files, src)?;
-    let lines = lines_of(alloc, all.unread.as_slice())?;
+    let all = fix_requested(alloc, fixer, patterns, &request.files, files, src)?;
+    let lines = lines_of(alloc, all.fixed.as_slice(), all.unread.as_slice())?;
     Ok(Plan { files: all, lines })
 }
 
@@ -66,19 +67,18 @@ fn planned<F: FileStore, S: Source, M: Mender>(
 /// the text that is made of the input. Of the files those are left out whose names match one of the patterns, and one that is named twice
 /// counts at its first place.
 ///
-/// A file that can't be read or parsed costs no other its fixes. No file is written, and nothing is printed, before all is made. The error is
-/// `WriteFault` or `NoMemory`.
-pub fn fix<F: FileStore, W: FileWriter, S: Source, K: Sink, M: Mender>(
+/// A file that can't be read or parsed costs no other its fixes. No file is written, and nothing is printed, before all is made.
+pub fn fix<F: FileStore, W: FileWriter, S: Source, K: Sink, M: Fixer>(
     alloc: Global,
-    mender: &M,
+    fixer: &M,
     patterns: &Words,
     request: &Request,
     files: &mut F,
     writer: &mut W,
     src: &mut S,
     out: &mut K,
-) -> Result<Done, Stop>
-    ensures done { IfOk result (λ done. HasFixed (M.answers mender.now) patterns.now request.now
+) -> Result<Done, FixStop>
+    ensures done { IfOk result (λ done. HasFixed (M.answers fixer.now) patterns.now request.now
         (record {
           content = F.content files.old;
           files_before = F.faults files.old;
@@ -90,7 +90,7 @@ pub fn fix<F: FileStore, W: FileWriter, S: Source, K: Sink, M: Mender>(
         (record { held = K.held out.old; faults = K.faults out.old; written = W.content writer.old; write_faults = W.faults writer.old })
         (record { held = K.held out.new; faults = K.faults out.new; written = W.content writer.new; write_faults = W.faults writer.new })
         done.status done.lines.items) }
-    ensures stopped { IfErr result (HasStopped (M.answers mender.now) patterns.now request.now
+    ensures stopped { IfErr result (HasStopped (M.answers fixer.now) patterns.now request.now
         (record {
           content = F.content files.old;
           files_before = F.faults files.old;
@@ -102,13 +102,13 @@ pub fn fix<F: FileStore, W: FileWriter, S: Source, K: Sink, M: Mender>(
         (record { held = K.held out.old; faults = K.faults out.old; written = W.content writer.old; write_faults = W.faults writer.old })
         (record { held = K.held out.new; faults = K.faults out.new; written = W.content writer.new; write_faults = W.faults writer.new })) }
 {
-    let plan = match planned(alloc, mender, patterns, request, files, src) {
+    let plan = match planned(alloc, fixer, patterns, request, files, src) {
         Ok(plan) => plan,
-        Err(NoMemory) => return Err(Stop::NoMemory),
+        Err(NoMemory) => return Err(FixStop::Any(Stop::NoMemory)),
     };
-    let mended = plan.files.mended.as_slice();
-    let status = status_of(request.write, mended, plan.files.unread.as_slice());
-    match give(alloc, way_of(request), mended, writer, out) {
+    let fixed = plan.files.fixed.as_slice();
+    let status = status_of(request.write, fixed, plan.files.unread.as_slice());
+    match give(alloc, way_of(request), fixed, writer, out) {
         Ok(()) => Ok(Done {
             status,
             lines: plan.lines,

@@ -6,19 +6,19 @@ ghost use Rattle.fix_output.specs.Differences.{is_changed};
 ghost use Rattle.fix_run.specs.Giving as spec;
 
 use checked_file::{Answer, Status};
-use fix_output::MendedFile;
+use fix_output::FixedFile;
 use gate_files::Unread;
 use source_file::Refusal;
 
 // Whether a text is another one now.
-fn is_changed(file: &MendedFile) -> bool
+fn is_changed(file: &FixedFile) -> bool
     ensures { result ≡ is_changed file.now }
 {
     file.old.as_str() != file.new.as_str()
 }
 
 // Whether one of these is changed.
-fn any_changed(files: &[MendedFile]) -> bool
+fn any_changed(files: &[FixedFile]) -> bool
     ensures { result ≡ list_any is_changed files.now }
 {
     files.iter().any(|file| is_changed(file))
@@ -43,8 +43,8 @@ fn unread_status(all: &[Unread]) -> Status
 }
 
 // The status of the files that were read.
-fn mended_status(is_written: bool, files: &[MendedFile]) -> Status
-    ensures { result ≡ spec.mended_status is_written files.now }
+fn fixed_status(is_written: bool, files: &[FixedFile]) -> Status
+    ensures { result ≡ spec.fixed_status is_written files.now }
 {
     if !is_written && any_changed(files) {
         Status::Found
@@ -54,8 +54,8 @@ fn mended_status(is_written: bool, files: &[MendedFile]) -> Status
 }
 
 /// The status of a run, by whether it writes what it makes.
-pub(crate) fn status_of(is_written: bool, files: &[MendedFile], all: &[Unread]) -> Status
+pub(crate) fn status_of(is_written: bool, files: &[FixedFile], all: &[Unread]) -> Status
     ensures { result ≡ spec.status_of is_written files.now all.now }
 {
-    mended_status(is_written, files).worse(unread_status(all))
+    fixed_status(is_written, files).worse(unread_status(all))
 }

@@ -1,3 +1,4 @@
 pub mod Fitting
 pub mod Choosing
+pub mod Beside
 pub mod Stages

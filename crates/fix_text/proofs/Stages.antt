@@ -26,6 +26,8 @@ use Rattle.squawk_linter.specs.Reports.{cleared}
 use Rattle.fix_text.proofs.Fitting.{OfFitting, both_true, each_one, is_short, joined, of_first}
 use Rattle.fix_text.specs.Allowed.{allowed, is_allowed}
 use Rattle.fix_text.specs.Fixing.{IsFixed, IsLook, IsStep, Reached}
+use Rattle.fix_text.specs.Others.{others_of}
+use Rattle.other_fix.specs.declared.other.OtherFix.{OtherFix}
 
 and_again : (a b : Bool) → ((a && b) && b) ≡ (a && b)
 and_again true true = refl
@@ -96,11 +98,11 @@ module _ (file : Tree) (wide : Bool) (rules : Rules) (settings : LinterSettings)
         few = omega (arith, less, few, load_same);
       }
 
-  pub ended : (made : Text) (applied : ℕ) (left : List Violation) → Stage file wide rules settings applied made → IsLook wide rules set made left None →
-      IsFixed file wide rules settings (record { text = made; applied = applied; left = left })
-  ended made applied left stage found =
+  pub ended : (made : Text) (applied : ℕ) (left : List Violation) (others : List OtherFix) → Stage file wide rules settings applied made → IsLook wide rules set made left None →
+      others ≡ others_of wide set file (reports file rules set) → IsFixed file wide rules settings (record { text = made; applied = applied; left = left; others = others })
+  ended made applied left others stage found are =
       let few = stage.few in
-      record { reached = stage.reached; few = omega (arith, few); ended = found }
+      record { reached = stage.reached; few = omega (arith, few); ended = found; others_are = are }
 
 -- the same of equal values
 pub look_here : (wide : Bool) (rules rules' : Rules) (settings settings' : LinterSettings) (t t' : Text) (left : List Violation) (o o' : Option Text) → rules ≡ rules' → settings ≡ settings' → t ≡ t' → o ≡ o'

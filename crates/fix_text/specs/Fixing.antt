@@ -13,6 +13,8 @@ use Rattle.fix_choice.specs.Fits.{first_fitting, next_text}
 use Rattle.squawk_linter.specs.Answers.{reports}
 use Rattle.squawk_linter.specs.Reports.{cleared}
 use Rattle.fix_text.specs.Allowed.{allowed}
+use Rattle.fix_text.specs.Others.{others_of}
+use Rattle.other_fix.specs.declared.other.OtherFix.{OtherFix}
 
 -- The text s is t with the first fix made that is allowed, of a listed rule, and fits, in the order of the reports of t.
 pub record IsStep (wide : Bool) (rules : Rules) (settings : LinterSettings) (t s : Text) : Type 0 where
@@ -34,18 +36,21 @@ pub record IsLook (wide : Bool) (rules : Rules) (settings : LinterSettings) (t :
   pub left_is : left ≡ reports tree rules settings
   pub next_is : next ≡ next_text t (allowed wide settings tree left)
 
--- what fixing makes of a text: the text in the end, how many fixes were made, and what is still reported
+-- what fixing makes of a text: the text in the end, how many fixes were made, what is still reported, and which fixes of the given text
+-- change the same bytes as one that comes first
 pub record FixedValue : Type 0 where
   pub text : Text
   pub applied : ℕ
   pub left : List Violation
+  pub others : List OtherFix
 
 -- Fixing has ended: the text is reached by the steps that are counted, no more than the load of the given text; these are its reports,
--- and none of them has a fix for one step more. All under the settings that the given text leaves, its flag cleared.
+-- and none of them has a fix for one step more. The others are those of the reports of the given text. All under the settings that the given text leaves, its flag cleared.
 pub record IsFixed (tree : Tree) (wide : Bool) (rules : Rules) (settings : LinterSettings) (fixed : FixedValue) : Type 0 where
   pub reached : Reached wide rules (cleared tree settings) tree.text fixed.applied fixed.text
   pub few : fixed.applied ≤ load tree rules (cleared tree settings)
   pub ended : IsLook wide rules (cleared tree settings) fixed.text fixed.left None
+  pub others_are : fixed.others ≡ others_of wide (cleared tree settings) tree (reports tree rules (cleared tree settings))
 
 -- So it is for the tree of a text, which is one.
 pub record IsFixedText (t : Text) (wide : Bool) (rules : Rules) (settings : LinterSettings) (fixed : FixedValue) : Type 0 where

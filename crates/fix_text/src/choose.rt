@@ -23,15 +23,20 @@ fn is_allowed_class(wide: bool, class: Option<FixClass>) -> bool
     }
 }
 
-// Whether the fix of a report is allowed.
-fn is_allowed(wide: bool, classes: &FixClasses, file: &Parse<'_>, report: &Violation) -> bool
+/// Whether the fix of a report is allowed.
+pub(crate) fn is_allowed(
+    wide: bool,
+    classes: &FixClasses,
+    file: &Parse<'_>,
+    report: &Violation,
+) -> bool
     ensures { (settings : LinterSettings) → AreKnown settings file.now classes.now → result ≡ spec.is_allowed wide settings file.now report.now }
 {
     is_allowed_class(wide, classes.class_of(file, report))
 }
 
-// The text with the fix of a report made, if it may be, is of a listed rule, and fits.
-fn made_if(
+/// The text with the fix of a report made, if it may be, is of a listed rule, and fits. The error comes when memory runs out.
+pub(crate) fn made_if(
     alloc: Global,
     may: bool,
     text: &str,

@@ -1,5 +1,6 @@
 //! Fixing a text until no fix is left that is allowed and fits.
-ghost use Rattle.std.specs.Prelude.{◌≡◌, ◌↔◌, ◌≤◌, ◌<◌, ◌^◌, ℕ, length, Err, IfErr, IfOk, OnOk, string_bytes};
+ghost use Rattle.std.specs.Prelude.{◌≡◌, ◌↔◌, ◌≤◌, ◌<◌, ◌^◌, ℕ, All, length, Err, IfErr, IfOk, OnOk, string_bytes};
+ghost use Rattle.std.specs.Str.{IsCharBoundary};
 ghost use Rattle.sql_token.specs.Token.{OpenAt};
 ghost use Rattle.sql_tree.specs.Statement.{IsSyntaxAt, IsValid, Tree};
 ghost use Rattle.sql_read.specs.declared.error.LintError.TheVariants as LintError;
@@ -8,11 +9,13 @@ ghost use Rattle.squawk_linter.specs.Reports.{cleared};
 ghost use Rattle.fix_text.specs.Fixing.{IsFixed, IsFixedText};
 
 use crate::look::{Look, look_at};
+use crate::others::others_in;
 use law_answer_steps::laws::answers_step;
 use law_fix_steps::laws::load_is_small;
 use law_listed_edits::laws::listed_edits;
 use lint_base::Violation;
 use lint_ignore::has_disable_assume_in_transaction;
+use other_fix::OtherFix;
 use sql_read::parse;
 use sql_tree::Parse;
 use squawk_linter::laws::{answered_fixes_mend, second_answer};
@@ -30,6 +33,8 @@ pub struct Fixed {
     pub applied: u64,
     /// What is reported of it. No report of a listed rule has a fix that fits and is allowed.
     pub left: Vec<Violation>,
+    /// The fixes of the given text that change the same bytes as one that comes first.
+    pub others: Vec<OtherFix>,
 }
 
 impl Model for Fixed {
@@ -38,7 +43,7 @@ impl Model for Fixed {
 
     ghost Value = { FixedValue };
 
-    ghost view = { λ f. record { text = string_bytes f.text; applied = f.applied; left = f.left.items } };
+    ghost view = { λ f. record { text = string_bytes f.text; applied = f.applied; left = f.left.items; others = f.others.items } };
 }
 
 // Assumes no open transaction where a comment of the text says so.
@@ -57,7 +62,8 @@ fn fix_tree(
     wide: bool,
     file: &Parse<'_>,
 ) -> Result<Fixed, NoMemory>
-    ensures { IfOk result (λ fixed. IsFixed file.now wide linter.old.rules linter.old.settings fixed) }
+    ensures fixed { IfOk result (λ fixed. IsFixed file.now wide linter.old.rules linter.old.settings fixed) }
+    ensures placed { IfOk result (λ fixed. All (λ other. IsCharBoundary file.now.text other.at) fixed.others) }
 {
     second_answer();
     answered_fixes_mend();
@@ -65,6 +71,7 @@ fn fix_tree(
     answers_step();
     load_is_small();
     clear(linter, file);
+    let others = others_in(linter, alloc, wide, file)?;
     let mut made = String::from_str(alloc, file.text())?;
     let mut applied: u64 = 0;
     'fixing: loop {
@@ -79,6 +86,7 @@ fn fix_tree(
                     text: made,
                     applied,
                     left,
+                    others,
                 });
             }
         }
@@ -86,7 +94,7 @@ fn fix_tree(
 }
 
 /// Makes fixes in a text, one after another, until none is left that fits and that the classes allow: safe ones, and unsafe ones too where
-/// `wide` says so. Each time the first one is made in the order of the reports, and the text is linted again, so it takes time in
+/// `wide` says so. The fixes that are not made because one that comes first changes the same bytes are found in the given text. Each time the first one is made in the order of the reports, and the text is linted again, so it takes time in
 /// proportion to the fixes and the text. The linter's flag is as the text leaves it.
 ///
 /// `TooLong`, `Unterminated` and `Syntax` come of the given text, since each text that is made is valid; `NoMemory` comes because
@@ -98,6 +106,7 @@ pub fn fix_text(
     text: &str,
 ) -> Result<Fixed, LintError>
     ensures ok { IfOk result (λ fixed. IsFixedText text.now wide linter.old.rules linter.old.settings fixed) }
+    ensures placed { IfOk result (λ fixed. All (λ other. IsCharBoundary text.now other.at) fixed.others) }
     ensures err { IfErr result (IsCause text.now) }
     ensures too_long { (result ≡ Err LintError.TooLong) ↔ (2 ^ 32 ≤ length text.now) }
     ensures unterminated { (at : ℕ) → length text.now < 2 ^ 32 → OpenAt text.now at

@@ -1,5 +1,5 @@
 use Rattle.std.proofs.Common.{◌≡◌, take}
-use Rattle.fix_command.proofs.mender.copied_names.Given as goal
+use Rattle.fix_command.proofs.fixer.copied_names.Given as goal
 
 -- the names so far were copied
 abbrev pub invariant-loop-i : goal.invariant-loop-i

@@ -3,7 +3,7 @@ use Rattle.std.specs.Str.{IsCharBoundary}
 use Rattle.sql_read.specs.Cause.{IsCause}
 use Rattle.sql_tree.specs.Statement.{IsSyntaxAt}
 use Rattle.fix_command.proofs.Placing.{syntax_in}
-use Rattle.fix_command.proofs.mender.refused.Goals as goal
+use Rattle.fix_command.proofs.fixer.refused.Goals as goal
 
 pub returns-in-Syntax-clause-placed : goal.returns-in-Syntax-clause-placed
 returns-in-Syntax-clause-placed c =

@@ -1,12 +1,12 @@
 //! The linter as what fixes texts.
 ghost use Rattle.std.specs.Prelude.{◌≡◌, ◌<◌, ◌^◌, Bool, IfOk, length};
 ghost use Rattle.fix_command.specs.Fixes.{IsAnswerOf};
-ghost use Rattle.fix_run.specs.Mending.{IsPlacedIn};
+ghost use Rattle.fix_run.specs.Outcomes.{IsPlacedIn};
 ghost use Rattle.squawk_linter.specs.declared.linter.Linter.{Linter as AnyLinter};
 ghost use Rattle.sql_read.specs.Cause.{IsCause};
 
 use fix_asked::Chosen;
-use fix_run::{Made, Mender};
+use fix_run::{Fixer, TextOutcome};
 use fix_text::fix_text;
 use lint_base::{LinterSettings, Names, Text};
 use source_file::Refusal;
@@ -60,7 +60,7 @@ fn copied(alloc: Global, linter: &Linter) -> Result<Linter, NoMemory>
 
 // What comes of a text that is refused.
 #[tactic(auto, using(crate::proofs::Placing::open_in, crate::proofs::Placing::syntax_in))]
-fn refused(text: &str, error: LintError) -> Result<Made, NoMemory>
+fn refused(text: &str, error: LintError) -> Result<TextOutcome, NoMemory>
     requires short { length text.now < 2 ^ 32 }
     requires cause { IsCause text.now error }
     ensures answer { IfOk result (λ made. (wide : Bool) (linter : AnyLinter) → IsAnswerOf wide linter text.now made) }
@@ -68,10 +68,10 @@ fn refused(text: &str, error: LintError) -> Result<Made, NoMemory>
 {
     match error {
         LintError::TooLong => unreachable!(),
-        LintError::Unterminated { at } => Ok(Made::Refused(Refusal::Unterminated {
+        LintError::Unterminated { at } => Ok(TextOutcome::Refused(Refusal::Unterminated {
             at: TextSize::new(at),
         })),
-        LintError::Syntax { at } => Ok(Made::Refused(Refusal::Syntax {
+        LintError::Syntax { at } => Ok(TextOutcome::Refused(Refusal::Syntax {
             at: TextSize::new(at),
         })),
         LintError::NoMemory => Err(NoMemory),
@@ -79,13 +79,21 @@ fn refused(text: &str, error: LintError) -> Result<Made, NoMemory>
 }
 
 // What comes of a text. The linter is of no more use.
-fn mend_text(alloc: Global, linter: &mut Linter, wide: bool, text: &str) -> Result<Made, NoMemory>
+fn outcome_of(
+    alloc: Global,
+    linter: &mut Linter,
+    wide: bool,
+    text: &str,
+) -> Result<TextOutcome, NoMemory>
     requires { length text.now < 2 ^ 32 }
     ensures answer { IfOk result (IsAnswerOf wide linter.old text.now) }
     ensures placed { IfOk result (IsPlacedIn text.now) }
 {
     match fix_text(linter, alloc, wide, text) {
-        Ok(fixed) => Ok(Made::Mended(Text::made(fixed.text))),
+        Ok(fixed) => Ok(TextOutcome::Fixed {
+            text: Text::made(fixed.text),
+            others: fixed.others,
+        }),
         Err(error) => {
             let made = refused(text, error)?;
             Ok(made)
@@ -93,12 +101,12 @@ fn mend_text(alloc: Global, linter: &mut Linter, wide: bool, text: &str) -> Resu
     }
 }
 
-impl Mender for FixLinter {
-    ghost answers = { λ mender text made. IsAnswerOf mender.with_unsafe mender.linter text made };
+impl Fixer for FixLinter {
+    ghost answers = { λ fixer text made. IsAnswerOf fixer.with_unsafe fixer.linter text made };
 
-    fn mend(&self, alloc: Global, text: &str) -> Result<Made, NoMemory> {
+    fn fix(&self, alloc: Global, text: &str) -> Result<TextOutcome, NoMemory> {
         let mut linter = copied(alloc, &self.linter)?;
-        mend_text(alloc, &mut linter, self.with_unsafe, text)
+        outcome_of(alloc, &mut linter, self.with_unsafe, text)
     }
 }
 

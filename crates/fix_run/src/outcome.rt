@@ -1,15 +1,16 @@
 //! What comes of a file.
 ghost use Rattle.std.specs.Prelude.{◌≡◌, ◌<◌, ◌≤◌, ◌^◌, IfOk, length};
 ghost use Rattle.file_store.specs.Contents.{KeepsContents};
-ghost use Rattle.fix_run.specs.Mending as spec;
+ghost use Rattle.fix_run.specs.Outcomes as spec;
 ghost use Rattle.gate_files.specs.Read.{IsUnreadAs, IsUnreadBy};
 
-use crate::mender::{Made, Mender};
+use crate::fixer::{Fixer, TextOutcome};
 use checked_file::readable;
 use file_store::{FileError, FileStore};
-use fix_output::MendedFile;
+use fix_output::FixedFile;
 use gate_files::Unread;
 use lint_base::Text;
+use other_fix::OtherFix;
 use simdutf8::compat::from_utf8;
 use source_file::Refusal;
 use std::alloc::Global;
@@ -17,9 +18,9 @@ use text_pos::{NoMemory, TextSize};
 
 /// What came of a file.
 #[derive(Drop)]
-pub(crate) enum Came {
+pub(crate) enum FileOutcome {
     /// It was read, and this is made of it.
-    Mended(MendedFile),
+    Fixed(FixedFile),
     /// Nothing is made of it.
     Unread(Unread),
 }
@@ -45,55 +46,75 @@ fn unread_file(alloc: Global, name: &str, front: &str, refusal: Refusal) -> Resu
 }
 
 // A file, and what is made of it.
-fn mended_file(alloc: Global, name: &str, old: &str, new: Text) -> Result<MendedFile, NoMemory>
-    ensures { IfOk result (λ file. file ≡ record { name = name.now; old = old.now; new = new }) }
+fn fixed_file(
+    alloc: Global,
+    name: &str,
+    old: &str,
+    new: Text,
+    others: Vec<OtherFix>,
+) -> Result<FixedFile, NoMemory>
+    ensures { IfOk result (λ file. file ≡ record { name = name.now; old = old.now; new = new; others = others }) }
 {
     let old = copied(alloc, old)?;
     let name = copied(alloc, name)?;
-    Ok(MendedFile { name, old, new })
+    Ok(FixedFile {
+        name,
+        old,
+        new,
+        others,
+    })
 }
 
 // What comes of a file of this text.
-fn of_text<M: Mender>(alloc: Global, mender: &M, name: &str, text: &str) -> Result<Came, NoMemory>
+fn of_text<M: Fixer>(
+    alloc: Global,
+    fixer: &M,
+    name: &str,
+    text: &str,
+) -> Result<FileOutcome, NoMemory>
     requires { length text.now < 2 ^ 32 }
-    ensures came { IfOk result (spec.IsOfText (M.answers mender.now) name.now text.now) }
+    ensures came { IfOk result (spec.IsOfText (M.answers fixer.now) name.now text.now) }
     ensures sound { IfOk result spec.IsSoundCame }
 {
-    match mender.mend(alloc, text)? {
-        Made::Mended(new) => Ok(Came::Mended(mended_file(alloc, name, text, new)?)),
-        Made::Refused(refusal) => Ok(Came::Unread(unread_file(alloc, name, text, refusal)?)),
+    match fixer.fix(alloc, text)? {
+        TextOutcome::Fixed { text: new, others } => Ok(FileOutcome::Fixed(fixed_file(
+            alloc, name, text, new, others,
+        )?)),
+        TextOutcome::Refused(refusal) => Ok(FileOutcome::Unread(unread_file(
+            alloc, name, text, refusal,
+        )?)),
     }
 }
 
 /// What comes of a file of these bytes. The error comes when memory runs out.
 #[tactic(auto, using(crate::proofs::Placing::end_in, crate::proofs::Placing::front_short))]
-pub(crate) fn of_bytes<M: Mender>(
+pub(crate) fn of_bytes<M: Fixer>(
     alloc: Global,
-    mender: &M,
+    fixer: &M,
     name: &str,
     bytes: &[u8],
-) -> Result<Came, NoMemory>
+) -> Result<FileOutcome, NoMemory>
     requires { length bytes.now < 2 ^ 32 }
-    ensures came { IfOk result (spec.IsOfBytes (M.answers mender.now) name.now bytes.now) }
+    ensures came { IfOk result (spec.IsOfBytes (M.answers fixer.now) name.now bytes.now) }
     ensures sound { IfOk result spec.IsSoundCame }
 {
     match from_utf8(bytes) {
-        Ok(text) => of_text(alloc, mender, name, text),
+        Ok(text) => of_text(alloc, fixer, name, text),
         Err(error) => {
             let at = TextSize::new(error.valid_up_to() as u32);
             let refusal = Refusal::NotUtf8 { at };
-            Ok(Came::Unread(unread_file(alloc, name, readable(bytes), refusal)?))
+            Ok(FileOutcome::Unread(unread_file(alloc, name, readable(bytes), refusal)?))
         }
     }
 }
 
 /// What comes of a file of which no byte was read. The error comes when memory runs out.
-pub(crate) fn unread(alloc: Global, name: &str, refusal: Refusal) -> Result<Came, NoMemory>
+pub(crate) fn unread(alloc: Global, name: &str, refusal: Refusal) -> Result<FileOutcome, NoMemory>
     requires { spec.IsUnplaced refusal }
     ensures came { IfOk result (spec.IsUnreadCame name.now refusal) }
     ensures sound { IfOk result spec.IsSoundCame }
 {
-    Ok(Came::Unread(unread_file(alloc, name, "", refusal)?))
+    Ok(FileOutcome::Unread(unread_file(alloc, name, "", refusal)?))
 }
 
 // The refusal of a file that could not be read. The error `NoMemory` has none.
@@ -110,7 +131,7 @@ fn refusal_of(error: FileError) -> Result<Refusal, NoMemory>
 }
 
 // What comes of a file that could not be read.
-fn of_error(alloc: Global, name: &str, error: FileError) -> Result<Came, NoMemory>
+fn of_error(alloc: Global, name: &str, error: FileError) -> Result<FileOutcome, NoMemory>
     ensures came { IfOk result (spec.IsOfError name.now error) }
     ensures sound { IfOk result spec.IsSoundCame }
 {
@@ -120,19 +141,19 @@ fn of_error(alloc: Global, name: &str, error: FileError) -> Result<Came, NoMemor
 
 /// What comes of a file. The error comes when memory runs out.
 #[tactic(auto, using(crate::proofs::Coming::read_came, crate::proofs::Coming::error_came))]
-pub(crate) fn mend_file<M: Mender, F: FileStore>(
+pub(crate) fn fix_file<M: Fixer, F: FileStore>(
     alloc: Global,
-    mender: &M,
+    fixer: &M,
     files: &mut F,
     name: &str,
-) -> Result<Came, NoMemory>
-    ensures came { IfOk result (spec.HasCome (M.answers mender.now) (F.content files.old name.now) (F.faults files.old) (F.faults files.new) name.now) }
+) -> Result<FileOutcome, NoMemory>
+    ensures came { IfOk result (spec.HasCome (M.answers fixer.now) (F.content files.old name.now) (F.faults files.old) (F.faults files.new) name.now) }
     ensures sound { IfOk result spec.IsSoundCame }
     ensures kept { KeepsContents (F.content files.old) (F.content files.new) }
     ensures later { F.faults files.old ≤ F.faults files.new }
 {
     match files.read(alloc, name) {
-        Ok(bytes) => of_bytes(alloc, mender, name, bytes.as_slice()),
+        Ok(bytes) => of_bytes(alloc, fixer, name, bytes.as_slice()),
         Err(error) => of_error(alloc, name, error),
     }
 }

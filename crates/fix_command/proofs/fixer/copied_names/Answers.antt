@@ -1,6 +1,6 @@
 use Rattle.std.proofs.Common.{arith}
 use Rattle.fix_command.proofs.Names.{all_copied, next_copied}
-use Rattle.fix_command.proofs.mender.copied_names.Goals as goal
+use Rattle.fix_command.proofs.fixer.copied_names.Goals as goal
 
 pub loop-i-preserved : goal.loop-i-preserved
 loop-i-preserved c =

@@ -1,0 +1,83 @@
+-- Fixes that are not made, since another one changes the same bytes and comes first.
+use Rattle.std.specs.Prelude.{◌==◌, ◌&&◌, Bool, false, List, [], ◌∷◌, Option, Some, None, is_some, if◌then◌else◌}
+use Rattle.text_pos.specs.Range.{Range}
+use Rattle.sql_tree.specs.Statement.{Tree}
+use Rattle.lint_base.specs.declared.edit.Edit.{Edit}
+use Rattle.lint_base.specs.declared.settings.LinterSettings.{LinterSettings}
+use Rattle.lint_base.specs.declared.violation.Violation.{Violation}
+use Rattle.lint_base.specs.Fixes.{FixValue}
+use Rattle.law_fix_steps.specs.Listed.{is_listed}
+use Rattle.fix_class.specs.Classes.{class_of}
+use Rattle.other_fix.specs.declared.other.OtherFix.{OtherFix}
+use Rattle.fix_text.specs.Allowed.{is_allowed, made_if}
+
+-- ---- the bytes that a fix replaces
+
+-- a range of a byte or more
+abbrev pub some_bytes : Range → Option Range
+some_bytes range = if range.start == range.end then None else Some range
+
+-- what the first of these edits replaces
+abbrev pub first_replaced : List Edit → Option Range
+first_replaced [] = None
+first_replaced (edit ∷ edits) = some_bytes edit.text_range
+
+-- what the first edit of a fix replaces, if there is a fix and it replaces any byte
+abbrev pub replaced_by : Option FixValue → Option Range
+replaced_by None = None
+replaced_by (Some fix) = first_replaced fix.edits
+
+abbrev pub is_same_range : Option Range → Option Range → Bool
+is_same_range None b = false
+is_same_range (Some a) None = false
+is_same_range (Some a) (Some b) = a.start == b.start && a.end == b.end
+
+-- the fixes of these reports replace the same bytes, one or more
+abbrev pub is_same_part : Violation → Violation → Bool
+is_same_part u v = is_same_range (replaced_by u.fix) (replaced_by v.fix)
+
+-- ---- two reports
+
+-- the fix of a report is allowed, of a listed rule, and fits
+abbrev pub is_made : Bool → LinterSettings → Tree → Violation → Bool
+is_made wide settings tree u = is_some (made_if (is_allowed wide settings tree u) tree.text u)
+
+-- the fix of a report is offered: it has a class
+abbrev pub is_offered : LinterSettings → Tree → Violation → Bool
+is_offered settings tree v = is_some (class_of settings tree v)
+
+-- the second report has a fix that is offered, and the fix of the first one, which is made, replaces the same bytes
+abbrev pub is_beside : Bool → LinterSettings → Tree → Violation → Violation → Bool
+is_beside wide settings tree u v = (is_same_part u v && is_offered settings tree v) && is_made wide settings tree u
+
+abbrev pub other_for : Violation → Violation → OtherFix
+other_for u v = record { at = v.text_range.start; rule = v.code; first = u.code }
+
+-- the fix of a report, if it is such a one beside this earlier report
+abbrev pub other_by : Bool → LinterSettings → Tree → Option Violation → Violation → Option OtherFix
+other_by wide settings tree None v = None
+other_by wide settings tree (Some u) v = if is_beside wide settings tree u v then Some (other_for u v) else None
+
+-- ---- all reports
+
+-- a report of a listed rule whose fix replaces bytes
+abbrev pub replaces : Violation → Bool
+replaces v = is_listed v.code && is_some (replaced_by v.fix)
+
+-- this report, if it is such a one, or else the last one before it
+abbrev pub last_replacing : Option Violation → Violation → Option Violation
+last_replacing last v = if replaces v then Some v else last
+
+abbrev pub with_other : Option OtherFix → List OtherFix → List OtherFix
+with_other None others = others
+with_other (Some other) others = other ∷ others
+
+-- those of these reports, where this is the last report before them that is of a listed rule and has a fix that replaces bytes
+abbrev pub others_after : Bool → LinterSettings → Tree → Option Violation → List Violation → List OtherFix
+others_after wide settings tree last [] = []
+others_after wide settings tree last (v ∷ vs) =
+    with_other (other_by wide settings tree last v) (others_after wide settings tree (last_replacing last v) vs)
+
+-- Each report is compared with the last one before it of a listed rule whose fix replaces bytes.
+abbrev pub others_of : Bool → LinterSettings → Tree → List Violation → List OtherFix
+others_of wide settings tree vs = others_after wide settings tree None vs

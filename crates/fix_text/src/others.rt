@@ -1,0 +1,218 @@
+//! Fixes that are not made, since another one changes the same bytes and comes first.
+ghost use Rattle.std.specs.Prelude.{◌≡◌, ◌++◌, ◌<◌, ◌^◌, if◌then◌else◌, [], All, IfOk, OnOk, length, slice_get};
+ghost use Rattle.std.specs.Str.{IsCharBoundary};
+ghost use Rattle.lint_base.specs.declared.settings.LinterSettings.{LinterSettings};
+ghost use Rattle.lint_pass.specs.Laws.{IsRead};
+ghost use Rattle.fix_choice.specs.Fits.{ListedCanBeTried};
+ghost use Rattle.fix_class.specs.Known.{AreKnown};
+ghost use Rattle.fix_text.specs.Others as spec;
+ghost use Rattle.squawk_linter.specs.Answers.{reports};
+
+use crate::choose::{is_allowed, made_if};
+use fix_choice::is_listed;
+use fix_class::FixClasses;
+use law_listed_edits::laws::listed_edits;
+use lint_base::{Edit, Fix, LinterSettings, Violation};
+use other_fix::OtherFix;
+use sql_tree::Parse;
+use squawk_linter::Linter;
+use squawk_linter::laws::{answered_fixes_mend, answers_placed};
+use std::alloc::Global;
+use text_pos::{NoMemory, TextRange};
+
+// A range, if it has any byte.
+fn some_bytes(range: TextRange) -> Option<TextRange>
+    ensures { result ≡ spec.some_bytes range }
+{
+    if range.start().raw() == range.end().raw() {
+        None
+    } else {
+        Some(range)
+    }
+}
+
+// What the first of some edits replaces.
+fn first_replaced(edits: &[Edit]) -> Option<TextRange>
+    ensures { result ≡ spec.first_replaced edits.now }
+{
+    match edits.first() {
+        Some(edit) => some_bytes(edit.text_range),
+        None => None,
+    }
+}
+
+// What the first edit of a fix replaces, if it replaces any byte.
+fn replaced_by(fix: &Option<Fix>) -> Option<TextRange>
+    ensures { result ≡ spec.replaced_by fix.now }
+{
+    match fix {
+        Some(fix) => first_replaced(fix.edits.as_slice()),
+        None => None,
+    }
+}
+
+fn is_same_range(a: Option<TextRange>, b: Option<TextRange>) -> bool
+    ensures { result ≡ spec.is_same_range a b }
+{
+    match (a, b) {
+        (Some(a), Some(b)) => {
+            a.start().raw() == b.start().raw() && a.end().raw() == b.end().raw()
+        }
+        _ => false,
+    }
+}
+
+// Whether the fixes of two reports replace the same bytes.
+fn is_same_part(u: &Violation, v: &Violation) -> bool
+    ensures { result ≡ spec.is_same_part u.now v.now }
+{
+    is_same_range(replaced_by(&u.fix), replaced_by(&v.fix))
+}
+
+// Whether a report is of a listed rule and its fix replaces bytes.
+fn replaces(v: &Violation) -> bool
+    ensures { result ≡ spec.replaces v.now }
+{
+    is_listed(v.code) && replaced_by(&v.fix).is_some()
+}
+
+// Whether the fix of a report is allowed, of a listed rule, and fits.
+fn is_made(
+    alloc: Global,
+    wide: bool,
+    classes: &FixClasses,
+    file: &Parse<'_>,
+    u: &Violation,
+) -> Result<bool, NoMemory>
+    requires short { length file.now.text < 2 ^ 32 }
+    requires tried { ListedCanBeTried file.now.text u.now }
+    ensures { (settings : LinterSettings) → AreKnown settings file.now classes.now → IfOk result (λ is. is ≡ spec.is_made wide settings file.now u.now) }
+{
+    let may = is_allowed(wide, classes, file, u);
+    let made = made_if(alloc, may, file.text(), u)?;
+    Ok(made.is_some())
+}
+
+// Whether the fix of a report is offered.
+fn is_offered(classes: &FixClasses, file: &Parse<'_>, v: &Violation) -> bool
+    ensures { (settings : LinterSettings) → AreKnown settings file.now classes.now → result ≡ spec.is_offered settings file.now v.now }
+{
+    classes.class_of(file, v).is_some()
+}
+
+// Whether a report has a fix that is offered, and a fix that is made, of an earlier report, replaces the same bytes.
+fn is_beside(
+    alloc: Global,
+    wide: bool,
+    classes: &FixClasses,
+    file: &Parse<'_>,
+    u: &Violation,
+    v: &Violation,
+) -> Result<bool, NoMemory>
+    requires short { length file.now.text < 2 ^ 32 }
+    requires tried { ListedCanBeTried file.now.text u.now }
+    ensures { (settings : LinterSettings) → AreKnown settings file.now classes.now → IfOk result (λ is. is ≡ spec.is_beside wide settings file.now u.now v.now) }
+{
+    if !is_same_part(u, v) || !is_offered(classes, file, v) {
+        return Ok(false);
+    }
+    is_made(alloc, wide, classes, file, u)
+}
+
+// The fix of a report, if it is such a one beside the earlier report of this number.
+fn other_by(
+    alloc: Global,
+    wide: bool,
+    classes: &FixClasses,
+    file: &Parse<'_>,
+    reports: &[Violation],
+    last: usize,
+    v: &Violation,
+) -> Result<Option<OtherFix>, NoMemory>
+    requires short { length file.now.text < 2 ^ 32 }
+    requires tried { All (ListedCanBeTried file.now.text) reports.now }
+    ensures { (settings : LinterSettings) → AreKnown settings file.now classes.now → IfOk result (λ other. other ≡ spec.other_by wide settings file.now (slice_get reports.now last) v.now) }
+{
+    if last >= reports.len() {
+        return Ok(None);
+    }
+    let u = &reports[last];
+    if !is_beside(alloc, wide, classes, file, u, v)? {
+        return Ok(None);
+    }
+    Ok(Some(OtherFix {
+        at: v.text_range.start(),
+        rule: v.code,
+        first: u.code,
+    }))
+}
+
+// Adds a fix, if there is one.
+fn keep(others: &mut Vec<OtherFix>, other: Option<OtherFix>) -> Result<(), NoMemory>
+    ensures { OnOk result (others.new.items ≡ others.old.items ++ spec.with_other other []) }
+{
+    if let Some(other) = other {
+        others.push(other)?;
+    }
+    Ok(())
+}
+
+// The number of this report, if it is of a listed rule and its fix replaces bytes, or else that of the last one before it.
+fn last_replacing(v: &Violation, i: usize, last: usize) -> usize
+    ensures { result ≡ (if spec.replaces v.now then i else last) }
+{
+    if replaces(v) { i } else { last }
+}
+
+// Those of these reports.
+fn others_of(
+    alloc: Global,
+    wide: bool,
+    settings: &LinterSettings,
+    file: &Parse<'_>,
+    reports: &[Violation],
+) -> Result<Vec<OtherFix>, NoMemory>
+    requires short { length file.now.text < 2 ^ 32 }
+    requires tried { All (ListedCanBeTried file.now.text) reports.now }
+    ensures { IfOk result (λ others. others.items ≡ spec.others_of wide settings.now file.now reports.now) }
+{
+    let classes = FixClasses::new(alloc, file, settings)?;
+    let mut others = Vec::new(alloc);
+    let mut last = reports.len();
+    for i in 0..reports.len() {
+        let v = &reports[i];
+        let other = other_by(alloc, wide, &classes, file, reports, last, v)?;
+        keep(&mut others, other)?;
+        last = last_replacing(v, i, last);
+    }
+    Ok(others)
+}
+
+// A tree was read from its text, which is UTF-8.
+fn is_read(file: &Parse<'_>)
+    ensures { IsRead file.now }
+{
+    let _text = file.text();
+}
+
+/// Those of the reports of a tree: their places are between characters of the text. The linter stays as it is. The error comes when memory
+/// runs out.
+pub(crate) fn others_in(
+    linter: &mut Linter,
+    alloc: Global,
+    wide: bool,
+    file: &Parse<'_>,
+) -> Result<Vec<OtherFix>, NoMemory>
+    ensures others { IfOk result (λ others. others.items ≡ spec.others_of wide linter.old.settings file.now (reports file.now linter.old.rules linter.old.settings)) }
+    ensures placed { IfOk result (λ others. All (λ other. IsCharBoundary file.now.text other.at) others.items) }
+    ensures same { OnOk result (linter.new ≡ linter.old) }
+{
+    answers_placed();
+    answered_fixes_mend();
+    listed_edits();
+    is_read(file);
+    let assumed = linter.settings.assume_in_transaction;
+    let reports = linter.lint(alloc, file)?;
+    linter.settings.assume_in_transaction = assumed;
+    others_of(alloc, wide, &linter.settings, file, reports.as_slice())
+}
