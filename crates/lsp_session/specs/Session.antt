@@ -97,7 +97,7 @@ module _ (Shows : List ℕ → List Report → Type 0) where
   SaysOf documents (Opened uri document) said = IsPublication uri (Some document) said
   SaysOf documents (Changed uri document) said = MatchOption (documents uri) (said ≡ None) (λ _. IsPublication uri (Some document) said)
   SaysOf documents (Closed uri) said = IsPublication uri None said
-  SaysOf documents other said = said ≡ None
+  SaysOf documents unknown said = said ≡ None
 
   -- what is said to a message at a stage, with these documents open
   abbrev pub Says : Stage → (List ℕ → Option Document) → Message → Option Reply → Type 0
