@@ -1,6 +1,5 @@
 -- From the parts of a run to what it does that words ask for.
-use Rattle.std.proofs.Common.{◌≡◌, ◌≤◌, ◌⊎◌, inl, inr, refl, ℕ, List, Option}
-use Rattle.std.specs.Io.KnownBytes.{Keeps}
+use Rattle.std.proofs.Common.{◌≤◌, inl, inr, refl, ℕ, List, Option}
 use Rattle.std.proofs.KnownBytes.{Keeps-refl}
 use Rattle.checked_file.specs.declared.status.Status.{Status}
 use Rattle.file_store.specs.Contents.{Content, KeepsContents}

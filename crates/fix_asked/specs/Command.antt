@@ -18,7 +18,6 @@ use Rattle.fix_run.specs.Outcomes.{Answers}
 use Rattle.fix_run.specs.Runs.{HasFixed, HasStopped}
 use Rattle.fix_words.specs.declared.asked.Asked.{Asked}
 use Rattle.fix_words.specs.declared.asked.Asked.TheVariants.{Fix, Help, Refused}
-use Rattle.fix_words.specs.declared.fault.Fault.{Fault}
 use Rattle.fix_words.specs.declared.help.TheConstants.{HELP}
 use Rattle.fix_words.specs.declared.request.Request.{Request}
 use Rattle.squawk_run.specs.declared.stop.Stop.TheVariants.{NoMemory}
