@@ -23,34 +23,31 @@ fn is_allowed_class(wide: bool, class: Option<FixClass>) -> bool
     }
 }
 
-/// Whether the fix of a report is allowed.
-pub(crate) fn is_allowed(
-    wide: bool,
-    classes: &FixClasses,
-    file: &Parse<'_>,
-    report: &Violation,
-) -> bool
+// Whether the fix of a report is allowed.
+fn is_allowed(wide: bool, classes: &FixClasses, file: &Parse<'_>, report: &Violation) -> bool
     ensures { (settings : LinterSettings) → AreKnown settings file.now classes.now → result ≡ spec.is_allowed wide settings file.now report.now }
 {
     is_allowed_class(wide, classes.class_of(file, report))
 }
 
-/// The text with the fix of a report made, if it may be, is of a listed rule, and fits. The error comes when memory runs out.
+/// The text with the fix of a report made, if it is of a listed rule, allowed, and fits. The class of another rule's fix is not looked for.
 pub(crate) fn made_if(
     alloc: Global,
-    may: bool,
-    text: &str,
+    wide: bool,
+    classes: &FixClasses,
+    file: &Parse<'_>,
     report: &Violation,
 ) -> Result<Option<String>, NoMemory>
-    requires short { length text.now < 2 ^ 32 }
-    requires tried { ListedCanBeTried text.now report.now }
-    ensures { IfOk result (λ made. option_map string_bytes made ≡ spec.made_if may text.now report.now) }
+    requires short { length file.now.text < 2 ^ 32 }
+    requires tried { ListedCanBeTried file.now.text report.now }
+    ensures { (settings : LinterSettings) → AreKnown settings file.now classes.now
+        → IfOk result (λ made. option_map string_bytes made ≡ spec.made_if (spec.is_allowed wide settings file.now report.now) file.now.text report.now) }
 {
-    if !may || !is_listed(report.code) {
+    if !is_listed(report.code) || !is_allowed(wide, classes, file, report) {
         return Ok(None);
     }
     match &report.fix {
-        Some(fix) => made_by(alloc, text, fix),
+        Some(fix) => made_by(alloc, file.text(), fix),
         None => Ok(None),
     }
 }
@@ -71,8 +68,7 @@ pub(crate) fn next_allowed(
 {
     let classes = FixClasses::new(alloc, file, settings)?;
     for report in reports {
-        let may = is_allowed(wide, &classes, file, report);
-        let made = made_if(alloc, may, file.text(), report)?;
+        let made = made_if(alloc, wide, &classes, file, report)?;
         if made.is_some() {
             return Ok(made);
         }

@@ -8,7 +8,7 @@ ghost use Rattle.fix_class.specs.Known.{AreKnown};
 ghost use Rattle.fix_text.specs.Others as spec;
 ghost use Rattle.squawk_linter.specs.Answers.{reports};
 
-use crate::choose::{is_allowed, made_if};
+use crate::choose::made_if;
 use fix_choice::is_listed;
 use fix_class::FixClasses;
 use law_listed_edits::laws::listed_edits;
@@ -88,8 +88,7 @@ fn is_made(
     requires tried { ListedCanBeTried file.now.text u.now }
     ensures { (settings : LinterSettings) → AreKnown settings file.now classes.now → IfOk result (λ is. is ≡ spec.is_made wide settings file.now u.now) }
 {
-    let may = is_allowed(wide, classes, file, u);
-    let made = made_if(alloc, may, file.text(), u)?;
+    let made = made_if(alloc, wide, classes, file, u)?;
     Ok(made.is_some())
 }
 
