@@ -1,8 +1,10 @@
 -- Fixes beside others.
 use Rattle.std.proofs.Common.{◌≡◌, ◌∙◌, ℕ, suc, ◌+◌, ◌<◌, Bool, true, false, cond, List, [], ◌∷◌, ◌++◌, length, get_or, drop, All, refl, sym, ap, subst, add-one, append_assoc, drop-cons, Option, Some, None}
-use Rattle.std.proofs.lemmas.List.Elements.{All-cons, All-head, All-nil, All-tail}
+use Rattle.std.proofs.lemmas.List.{reverse-append, take_more}
+use Rattle.std.proofs.lemmas.List.Elements.{All-append, All-cons, All-head, All-nil, All-tail}
 use Rattle.std.proofs.lemmas.Option.{slice_get-get_or}
-use Rattle.std.specs.Prelude.{◌&&◌, slice_get}
+use Rattle.std.specs.Prelude.{◌&&◌, reverse, slice_get, take}
+use Rattle.std.specs.List.{find}
 use Rattle.std.specs.Str.{IsCharBoundary}
 use Rattle.sql_token.specs.Token.{Text}
 use Rattle.sql_tree.specs.Statement.{Tree}
@@ -10,39 +12,50 @@ use Rattle.lint_base.specs.declared.settings.LinterSettings.{LinterSettings}
 use Rattle.lint_base.specs.declared.violation.Violation.{Violation}
 use Rattle.other_fix.specs.declared.other.OtherFix.{OtherFix}
 use Rattle.squawk_linter.specs.Placed.{IsPlaced}
-use Rattle.fix_text.specs.Others.{is_beside, is_made, is_offered, is_same_part, last_replacing, other_by, other_for, others_after, replaces, with_other}
+use Rattle.fix_text.specs.Others.{is_beside, is_made, is_offered, is_same_part, other_by, other_for, others_back, others_of, replaces, with_other}
+
+-- ---- lists from the last element back
+
+all_back : {X : Type 0} (P : X → Type 0) (xs : List X) → All P xs → All P (reverse xs)
+all_back P [] all = all
+all_back P (x ∷ xs) all =
+    subst (All P) (sym (reverse-append (x ∷ []) xs))
+    (All-append P (reverse xs) (x ∷ []) (all_back P xs (All-tail P x xs all)) (All-cons P x [] (All-head P x xs all) (All-nil P)))
 
 -- ---- one report more
 
-with_append : (o : Option OtherFix) (rest : List OtherFix) → with_other o rest ≡ with_other o [] ++ rest
-with_append None rest = refl
-with_append (Some other) rest = refl
-
--- this report, or else the last one before it, by its number
-get_last : (reports : List Violation) (i last : ℕ) (v : Violation) → i < length reports → get_or reports i v ≡ v
-    → slice_get reports (cond (replaces v) i last) ≡ last_replacing (slice_get reports last) v
-get_last reports i last v lt here = by (replaces v)
+-- the nearest of the first reports that replaces bytes, by its number
+get_nearest : (reports : List Violation) (i last : ℕ) (v : Violation) (before : List Violation) → i < length reports → get_or reports i v ≡ v
+    → slice_get reports last ≡ find replaces before → slice_get reports (cond (replaces v) i last) ≡ find replaces (v ∷ before)
+get_nearest reports i last v before lt here so = by (replaces v)
   where
-    by : (b : Bool) → slice_get reports (cond b i last) ≡ cond b (Some v) (slice_get reports last)
+    by : (b : Bool) → slice_get reports (cond b i last) ≡ cond b (Some v) (find replaces before)
     by true = slice_get-get_or reports i v lt ∙ ap (λ (x : Violation). Some x) here
-    by false = refl
+    by false = so
+
+-- the first reports from the last one back, with one more of them
+back_more : (reports : List Violation) (i : ℕ) (v : Violation) → i < length reports → v ≡ get_or reports i v → reverse (take (i + 1) reports) ≡ v ∷ reverse (take i reports)
+back_more reports i v lt here =
+    ap reverse (take_more reports i v lt) ∙ reverse-append (take i reports) (get_or reports i v ∷ []) ∙ ap (λ (x : Violation). x ∷ reverse (take i reports)) (sym here)
 
 module _ (wide : Bool) (settings : LinterSettings) (tree : Tree) where
-  abbrev After : Option Violation → List Violation → List OtherFix
-  After last vs = others_after wide settings tree last vs
+  abbrev Back : List Violation → List OtherFix
+  Back before = others_back wide settings tree before
 
-  pub next_other : (reports : List Violation) (i last next : ℕ) (v : Violation) (others more all : List OtherFix) (o : Option OtherFix) → i < length reports → v ≡ get_or reports i v
-      → o ≡ other_by wide settings tree (slice_get reports last) v → more ≡ others ++ with_other o [] → next ≡ cond (replaces v) i last
-      → others ++ After (slice_get reports last) (drop i reports) ≡ all → more ++ After (slice_get reports next) (drop (i + 1) reports) ≡ all
-  next_other reports i last next v others more all o lt here is added kept so =
-      let rest = drop (i + 1) reports in
-      let at : drop i reports ≡ v ∷ rest = subst (λ (n : ℕ). drop i reports ≡ v ∷ drop n reports) (sym (add-one i)) (drop-cons reports i v lt ∙ ap (λ (x : Violation). x ∷ drop (suc i) reports) (sym here)) in
-      let last_is : slice_get reports next ≡ last_replacing (slice_get reports last) v = ap (slice_get reports) kept ∙ get_last reports i last v lt (sym here) in
-      let after = After (slice_get reports next) rest in
-      let step : with_other o [] ++ after ≡ After (slice_get reports last) (v ∷ rest) =
-      sym (with_append o after) ∙ ap (λ (x : Option OtherFix). with_other x after) is
-      ∙ ap (λ (x : Option Violation). with_other (other_by wide settings tree (slice_get reports last) v) (After x rest)) last_is in
-      ap (λ (os : List OtherFix). os ++ after) added ∙ append_assoc others (with_other o []) after ∙ ap (λ (os : List OtherFix). others ++ os) (step ∙ ap (After (slice_get reports last)) (sym at)) ∙ so
+  pub next_others : (reports : List Violation) (i last : ℕ) (v : Violation) (others more : List OtherFix) (o : Option OtherFix) → i < length reports → v ≡ get_or reports i v
+      → o ≡ other_by wide settings tree (slice_get reports last) v → more ≡ others ++ with_other o [] → others ≡ Back (reverse (take i reports))
+      → slice_get reports last ≡ find replaces (reverse (take i reports)) → more ≡ Back (reverse (take (i + 1) reports))
+  next_others reports i last v others more o lt here is added so nearest =
+      let before = reverse (take i reports) in
+      let known : o ≡ other_by wide settings tree (find replaces before) v = is ∙ ap (λ (u : Option Violation). other_by wide settings tree u v) nearest in
+      added ∙ ap (λ (os : List OtherFix). os ++ with_other o []) so ∙ ap (λ (x : Option OtherFix). Back before ++ with_other x []) known
+      ∙ ap Back (sym (back_more reports i v lt here))
+
+  pub next_nearest : (reports : List Violation) (i last next : ℕ) (v : Violation) → i < length reports → v ≡ get_or reports i v → next ≡ cond (replaces v) i last
+      → slice_get reports last ≡ find replaces (reverse (take i reports)) → slice_get reports next ≡ find replaces (reverse (take (i + 1) reports))
+  next_nearest reports i last next v lt here kept nearest =
+      ap (slice_get reports) kept ∙ get_nearest reports i last v (reverse (take i reports)) lt (sym here) nearest
+      ∙ ap (find replaces) (sym (back_more reports i v lt here))
 
   -- ---- two reports
 
@@ -67,7 +80,11 @@ module _ (wide : Bool) (settings : LinterSettings) (tree : Tree) where
       by true = All-cons (IsBetween text) (other_for u v) rest here.range.start after
       by false = after
 
-  pub others_placed : (text : Text) (last : Option Violation) (vs : List Violation) → All (IsPlaced text) vs → All (IsBetween text) (After last vs)
-  others_placed text last [] placed = All-nil (IsBetween text)
-  others_placed text last (v ∷ vs) placed =
-      with_placed text last v (After (last_replacing last v) vs) (All-head (IsPlaced text) v vs placed) (others_placed text (last_replacing last v) vs (All-tail (IsPlaced text) v vs placed))
+  back_placed : (text : Text) (vs : List Violation) → All (IsPlaced text) vs → All (IsBetween text) (Back vs)
+  back_placed text [] placed = All-nil (IsBetween text)
+  back_placed text (v ∷ before) placed =
+      All-append (IsBetween text) (Back before) _ (back_placed text before (All-tail (IsPlaced text) v before placed))
+      (with_placed text (find replaces before) v [] (All-head (IsPlaced text) v before placed) (All-nil (IsBetween text)))
+
+  pub others_placed : (text : Text) (vs : List Violation) → All (IsPlaced text) vs → All (IsBetween text) (others_of wide settings tree vs)
+  others_placed text vs placed = back_placed text (reverse vs) (all_back (IsPlaced text) vs placed)

@@ -1,5 +1,6 @@
 -- Fixes that are not made, since another one changes the same bytes and comes first.
-use Rattle.std.specs.Prelude.{◌==◌, ◌&&◌, Bool, false, List, [], ◌∷◌, Option, Some, None, is_some, if◌then◌else◌}
+use Rattle.std.specs.Prelude.{◌==◌, ◌&&◌, ◌++◌, Bool, false, List, [], ◌∷◌, reverse, Option, Some, None, is_some, if◌then◌else◌}
+use Rattle.std.specs.List.{find}
 use Rattle.text_pos.specs.Range.{Range}
 use Rattle.sql_tree.specs.Statement.{Tree}
 use Rattle.lint_base.specs.declared.edit.Edit.{Edit}
@@ -64,20 +65,16 @@ other_by wide settings tree (Some u) v = if is_beside wide settings tree u v the
 abbrev pub replaces : Violation → Bool
 replaces v = is_listed v.code && is_some (replaced_by v.fix)
 
--- this report, if it is such a one, or else the last one before it
-abbrev pub last_replacing : Option Violation → Violation → Option Violation
-last_replacing last v = if replaces v then Some v else last
-
 abbrev pub with_other : Option OtherFix → List OtherFix → List OtherFix
 with_other None others = others
 with_other (Some other) others = other ∷ others
 
--- those of these reports, where this is the last report before them that is of a listed rule and has a fix that replaces bytes
-abbrev pub others_after : Bool → LinterSettings → Tree → Option Violation → List Violation → List OtherFix
-others_after wide settings tree last [] = []
-others_after wide settings tree last (v ∷ vs) =
-    with_other (other_by wide settings tree last v) (others_after wide settings tree (last_replacing last v) vs)
+-- those of reports that are given from the last one back: each is compared with the nearest report before it that is such a one
+abbrev pub others_back : Bool → LinterSettings → Tree → List Violation → List OtherFix
+others_back wide settings tree [] = []
+others_back wide settings tree (v ∷ before) =
+    others_back wide settings tree before ++ with_other (other_by wide settings tree (find replaces before) v) []
 
--- Each report is compared with the last one before it of a listed rule whose fix replaces bytes.
+-- those of reports, in their order
 abbrev pub others_of : Bool → LinterSettings → Tree → List Violation → List OtherFix
-others_of wide settings tree vs = others_after wide settings tree None vs
+others_of wide settings tree vs = others_back wide settings tree (reverse vs)

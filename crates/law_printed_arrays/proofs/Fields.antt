@@ -103,7 +103,7 @@ as_range start end = record { start = start; end = end }
 pub same_range : (r s : Range) → r.start ≡ s.start → r.end ≡ s.end → r ≡ s
 same_range r s a b = ap (λ x. as_range x r.end) a ∙ ap (λ x. as_range s.start x) b
 
--- ---- from fields to what is told
+-- ---- from the fields of JSON to those of the report
 
 abbrev as_edit : Range → List ℕ → ToldEdit
 as_edit range text = record { range = range; text = text }

@@ -78,7 +78,7 @@ items_in (json.string s) = json.no_items
 items_in (json.array js) = js
 items_in (json.object ms) = json.no_items
 
--- what is told of two things, of which P and Q hold, is the same where the same is printed of them
+-- two things of which P and Q hold are alike for a reader where the same is printed for both
 abbrev pub LeadsBack : {A T : Type 0} → (A → Data) → (A → Data) → (A → Type 0) → (A → Type 0) → (A → T) → Type 0
 LeadsBack {A} printed other P Q tell = (a b : A) → P a → Q b → outline (printed a) ≡ outline (other b) → tell a ≡ tell b
 

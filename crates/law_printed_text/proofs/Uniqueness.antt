@@ -38,7 +38,7 @@ all_items files = flat_map items_in files
 abbrev kept_of : Item → Kept
 kept_of i = kept (found_of i)
 
--- ---- they are those of which is told
+-- ---- the findings of the files are those that the blocks give back
 
 reports_kept : (file : FileValue) (vs : List Report) → map kept (map (found_report file) vs) ≡ map kept_of (map (reported file) vs)
 reports_kept file [] = refl

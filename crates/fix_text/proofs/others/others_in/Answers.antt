@@ -1,6 +1,6 @@
 use Rattle.std.proofs.Common.{◌∙◌, List, ap, subst, sym}
 use Rattle.std.proofs.lemmas.Result.{IfOk-weaker}
-use Rattle.std.specs.Prelude.{All, None}
+use Rattle.std.specs.Prelude.{All}
 use Rattle.std.specs.Str.{IsCharBoundary}
 use Rattle.lint_base.specs.declared.settings.LinterSettings.{LinterSettings}
 use Rattle.lint_base.specs.declared.violation.Violation.{Violation}
@@ -34,5 +34,5 @@ returns-clause-placed c =
     let text = c.args.file.now.text in
     let placed = subst (λ (vs : List Violation). All (IsPlaced text) vs) (sym c.as_slice.ensures.value) c.in_ok-reports.ensures.places in
     IfOk-weaker c.others_of.result _ _
-    (λ others h. subst (λ (os : List OtherFix). All (λ other. IsCharBoundary text other.at) os) (sym h) (others_placed c.args.wide _ c.args.file.now text None c.as_slice.result.now placed))
+    (λ others h. subst (λ (os : List OtherFix). All (λ other. IsCharBoundary text other.at) os) (sym h) (others_placed c.args.wide _ c.args.file.now text c.as_slice.result.now placed))
     c.others_of.ensures

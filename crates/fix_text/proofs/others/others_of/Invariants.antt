@@ -1,9 +1,11 @@
-use Rattle.std.proofs.Common.{◌≡◌, ◌++◌, drop}
-use Rattle.std.specs.Prelude.{slice_get}
-use Rattle.fix_text.specs.Others.{others_after, others_of}
+use Rattle.std.proofs.Common.{◌≡◌}
+use Rattle.std.specs.List.{find}
+use Rattle.std.specs.Prelude.{reverse, slice_get, take}
+use Rattle.fix_text.specs.Others.{others_back, replaces}
 use Rattle.fix_text.proofs.others.others_of.Given as goal
 
--- what was found, and then those of the reports that are left
+-- what was found among the first reports, and the nearest of them that replaces bytes
 abbrev pub invariant-loop-i : goal.invariant-loop-i
 invariant-loop-i l =
-    l.others.items ++ others_after l.wide l.settings l.file (slice_get l.reports l.last) (drop l.i l.reports) ≡ others_of l.wide l.settings l.file l.reports
+    (l.others.items ≡ others_back l.wide l.settings l.file (reverse (take l.i l.reports)))
+    × (slice_get l.reports l.last ≡ find replaces (reverse (take l.i l.reports)))
