@@ -6,7 +6,6 @@ use Rattle.checked_file.specs.declared.checked.Checked.{Checked}
 use Rattle.lint_report.specs.declared.report.Report.{Report}
 use Rattle.lint_report.specs.declared.report.ReportFix.{ReportFix}
 use Rattle.lint_report.specs.Codes.{name_of}
-use Rattle.report_gitlab.specs.Issues.{statement_text}
 use Rattle.source_file.specs.declared.level.Level.{Level}
 use Rattle.source_file.specs.declared.level.Level.TheVariants as levels
 use Rattle.source_file.specs.declared.refusal.Refusal.{Refusal}
@@ -16,8 +15,8 @@ use Rattle.source_file.specs.Refusals as refusals
 use Rattle.text_pos.specs.Range.{Range}
 use Rattle.check_print.specs.Printed.{source_of}
 
--- A finding: its file, its range, its level, the name of its rule or hazard and its message; its note, its help and its fix, where it has
--- them; and the text of its statement.
+-- A finding: its file, its range, its level, the name of its rule or hazard and its message; its note, its help, its fix and the range of
+-- its statement, where it has them.
 pub record Found : Type 0 where
   pub file : FileValue
   pub range : Range
@@ -27,7 +26,7 @@ pub record Found : Type 0 where
   pub note : Option (List ℕ)
   pub help : Option (List ℕ)
   pub fix : Option ReportFix
-  pub statement : List ℕ
+  pub statement : Option Range
 
 -- a report
 abbrev pub found_report : FileValue → Report → Found
@@ -40,7 +39,7 @@ found_report file v = record {
   note = v.note;
   help = v.help;
   fix = v.fix;
-  statement = statement_text file.text v;
+  statement = Some v.statement;
 }
 
 -- why a file could not be linted
@@ -54,7 +53,7 @@ found_refusal file r = record {
   note = None;
   help = option_map text_of (hint_of file.text r);
   fix = None;
-  statement = [];
+  statement = None;
 }
 
 abbrev pub found_by : FileValue → Answer → List Found

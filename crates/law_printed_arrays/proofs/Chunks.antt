@@ -58,7 +58,7 @@ hint_text (Some hint) = refl
 abbrev refusal_text : Bool → FileValue → Refusal → Data → List ℕ
 refusal_text b file r help =
     let at = place_of r in
-    array_separator b ++ compact_text (finding_object file (record { start = at; end = at }) (word_of Error) (name_of r) (message_of r) null help null)
+    array_separator b ++ compact_text (finding_object file (record { start = at; end = at }) (word_of Error) (name_of r) (message_of r) null help null null)
 
 pub json_prints : (color quiet statistics : Bool) → Prints (style_in format.Json color quiet statistics) (members_by object_of)
 unfolding printed_report printed_refusal

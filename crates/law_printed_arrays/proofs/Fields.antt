@@ -3,8 +3,10 @@ use Rattle.std.proofs.Common.{◌≡◌, ◌∙◌, ◌<◌, ◌^◌, ℕ, List,
 use Rattle.std.proofs.lemmas.Fmt.{decimal_injective}
 use Rattle.std.specs.Prelude.{decimal}
 use Rattle.json.specs.Json as json
+use Rattle.lint_base.specs.declared.edit.Edit.{Edit}
 use Rattle.lint_report.specs.declared.fix_class.FixClass.{FixClass}
 use Rattle.lint_report.specs.declared.fix_class.FixClass.TheVariants.{Safe, Unsafe, Template}
+use Rattle.lint_report.specs.declared.report.ReportFix.{ReportFix}
 use Rattle.lint_report.specs.FixClasses as classes
 use Rattle.report_json.specs.Objects as reports
 use Rattle.report_sarif.specs.Results as sarif
@@ -15,14 +17,14 @@ use Rattle.source_file.specs.declared.place.Place.{Place}
 use Rattle.source_file.specs.File.{location}
 use Rattle.source_file.specs.Levels.{word_of}
 use Rattle.text_pos.specs.Range.{Range}
-use Rattle.law_printed_arrays.specs.Told.{ToldEdit, ToldFix, ToldReport}
+use Rattle.law_printed_arrays.specs.Kept.{KeptFinding}
 use Rattle.law_printed_lines.proofs.Places.{column_short, line_short}
 use Rattle.law_printed_arrays.proofs.Shapes.{first_in, items_in}
 
 -- ---- parts of a value
 
 -- the value of the member at a place
-abbrev value_at : ℕ → json.Members → json.Json
+abbrev pub value_at : ℕ → json.Members → json.Json
 value_at n json.no_members = json.null
 value_at zero (json.member k j ms) = j
 value_at (suc n) (json.member k j ms) = value_at n ms
@@ -105,35 +107,23 @@ same_range r s a b = ap (λ x. as_range x r.end) a ∙ ap (λ x. as_range s.star
 
 -- ---- from the fields of JSON to those of the report
 
-abbrev as_edit : Range → List ℕ → ToldEdit
-as_edit range text = record { range = range; text = text }
+abbrev as_edit : Range → Option (List ℕ) → Edit
+as_edit range text = record { text_range = range; text = text }
 
-pub same_edit : (r s : Range) (t u : List ℕ) → r ≡ s → t ≡ u → as_edit r t ≡ as_edit s u
-same_edit r s t u a b = ap (λ x. as_edit x t) a ∙ ap (λ x. as_edit s x) b
+pub same_edit : (a b : Edit) → a.text_range ≡ b.text_range → a.text ≡ b.text → a ≡ b
+same_edit a b ranges texts = ap (λ x. as_edit x a.text) ranges ∙ ap (λ x. as_edit b.text_range x) texts
 
-abbrev as_fix : FixClass → List ℕ → List ToldEdit → ToldFix
-as_fix class title edits = record { class = class; title = title; edits = edits }
+abbrev as_fix : FixClass → List ℕ → List Edit → ReportFix
+as_fix class title edits = record { class = class; fix = record { title = title; edits = edits } }
 
-pub same_fix : (c d : FixClass) (t u : List ℕ) (es fs : List ToldEdit) → c ≡ d → t ≡ u → es ≡ fs → as_fix c t es ≡ as_fix d u fs
-same_fix c d t u es fs a b e = ap (λ x. as_fix x t es) a ∙ ap (λ x. as_fix d x es) b ∙ ap (λ x. as_fix d u x) e
+pub same_fix : (f g : ReportFix) → f.class ≡ g.class → f.fix.title ≡ g.fix.title → f.fix.edits ≡ g.fix.edits → f ≡ g
+same_fix f g classes titles edits =
+    ap (λ x. as_fix x f.fix.title f.fix.edits) classes ∙ ap (λ x. as_fix g.class x f.fix.edits) titles ∙ ap (λ x. as_fix g.class g.fix.title x) edits
 
-abbrev as_report : List ℕ → Place → Place → Level → List ℕ → List ℕ → Option (List ℕ) → Option (List ℕ) → Option ToldFix → ToldReport
-as_report name first last level rule message note help fix =
-    record {
-      name = name;
-      first = first;
-      last = last;
-      level = level;
-      rule = rule;
-      message = message;
-      note = note;
-      help = help;
-      fix = fix;
-    }
-
--- all fields of two reports are the same
-pub record HaveSame (a b : ToldReport) : Type 0 where
+-- all fields of two findings are the same
+pub record HaveSame (a b : KeptFinding) : Type 0 where
   pub name : a.name ≡ b.name
+  pub range : a.range ≡ b.range
   pub first : a.first ≡ b.first
   pub last : a.last ≡ b.last
   pub level : a.level ≡ b.level
@@ -142,15 +132,24 @@ pub record HaveSame (a b : ToldReport) : Type 0 where
   pub note : a.note ≡ b.note
   pub help : a.help ≡ b.help
   pub fix : a.fix ≡ b.fix
+  pub statement : a.statement ≡ b.statement
 
-pub same_report : (a b : ToldReport) → HaveSame a b → a ≡ b
-same_report a b s =
-    ap (λ x. as_report x a.first a.last a.level a.rule a.message a.note a.help a.fix) s.name
-    ∙ ap (λ x. as_report b.name x a.last a.level a.rule a.message a.note a.help a.fix) s.first
-    ∙ ap (λ x. as_report b.name b.first x a.level a.rule a.message a.note a.help a.fix) s.last
-    ∙ ap (λ x. as_report b.name b.first b.last x a.rule a.message a.note a.help a.fix) s.level
-    ∙ ap (λ x. as_report b.name b.first b.last b.level x a.message a.note a.help a.fix) s.rule
-    ∙ ap (λ x. as_report b.name b.first b.last b.level b.rule x a.note a.help a.fix) s.message
-    ∙ ap (λ x. as_report b.name b.first b.last b.level b.rule b.message x a.help a.fix) s.note
-    ∙ ap (λ x. as_report b.name b.first b.last b.level b.rule b.message b.note x a.fix) s.help
-    ∙ ap (λ x. as_report b.name b.first b.last b.level b.rule b.message b.note b.help x) s.fix
+-- those after the first four
+same_rest : (a b : KeptFinding) → HaveSame a b → record a { name = b.name; range = b.range; first = b.first; last = b.last } ≡ b
+same_rest a b s =
+    let c = record a { name = b.name; range = b.range; first = b.first; last = b.last } in
+    ap (λ x. record c { level = x }) s.level
+    ∙ ap (λ x. record c { level = b.level; rule = x }) s.rule
+    ∙ ap (λ x. record c { level = b.level; rule = b.rule; message = x }) s.message
+    ∙ ap (λ x. record b { note = x; help = a.help; fix = a.fix; statement = a.statement }) s.note
+    ∙ ap (λ x. record b { help = x; fix = a.fix; statement = a.statement }) s.help
+    ∙ ap (λ x. record b { fix = x; statement = a.statement }) s.fix
+    ∙ ap (λ x. record b { statement = x }) s.statement
+
+pub same_finding : (a b : KeptFinding) → HaveSame a b → a ≡ b
+same_finding a b s =
+    ap (λ x. record a { name = x }) s.name
+    ∙ ap (λ x. record a { name = b.name; range = x }) s.range
+    ∙ ap (λ x. record a { name = b.name; range = b.range; first = x }) s.first
+    ∙ ap (λ x. record a { name = b.name; range = b.range; first = b.first; last = x }) s.last
+    ∙ same_rest a b s

@@ -11,5 +11,6 @@ mod Fields
 mod Edits
 mod Objects
 mod Results
+mod Reports
 mod Issues
 mod Uniqueness

@@ -15,18 +15,26 @@ use Rattle.source_file.specs.File.{FileValue, IsRangeIn}
 use Rattle.source_file.specs.Refusals.{place_of}
 use Rattle.law_printed_arrays.proofs.Names.{name_bytes}
 
--- the name of a finding's file has bytes alone, its text is short, and the finding and its fix are in it
+-- the name of a finding's file has bytes alone, its text is short, and the finding, its statement and its fix are in it
 pub record IsPlaced (f : Found) : Type 0 where
   pub named : All (λ b. b < 256) f.file.name
   pub short : length f.file.text < 2 ^ 32
   pub range : IsRangeIn f.file.text f.range
   pub edits : IfSome f.fix (λ x. AreEditsIn f.file.text x.fix.edits)
+  pub statement : IfSome f.statement (IsRangeIn f.file.text)
 
 placed_report : (file : FileValue) (v : Report) → All (λ b. b < 256) file.name → length file.text < 2 ^ 32 → IsReportIn file.text v → IsPlaced (found_report file v)
-placed_report file v named short h = record { named = named; short = short; range = h.range; edits = h.edits }
+placed_report file v named short h = record { named = named; short = short; range = h.range; edits = h.edits; statement = h.statement }
 
 placed_refusal : (file : FileValue) (r : Refusal) → All (λ b. b < 256) file.name → length file.text < 2 ^ 32 → IsCharBoundary file.text (place_of r) → IsPlaced (found_refusal file r)
-placed_refusal file r named short h = record { named = named; short = short; range = record { ordered = omega arith; start = h; end = h }; edits = tt }
+placed_refusal file r named short h =
+    record {
+      named = named;
+      short = short;
+      range = record { ordered = omega arith; start = h; end = h };
+      edits = tt;
+      statement = tt;
+    }
 
 placed_by : (file : FileValue) (answer : Answer) → All (λ b. b < 256) file.name → length file.text < 2 ^ 32 → IsIn file.text answer → All IsPlaced (found_by file answer)
 placed_by file (Reports reports) named short h =

@@ -82,6 +82,10 @@ items_in (json.object ms) = json.no_items
 abbrev pub LeadsBack : {A T : Type 0} → (A → Data) → (A → Data) → (A → Type 0) → (A → Type 0) → (A → T) → Type 0
 LeadsBack {A} printed other P Q tell = (a b : A) → P a → Q b → outline (printed a) ≡ outline (other b) → tell a ≡ tell b
 
+map_same : {A : Type 0} (xs : List A) → map (λ x. x) xs ≡ xs
+map_same [] = refl
+map_same (x ∷ xs) = ap (λ l. x ∷ l) (map_same xs)
+
 -- so it is of two lists
 pub all_same : {A T : Type 0} (printed other : A → Data) (P Q : A → Type 0) (tell : A → T) → LeadsBack printed other P Q tell → (xs ys : List A) → All P xs → All Q ys
     → items_outline (items_of (map printed xs)) ≡ items_outline (items_of (map other ys)) → map tell xs ≡ map tell ys
@@ -92,6 +96,11 @@ all_same printed other P Q tell leads (x ∷ xs) (y ∷ ys) p q e =
     let one = leads x y (All-head P x xs p) (All-head Q y ys q) (ap first_in e) in
     let more = all_same printed other P Q tell leads xs ys (All-tail P x xs p) (All-tail Q y ys q) (ap rest_in e) in
     ap (λ t. t ∷ map tell xs) one ∙ ap (λ ts. tell y ∷ ts) more
+
+-- two lists are the same where what is printed of each two things leads back to them
+pub all_equal : {A : Type 0} (printed other : A → Data) (P Q : A → Type 0) → LeadsBack printed other P Q (λ x. x) → (xs ys : List A) → All P xs → All Q ys
+    → items_outline (items_of (map printed xs)) ≡ items_outline (items_of (map other ys)) → xs ≡ ys
+all_equal printed other P Q leads xs ys p q e = sym (map_same xs) ∙ all_same printed other P Q (λ x. x) leads xs ys p q e ∙ map_same ys
 
 fused : (members : Found → Members) (fs : List Found) → map object (map members fs) ≡ map (λ f. object (members f)) fs
 fused members [] = refl

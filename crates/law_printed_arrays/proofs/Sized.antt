@@ -16,8 +16,8 @@ use Rattle.text_pos.specs.Range.{Range}
 use Rattle.law_printed_arrays.proofs.Placed.{IsPlaced}
 use Rattle.law_printed_arrays.proofs.Places.{at_short}
 use Rattle.law_printed_lines.proofs.Places.{column_short, line_short}
-use Rattle.law_printed_arrays.proofs.Short.{AreShortItems, IsShort}
-use Rattle.law_printed_arrays.proofs.Values.{issue_of, object_of, result_of}
+use Rattle.law_printed_arrays.proofs.Short.{AreShortItems, AreShortMembers, IsShort}
+use Rattle.law_printed_arrays.proofs.Values.{issue_of, object_of, range_data, region_data, result_of}
 
 -- ---- JSON
 
@@ -30,11 +30,15 @@ edits_short text [] short h = tt
 edits_short text (e ∷ es) short h =
     let P : Edit → Type 0 = λ e. IsRangeIn text e.text_range in
     let here = All-head P e es h in
-    ((at_short text e.text_range.end short here.end, (at_short text e.text_range.start short here.start, (tt, tt))), edits_short text es short (All-tail P e es h))
+    ((at_short text e.text_range.end short here.end, (at_short text e.text_range.start short here.start, (text_short e.text, tt))), edits_short text es short (All-tail P e es h))
 
 fix_short : (text : List ℕ) (fix : Option ReportFix) → length text < 2 ^ 32 → IfSome fix (λ f. AreEditsIn text f.fix.edits) → IsShort (json.fix_data fix)
 fix_short text None short h = tt
 fix_short text (Some f) short h = (tt, (edits_short text f.fix.edits short h, (tt, tt)))
+
+statement_short : (text : List ℕ) (range : Option Range) → length text < 2 ^ 32 → IfSome range (IsRangeIn text) → IsShort (range_data range)
+statement_short text None short h = tt
+statement_short text (Some range) short h = (at_short text range.end short h.end, (at_short text range.start short h.start, tt))
 
 pub object_short : (f : Found) → IsPlaced f → IsShort (object_of f)
 object_short f p =
@@ -43,12 +47,12 @@ object_short f p =
     let end = f.range.end in
     let fix = fix_short text f.fix p.short p.edits in
     let help = text_short f.help in
-    let note = text_short f.note in (
+    let note = text_short f.note in
+    let statement = statement_short text f.statement p.short p.statement in
+    let from_note = (note, (tt, (at_short text start p.short p.range.start, (statement, tt)))) in
+    let from_line = (line_short text start p.short, (line_short text end p.short, (tt, from_note))) in (
       column_short text start p.short,
-      (
-        column_short text end p.short,
-        (tt, (fix, (help, (tt, (line_short text start p.short, (line_short text end p.short, (tt, (note, (tt, tt))))))))),
-      ),
+      (column_short text end p.short, (at_short text end p.short p.range.end, (tt, (fix, (help, (tt, from_line)))))),
     )
 
 -- ---- SARIF
@@ -69,11 +73,15 @@ region_short text range short h = (
   ),
 )
 
+inserted_short : (text : Option (List ℕ)) → AreShortMembers (sarif.inserted text)
+inserted_short None = tt
+inserted_short (Some text) = ((tt, tt), tt)
+
 replacements_short : (text : List ℕ) (edits : List Edit) → length text < 2 ^ 32 → AreEditsIn text edits → AreShortItems (items_of (map (sarif.replacement text) edits))
 replacements_short text [] short h = tt
 replacements_short text (e ∷ es) short h =
     let P : Edit → Type 0 = λ e. IsRangeIn text e.text_range in
-    ((region_short text e.text_range short (All-head P e es h), ((tt, tt), tt)), replacements_short text es short (All-tail P e es h))
+    ((region_short text e.text_range short (All-head P e es h), inserted_short e.text), replacements_short text es short (All-tail P e es h))
 
 fix_object_short : (file : FileValue) (f : ReportFix) → length file.text < 2 ^ 32 → AreEditsIn file.text f.fix.edits → IsShort (sarif.one (sarif.fix_object file f))
 fix_object_short file f short h = (((((tt, tt), (replacements_short file.text f.fix.edits short h, tt)), tt), ((tt, tt), ((tt, tt), tt))), tt)
@@ -86,6 +94,10 @@ fixes_short : (file : FileValue) (fix : Option ReportFix) → length file.text <
 fixes_short file None short h = tt
 fixes_short file (Some f) short h = either_short (sarif.are_in_text file.text f.fix.edits) (sarif.one (sarif.fix_object file f)) (fix_object_short file f short h)
 
+place_short : (text : List ℕ) (range : Option Range) → length text < 2 ^ 32 → IfSome range (IsRangeIn text) → IsShort (region_data text range)
+place_short text None short h = tt
+place_short text (Some range) short h = region_short text range short h
+
 pub result_short : (f : Found) → IsPlaced f → IsShort (result_of f)
 result_short f p = (
   fixes_short f.file f.fix p.short p.edits,
@@ -93,7 +105,7 @@ result_short f p = (
     tt,
     (
       ((((tt, tt), (region_short f.file.text f.range p.short p.range, tt)), tt), tt),
-      ((tt, tt), ((bag_short f.help, (bag_short f.note, tt)), (tt, tt))),
+      ((tt, tt), ((bag_short f.help, (bag_short f.note, (place_short f.file.text f.statement p.short p.statement, tt))), (tt, tt))),
     ),
   ),
 )

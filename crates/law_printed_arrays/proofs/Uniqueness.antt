@@ -13,13 +13,14 @@ use Rattle.json.specs.Lex.{tokens}
 use Rattle.json.specs.Spaced.{print_spaced}
 use Rattle.report_sarif.specs.Log as sarif
 use Rattle.serde_json.specs.Data.{Members, object}
-use Rattle.law_printed_arrays.specs.Told.{bytes_of, told_issue, told_report}
-use Rattle.law_printed_arrays.specs.Unique.{UniqueArrays, UniqueIssues, UniqueLogs, style_in}
+use Rattle.law_printed_arrays.specs.Kept.{kept_finding, kept_issue}
+use Rattle.law_printed_arrays.specs.Unique.{HaveSameFindings, HaveSameReports, UniqueArrays, UniqueIssues, UniqueLogs, style_in}
 use Rattle.law_printed_arrays.proofs.Chunks.{Prints, chunks, files_chunks, gitlab_prints, json_prints, sarif_prints}
 use Rattle.law_printed_arrays.proofs.Issues.{issue_back}
 use Rattle.law_printed_arrays.proofs.Objects.{object_back}
 use Rattle.law_printed_arrays.proofs.Placed.{IsPlaced, all_placed}
-use Rattle.law_printed_arrays.proofs.Results.{bytes_back, result_back}
+use Rattle.law_printed_arrays.proofs.Reports.{same_reports}
+use Rattle.law_printed_arrays.proofs.Results.{result_back}
 use Rattle.law_printed_arrays.proofs.Shapes.{LeadsBack, Short, has_numbers, same_findings, same_value}
 use Rattle.law_printed_arrays.proofs.Short.{IsShort}
 use Rattle.law_printed_arrays.proofs.Sized.{issue_short, object_short, result_short}
@@ -48,10 +49,15 @@ same_files style members tell prints short leads files others p q e =
     ∙ ap tokens texts
     ∙ array_tokens nss (has_numbers members (all_found others) (all_short members short others q))))
 
+-- files of which the findings are the same have the same reports
+with_reports : (files others : List Checked) → HaveSameFindings files others → HaveSameReports files others × HaveSameFindings files others
+with_reports files others e = (same_reports files others e, e)
+
 pub unique_arrays : UniqueArrays
 unique_arrays color quiet statistics files others sound others_sound e =
-    same_files (style_in format.Json color quiet statistics) (members_by object_of) told_report (json_prints color quiet statistics) object_short object_back files others sound others_sound
-    (append_cancel_right _ _ (codes "\n]\n") (append_cancel_left (codes "[") _ _ e))
+    with_reports files others
+    (same_files (style_in format.Json color quiet statistics) (members_by object_of) kept_finding (json_prints color quiet statistics) object_short object_back files others sound others_sound
+    (append_cancel_right _ _ (codes "\n]\n") (append_cancel_left (codes "[") _ _ e)))
 
 pub unique_logs : UniqueLogs
 unique_logs color quiet statistics files others sound others_sound e =
@@ -59,12 +65,10 @@ unique_logs color quiet statistics files others sound others_sound e =
     let inside : printed_files style false files ≡ printed_files style false others =
     append_cancel_right _ _ (codes "\n" ++ sarif.closing ++ codes "\n") (append_cancel_left sarif.opening _ _ e)
     in
-    let prints = sarif_prints color quiet statistics in (
-      same_files style (members_by result_of) told_report prints result_short result_back files others sound others_sound inside,
-      same_files style (members_by result_of) bytes_of prints result_short bytes_back files others sound others_sound inside,
-    )
+    with_reports files others
+    (same_files style (members_by result_of) kept_finding (sarif_prints color quiet statistics) result_short result_back files others sound others_sound inside)
 
 pub unique_issues : UniqueIssues
 unique_issues color quiet statistics files others sound others_sound e =
-    same_files (style_in format.Gitlab color quiet statistics) (members_by issue_of) told_issue (gitlab_prints color quiet statistics) issue_short issue_back files others sound others_sound
+    same_files (style_in format.Gitlab color quiet statistics) (members_by issue_of) kept_issue (gitlab_prints color quiet statistics) issue_short issue_back files others sound others_sound
     (append_cancel_right _ _ (codes "\n]\n") (append_cancel_left (codes "[") _ _ e))

@@ -1,25 +1,46 @@
 -- What is printed of a finding for programs.
+use Rattle.std.specs.Prelude.{ℕ, List, [], Option, Some, None, slice_range}
 use Rattle.check_print.specs.Found.{Found}
 use Rattle.report_gitlab.specs.Issues.{issue_object}
 use Rattle.report_json.specs.Objects as json
+use Rattle.report_sarif.specs.Places.{region}
 use Rattle.report_sarif.specs.Results as sarif
 use Rattle.serde_json.specs.Data.{Data, Members, array, boolean, no_members, null, number, object, string}
 use Rattle.source_file.specs.File.{line_number}
 use Rattle.source_file.specs.Levels.{word_of}
+use Rattle.text_pos.specs.Range.{Range}
+
+-- ---- the statement
+
+abbrev pub range_data : Option Range → Data
+range_data None = null
+range_data (Some range) = json.range_object range
+
+abbrev pub region_data : List ℕ → Option Range → Data
+region_data text None = null
+region_data text (Some range) = region text range
+
+abbrev part_of : List ℕ → Option Range → List ℕ
+part_of text None = []
+part_of text (Some range) = slice_range text range.start range.end
+
+-- ---- the finding
 
 -- the object of JSON
 abbrev pub object_of : Found → Data
-object_of f = json.finding_object f.file f.range (word_of f.level) f.rule f.message (json.text_data f.note) (json.text_data f.help) (json.fix_data f.fix)
+object_of f =
+    json.finding_object f.file f.range (word_of f.level) f.rule f.message (json.text_data f.note) (json.text_data f.help) (json.fix_data f.fix)
+    (range_data f.statement)
 
 -- the result of SARIF
 abbrev pub result_of : Found → Data
 result_of f =
     sarif.result_object f.file f.range (word_of f.level) f.rule f.message (sarif.fixes f.file f.fix)
-    (sarif.result_properties (sarif.text_data f.note) (sarif.text_data f.help))
+    (sarif.result_properties (sarif.text_data f.help) (sarif.text_data f.note) (region_data f.file.text f.statement))
 
 -- the issue of GitLab
 abbrev pub issue_of : Found → Data
-issue_of f = issue_object f.file (line_number f.file.text f.range.start) f.level f.rule f.message f.statement
+issue_of f = issue_object f.file (line_number f.file.text f.range.start) f.level f.rule f.message (part_of f.file.text f.statement)
 
 -- the members of an object
 abbrev pub members_in : Data → Members

@@ -1,4 +1,4 @@
--- What is written of a run for programs leads back to its findings.
+-- No two different lists of reports are printed alike for programs.
 use Rattle.std.specs.Prelude.{◌≡◌, All, Bool, List, map}
 use Rattle.check_words.specs.declared.request.Format.{Format}
 use Rattle.check_words.specs.declared.request.Format.TheVariants as format
@@ -7,27 +7,36 @@ use Rattle.checked_file.specs.Sound.{IsSound}
 use Rattle.check_print.specs.declared.style.Style.{Style}
 use Rattle.check_print.specs.Found.{all_found}
 use Rattle.check_print.specs.Printed.{printed}
-use Rattle.law_printed_arrays.specs.Told.{bytes_of, told_issue, told_report}
+use Rattle.law_printed_arrays.specs.Kept.{all_reported, kept_finding, kept_issue}
 
 -- a format, whatever else is asked for
 abbrev pub style_in : Format → Bool → Bool → Bool → Style
 style_in format color quiet statistics = record { format = format; color = color; quiet = quiet; statistics = statistics }
 
--- Sound files of which the same JSON is printed have the same findings, at the same places, with the same notes, helps and fixes, in the
--- same order.
+-- of files the same is reported: the same reports, field by field, and the same refusals, of files of the same names, in the same order
+abbrev pub HaveSameReports : List Checked → List Checked → Type 0
+HaveSameReports files others = all_reported files ≡ all_reported others
+
+-- what is printed of their findings is the same, lines and columns among it
+abbrev pub HaveSameFindings : List Checked → List Checked → Type 0
+HaveSameFindings files others = map kept_finding (all_found files) ≡ map kept_finding (all_found others)
+
+-- Sound files of which the same is printed in a format have the same reports, and the same findings.
+abbrev pub IsUnique : Format → Type 0
+IsUnique form = (color quiet statistics : Bool) (files others : List Checked) → All IsSound files → All IsSound others
+    → printed (style_in form color quiet statistics) files ≡ printed (style_in form color quiet statistics) others
+    → HaveSameReports files others × HaveSameFindings files others
+
+-- No two different lists of reports are printed alike in JSON.
 abbrev pub UniqueArrays : Type 0
-UniqueArrays = (color quiet statistics : Bool) (files others : List Checked) → All IsSound files → All IsSound others
-    → printed (style_in format.Json color quiet statistics) files ≡ printed (style_in format.Json color quiet statistics) others
-    → map told_report (all_found files) ≡ map told_report (all_found others)
+UniqueArrays = IsUnique format.Json
 
--- The same of SARIF, which has their bytes too.
+-- None are in SARIF.
 abbrev pub UniqueLogs : Type 0
-UniqueLogs = (color quiet statistics : Bool) (files others : List Checked) → All IsSound files → All IsSound others
-    → printed (style_in format.Sarif color quiet statistics) files ≡ printed (style_in format.Sarif color quiet statistics) others
-    → (map told_report (all_found files) ≡ map told_report (all_found others)) × (map bytes_of (all_found files) ≡ map bytes_of (all_found others))
+UniqueLogs = IsUnique format.Sarif
 
--- The same of GitLab's format, but for what it does not keep: columns, where a finding ends, notes, helps and fixes.
+-- The same of GitLab's format for what it keeps: no columns, no ends, no notes, helps and fixes.
 abbrev pub UniqueIssues : Type 0
 UniqueIssues = (color quiet statistics : Bool) (files others : List Checked) → All IsSound files → All IsSound others
     → printed (style_in format.Gitlab color quiet statistics) files ≡ printed (style_in format.Gitlab color quiet statistics) others
-    → map told_issue (all_found files) ≡ map told_issue (all_found others)
+    → map kept_issue (all_found files) ≡ map kept_issue (all_found others)

@@ -1,17 +1,16 @@
-//! Laws of what is printed for programs: the JSON and the SARIF of a run lead back to each file, place, level, rule, message, note, help and
-//! fix, and what GitLab reads as far as its format keeps them.
+//! Laws of what is printed for programs: no two different lists of reports are printed alike in JSON, and none in SARIF; and what GitLab reads
+//! leads back to each finding as far as its format keeps it.
 #![tactic(auto)]
 
 ghost use Rattle.law_printed_arrays.specs.Unique.{UniqueArrays, UniqueIssues, UniqueLogs};
 
-/// Two lists of sound files of which the same JSON is printed have the same findings, at the same places, with the same notes, helps and
-/// fixes, in the same order.
+/// Two lists of sound files of which the same JSON is printed have the same reports, field by field, and the same refusals, in the same order;
+/// and each of them begins and ends on the same line and in the same column.
 pub fn unique_arrays()
     ensures { UniqueArrays }
 {}
 
-/// Two lists of sound files of which the same SARIF is printed have the same findings, at the same places and bytes, with the same notes,
-/// helps and fixes, in the same order.
+/// The same of SARIF.
 pub fn unique_logs()
     ensures { UniqueLogs }
 {}

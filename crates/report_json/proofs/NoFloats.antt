@@ -17,7 +17,7 @@ text_has_no_float (Some text) = refl
 
 edits_have_no_float : (edits : List Edit) → items_have_float (items_of (map edit_object edits)) ≡ false
 edits_have_no_float [] = refl
-edits_have_no_float (e ∷ es) = edits_have_no_float es
+edits_have_no_float (e ∷ es) = rw (text_has_no_float e.text) (edits_have_no_float es)
 
 fix_has_no_float : (fix : Option ReportFix) → has_float (fix_data fix) ≡ false
 fix_has_no_float None = refl

@@ -4,12 +4,12 @@ ghost use Rattle.std.specs.Str.{IsCharBoundary};
 ghost use Rattle.serde_json.specs.View.{view};
 ghost use Rattle.source_file.specs.File.{IsRangeIn};
 ghost use Rattle.source_file.specs.Refusals as refusals;
-ghost use Rattle.report_json.specs.Objects.{edit_object, edits_data, finding_object, fix_data, hint_data, refusal_object, report_object, text_data};
+ghost use Rattle.report_json.specs.Objects.{edit_object, edits_data, finding_object, fix_data, hint_data, placed_object, range_object, refusal_object, report_object, text_data};
 
 use lint_base::{Edit, Text};
 use lint_report::{Report, ReportFix};
 use serde_json::{Value, json};
-use source_file::{Hint, Level, Refusal, SourceFile, hint_for};
+use source_file::{Hint, Level, Place, Refusal, SourceFile, hint_for};
 use std::alloc::{AllocError, Global};
 use text_pos::TextRange;
 
@@ -33,17 +33,21 @@ fn hint_value(alloc: Global, hint: Option<Hint>) -> Result<Value, AllocError>
     }
 }
 
+// A range. Its places are bytes, counted from 0.
+fn range_value(alloc: Global, range: TextRange) -> Result<Value, AllocError>
+    ensures { IfOk result (λ value. view value ≡ range_object range) }
+{
+    json!(in alloc; {"end": (range.end().raw()), "start": (range.start().raw())})
+}
+
 // An edit. Its places are bytes, counted from 0.
 fn edit_value(alloc: Global, edit: &Edit) -> Result<Value, AllocError>
     ensures { IfOk result (λ value. view value ≡ edit_object edit.now) }
 {
     let start = edit.text_range.start().raw();
     let end = edit.text_range.end().raw();
-    let made = match &edit.text {
-        None => "",
-        Some(text) => text.as_str(),
-    };
-    json!(in alloc; {"start": start, "end": end, "text": made})
+    let text = text_value(alloc, &edit.text)?;
+    json!(in alloc; {"end": end, "start": start, "text": text})
 }
 
 // Edits, in order.
@@ -70,14 +74,54 @@ fn fix_value(alloc: Global, fix: &Option<ReportFix>) -> Result<Value, AllocError
     json!(in alloc; {"class": class, "edits": edits, "title": title})
 }
 
-/// What a finding says beside its message.
+/// What a finding says beside its message, and its bytes.
 struct Details {
     note: Value,
     help: Value,
     fix: Value,
+    range: Value,
+    statement: Value,
 }
 
-// A finding.
+// A finding between two places of a file of this name.
+fn placed_value(
+    alloc: Global,
+    file: &str,
+    first: Place,
+    last: Place,
+    level: &str,
+    name: &str,
+    message: &str,
+    details: Details,
+) -> Result<Value, AllocError>
+    ensures { IfOk result (λ value. view value ≡ placed_object file.now first last level.now name.now message.now
+        (view details.note) (view details.help) (view details.fix) (view details.range) (view details.statement)) }
+{
+    let Details {
+        note,
+        help,
+        fix,
+        range,
+        statement,
+    } = details;
+    json!(in alloc; {
+        "column": (first.column as u64),
+        "column_end": (last.column as u64),
+        "file": file,
+        "fix": fix,
+        "help": help,
+        "level": level,
+        "line": (first.line as u64),
+        "line_end": (last.line as u64),
+        "message": message,
+        "note": note,
+        "range": range,
+        "rule_name": name,
+        "statement": statement
+    })
+}
+
+// A finding of a file.
 fn finding_value(
     alloc: Global,
     file: &SourceFile<'_>,
@@ -87,25 +131,14 @@ fn finding_value(
     message: &str,
     details: Details,
 ) -> Result<Value, AllocError>
-    requires { IsRangeIn file.now.text range }
-    ensures { IfOk result (λ value. view value ≡ finding_object file.now range level.now name.now message.now (view details.note) (view details.help) (view details.fix)) }
+    requires range { IsRangeIn file.now.text range }
+    requires bytes { view details.range ≡ range_object range }
+    ensures { IfOk result (λ value. view value ≡ finding_object file.now range level.now name.now message.now
+        (view details.note) (view details.help) (view details.fix) (view details.statement)) }
 {
     let first = file.place(range.start());
     let last = file.place(range.end());
-    let Details { note, help, fix } = details;
-    json!(in alloc; {
-        "column": (first.column as u64),
-        "column_end": (last.column as u64),
-        "file": (file.name()),
-        "fix": fix,
-        "help": help,
-        "level": level,
-        "line": (first.line as u64),
-        "line_end": (last.line as u64),
-        "message": message,
-        "note": note,
-        "rule_name": name
-    })
+    placed_value(alloc, file.name(), first, last, level, name, message, details)
 }
 
 /// A report as a value. The error comes when memory runs out.
@@ -121,6 +154,8 @@ pub fn report_value(
         note: text_value(alloc, &report.note)?,
         help: text_value(alloc, &report.help)?,
         fix: fix_value(alloc, &report.fix)?,
+        range: range_value(alloc, report.text_range)?,
+        statement: range_value(alloc, report.statement)?,
     };
     let level = Level::Warning.word();
     let name = report.code.name();
@@ -146,10 +181,13 @@ pub fn refusal_value(
     ensures { IfOk result (λ value. view value ≡ refusal_object file.now refusal.now) }
 {
     let at = refusal.place();
+    let range = TextRange::new(at, at);
     let details = Details {
         note: Value::Null,
         help: hint_value(alloc, hint_for(file.text(), refusal))?,
         fix: Value::Null,
+        range: range_value(alloc, range)?,
+        statement: Value::Null,
     };
     let level = Level::Error.word();
     let name = refusal.name();
@@ -157,7 +195,7 @@ pub fn refusal_value(
     finding_value(
         alloc,
         file,
-        TextRange::new(at, at),
+        range,
         level,
         name,
         message,

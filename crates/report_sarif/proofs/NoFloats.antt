@@ -2,7 +2,7 @@
 use Rattle.std.proofs.Common.{◌≡◌, ℕ, Bool, true, false, List, [], ◌∷◌, ◌++◌, map, Option, Some, None, option_map, if◌then◌else◌, refl}
 use Rattle.serde_json.specs.Data.{array, no_items}
 use Rattle.serde_json.specs.View.{items_of}
-use Rattle.serde_json.specs.Written.{has_float, items_have_float}
+use Rattle.serde_json.specs.Written.{has_float, items_have_float, members_have_float}
 use Rattle.hazard_base.specs.declared.hazard.Hazard.{Hazard}
 use Rattle.hazard_base.specs.Hazards.{all_hazards}
 use Rattle.lint_base.specs.declared.edit.Edit.{Edit}
@@ -14,11 +14,15 @@ use Rattle.source_file.specs.declared.refusal.Refusal.{Refusal}
 use Rattle.source_file.specs.File.{FileValue}
 use Rattle.source_file.specs.Hints.{hint_of, text_of}
 use Rattle.report_sarif.specs.Log.{hazard_object, rule_object, tool}
-use Rattle.report_sarif.specs.Results.{are_in_text, fix_object, fixes, one, refusal_result, replacement, report_result, text_data}
+use Rattle.report_sarif.specs.Results.{are_in_text, fix_object, fixes, inserted, one, refusal_result, replacement, report_result, text_data}
+
+inserted_has_no_float : (text : Option (List ℕ)) → members_have_float (inserted text) ≡ false
+inserted_has_no_float None = refl
+inserted_has_no_float (Some text) = refl
 
 edits_have_no_float : (text : List ℕ) (edits : List Edit) → items_have_float (items_of (map (replacement text) edits)) ≡ false
 edits_have_no_float text [] = refl
-edits_have_no_float text (e ∷ es) = edits_have_no_float text es
+edits_have_no_float text (e ∷ es) = rw (inserted_has_no_float e.text) (edits_have_no_float text es)
 
 fix_has_no_float : (file : FileValue) (fix : ReportFix) → has_float (one (fix_object file fix)) ≡ false
 fix_has_no_float file fix = rw (edits_have_no_float file.text fix.fix.edits) refl

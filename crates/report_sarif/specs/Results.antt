@@ -1,7 +1,7 @@
 -- Findings as results of SARIF 2.1.0: 3.8 property bags, 3.27 result, 3.11 message, 3.28 location, 3.55 fix, 3.56 artifactChange, 3.57 replacement.
-use Rattle.std.specs.Prelude.{ℕ, Bool, if◌then◌else◌, List, [], codes, map, Option, Some, None, option_map, unwrap_or}
+use Rattle.std.specs.Prelude.{ℕ, Bool, if◌then◌else◌, List, codes, map, Option, Some, None, option_map}
 use Rattle.std.specs.List.{list_all}
-use Rattle.serde_json.specs.Data.{Data, array, item, member, no_items, no_members, null, object, string}
+use Rattle.serde_json.specs.Data.{Data, Members, array, item, member, no_items, no_members, null, object, string}
 use Rattle.serde_json.specs.View.{items_of}
 use Rattle.text_pos.specs.Range.{Range}
 use Rattle.lint_base.specs.declared.edit.Edit.{Edit}
@@ -27,11 +27,14 @@ text_object text = object (member (codes "text") (string text) no_members)
 abbrev pub one : Data → Data
 one d = array (item d no_items)
 
+-- what is put in, if anything is
+abbrev pub inserted : Option Text → Members
+inserted None = no_members
+inserted (Some text) = member (codes "insertedContent") (text_object text) no_members
+
 -- an edit
 abbrev pub replacement : Text → Edit → Data
-replacement text e = object
-    (member (codes "deletedRegion") (region text e.text_range)
-    (member (codes "insertedContent") (text_object (unwrap_or e.text [])) no_members))
+replacement text e = object (member (codes "deletedRegion") (region text e.text_range) (inserted e.text))
 
 -- every edit is in the text, between characters
 abbrev pub are_in_text : Text → List Edit → Bool
@@ -72,9 +75,12 @@ abbrev pub text_data : Option (List ℕ) → Data
 text_data None = null
 text_data (Some text) = string text
 
--- the property bag of a finding: its note and its help
-abbrev pub result_properties : Data → Data → Data
-result_properties note help = object (member (codes "help") help (member (codes "note") note no_members))
+-- the property bag of a finding: its help, its note and its statement
+abbrev pub result_properties : Data → Data → Data → Data
+result_properties help note statement = object
+    (member (codes "help") help
+    (member (codes "note") note
+    (member (codes "statement") statement no_members)))
 
 -- a finding
 abbrev pub result_object : FileValue → Range → List ℕ → List ℕ → List ℕ → Data → Data → Data
@@ -89,11 +95,12 @@ result_object file range level name message fixes properties = object
 -- a report
 abbrev pub report_result : FileValue → Report → Data
 report_result file r =
-    result_object file r.text_range (word_of level.Warning) (name_of r.code) r.message (fixes file r.fix) (result_properties (text_data r.note) (text_data r.help))
+    result_object file r.text_range (word_of level.Warning) (name_of r.code) r.message (fixes file r.fix)
+    (result_properties (text_data r.help) (text_data r.note) (region file.text r.statement))
 
--- why a file could not be linted
+-- why a file could not be linted; no statement was read
 abbrev pub refusal_result : FileValue → Refusal → Data
 refusal_result file r =
     let at = refusals.place_of r in
     result_object file (record { start = at; end = at }) (word_of level.Error) (refusals.name_of r) (refusals.message_of r) (array no_items)
-    (result_properties null (text_data (option_map text_of (hint_of file.text r))))
+    (result_properties (text_data (option_map text_of (hint_of file.text r))) null null)

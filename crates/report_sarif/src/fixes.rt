@@ -34,12 +34,13 @@ fn replacement(alloc: Global, file: &SourceFile<'_>, edit: &Edit) -> Result<Valu
     ensures { IfOk result (λ value. view value ≡ replacement file.now.text edit.now) }
 {
     let deleted = region(alloc, file, edit.text_range)?;
-    let made = match &edit.text {
-        None => "",
-        Some(text) => text.as_str(),
-    };
-    let inserted = text_object(alloc, made)?;
-    json!(in alloc; {"deletedRegion": deleted, "insertedContent": inserted})
+    match &edit.text {
+        None => json!(in alloc; {"deletedRegion": deleted}),
+        Some(text) => {
+            let inserted = text_object(alloc, text.as_str())?;
+            json!(in alloc; {"deletedRegion": deleted, "insertedContent": inserted})
+        }
+    }
 }
 
 // An edit, where it is in the text.

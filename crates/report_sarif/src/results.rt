@@ -9,7 +9,7 @@ ghost use Rattle.report_sarif.specs.Results.{locations, refusal_result, report_r
 ghost use Rattle.source_file.specs.Hints.{text_of};
 
 use crate::fixes::{fixes_value, one, text_object};
-use crate::places::physical_location;
+use crate::places::{physical_location, region};
 use lint_base::Text;
 use lint_report::Report;
 use serde_json::{Value, json};
@@ -48,10 +48,15 @@ fn hint_value(alloc: Global, hint: Option<Hint>) -> Result<Value, AllocError>
 }
 
 // The property bag of a finding.
-fn result_properties(alloc: Global, note: Value, help: Value) -> Result<Value, AllocError>
-    ensures { IfOk result (λ value. view value ≡ result_properties (view note) (view help)) }
+fn result_properties(
+    alloc: Global,
+    help: Value,
+    note: Value,
+    statement: Value,
+) -> Result<Value, AllocError>
+    ensures { IfOk result (λ value. view value ≡ result_properties (view help) (view note) (view statement)) }
 {
-    json!(in alloc; {"help": help, "note": note})
+    json!(in alloc; {"help": help, "note": note, "statement": statement})
 }
 
 /// What a finding says beside its message.
@@ -93,14 +98,16 @@ pub(crate) fn report_result(
     file: &SourceFile<'_>,
     report: &Report,
 ) -> Result<Value, AllocError>
-    requires { IsRangeIn file.now.text report.now.text_range }
+    requires range { IsRangeIn file.now.text report.now.text_range }
+    requires statement { IsRangeIn file.now.text report.now.statement }
     ensures { IfOk result (λ value. view value ≡ report_result file.now report.now) }
 {
-    let note = text_value(alloc, &report.note)?;
     let help = text_value(alloc, &report.help)?;
+    let note = text_value(alloc, &report.note)?;
+    let statement = region(alloc, file, report.statement)?;
     let details = Details {
         fixes: fixes_value(alloc, file, &report.fix)?,
-        properties: result_properties(alloc, note, help)?,
+        properties: result_properties(alloc, help, note, statement)?,
     };
     let name = report.code.name();
     let message = report.message.as_str();
@@ -128,7 +135,7 @@ pub(crate) fn refusal_result(
     let help = hint_value(alloc, hint_for(file.text(), refusal))?;
     let details = Details {
         fixes: Value::Array(Vec::new(alloc)),
-        properties: result_properties(alloc, Value::Null, help)?,
+        properties: result_properties(alloc, help, Value::Null, Value::Null)?,
     };
     let name = refusal.name();
     let message = refusal.message();

@@ -31,7 +31,8 @@ pub fn push_report(
     file: &SourceFile<'_>,
     report: &Report,
 ) -> Result<(), NoMemory>
-    requires { IsRangeIn file.now.text report.now.text_range }
+    requires range { IsRangeIn file.now.text report.now.text_range }
+    requires statement { IsRangeIn file.now.text report.now.statement }
     ensures { OnOk result (to.new.items ≡ to.old.items ++ compact_text (report_result file.now report.now)) }
 {
     let value = report_result(alloc, file, report)?;

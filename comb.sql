@@ -1,0 +1,1 @@
+/* é */ DROP TABLE "é";

@@ -1,0 +1,80 @@
+-- What the formats for programs keep of a finding.
+use Rattle.std.specs.Prelude.{◌⊎◌, inl, inr, ℕ, List, [], ◌∷◌, Option, flat_map, map}
+use Rattle.check_print.specs.Found.{Found}
+use Rattle.checked_file.specs.declared.answer.Answer.{Answer}
+use Rattle.checked_file.specs.declared.answer.Answer.TheVariants.{Reports, Refused}
+use Rattle.checked_file.specs.declared.checked.Checked.{Checked}
+use Rattle.lint_report.specs.declared.report.Report.{Report}
+use Rattle.lint_report.specs.declared.report.ReportFix.{ReportFix}
+use Rattle.report_gitlab.specs.Issues.{severity_of}
+use Rattle.source_file.specs.declared.level.Level.{Level}
+use Rattle.source_file.specs.declared.place.Place.{Place}
+use Rattle.source_file.specs.declared.refusal.Refusal.{Refusal}
+use Rattle.source_file.specs.File.{line_number, location}
+use Rattle.text_pos.specs.Range.{Range}
+
+-- ---- reports
+
+-- a report, or why a file could not be linted
+abbrev pub reported_by : Answer → List (Report ⊎ Refusal)
+reported_by (Reports reports) = map inl reports.items
+reported_by (Refused r) = inr r ∷ []
+
+-- those of a file, each with the file's name
+abbrev pub reported_in : Checked → List (List ℕ × (Report ⊎ Refusal))
+reported_in file = map (λ r. (file.name, r)) (reported_by file.answer)
+
+-- those of files, in order
+abbrev pub all_reported : List Checked → List (List ℕ × (Report ⊎ Refusal))
+all_reported files = flat_map reported_in files
+
+-- ---- JSON and SARIF
+
+-- A finding: its file's name; its bytes, and where it begins and ends by line and column; its level, the name of its rule or hazard and its
+-- message; its note, its help, its fix and the bytes of its statement, where it has them.
+pub record KeptFinding : Type 0 where
+  pub name : List ℕ
+  pub range : Range
+  pub first : Place
+  pub last : Place
+  pub level : Level
+  pub rule : List ℕ
+  pub message : List ℕ
+  pub note : Option (List ℕ)
+  pub help : Option (List ℕ)
+  pub fix : Option ReportFix
+  pub statement : Option Range
+
+abbrev pub kept_finding : Found → KeptFinding
+kept_finding f = record {
+  name = f.file.name;
+  range = f.range;
+  first = location f.file.text f.range.start;
+  last = location f.file.text f.range.end;
+  level = f.level;
+  rule = f.rule;
+  message = f.message;
+  note = f.note;
+  help = f.help;
+  fix = f.fix;
+  statement = f.statement;
+}
+
+-- ---- GitLab
+
+-- the file's name, the line, the severity, the rule or hazard and the message
+pub record KeptIssue : Type 0 where
+  pub name : List ℕ
+  pub line : ℕ
+  pub severity : List ℕ
+  pub rule : List ℕ
+  pub message : List ℕ
+
+abbrev pub kept_issue : Found → KeptIssue
+kept_issue f = record {
+  name = f.file.name;
+  line = line_number f.file.text f.range.start;
+  severity = severity_of f.level;
+  rule = f.rule;
+  message = f.message;
+}

@@ -1,0 +1,1 @@
+DROP TABLE "a[31m";
