@@ -40,33 +40,25 @@ checked_wider A B content f g h k name file same a b c =
       ];
     }
 
--- the same over a longer time
-all_wider : (A : Answers) (content : Text → Content) (f g k : ℕ) (names : List Text) (files : List Checked) → k ≤ g → AreChecked A content f k names files
-    → AreChecked A content f g names files
-all_wider A content f g k [] [] b c = tt
-all_wider A content f g k [] (file ∷ files) b c = c
-all_wider A content f g k (name ∷ names) [] b c = c
-all_wider A content f g k (name ∷ names) (file ∷ files) b c =
-    (checked_wider A A (content name) f g f k name file (λ bytes answer x. x) (omega arith) b c.0, all_wider A content f g k names files b c.1)
-
--- the same of a store that holds the same, over a longer time
+-- the same of a store that holds the same, from an earlier time on
 pub all_moved : (A : Answers) (content now : Text → Content) (f g h : ℕ) (names : List Text) (files : List Checked) → KeepsContents content now → f ≤ h
     → AreChecked A now h g names files → AreChecked A content f g names files
-all_moved A content now f g h [] [] kept b c = tt
+all_moved A content now f g h [] [] kept b c = omega (arith, b, c)
 all_moved A content now f g h [] (file ∷ files) kept b c = c
 all_moved A content now f g h (name ∷ names) [] kept b c = c
-all_moved A content now f g h (name ∷ names) (file ∷ files) kept b c =
-    let here : IsChecked A (content name) h g name file = subst (λ (x : Content). IsChecked A x h g name file) (kept name) c.0 in
-    (checked_wider A A (content name) f g h g name file (λ bytes answer x. x) b (omega arith) here, all_moved A content now f g h names files kept b c.1)
+all_moved A content now f g h (name ∷ names) (file ∷ files) kept b (mid, this, more) =
+    let here : IsChecked A (content name) h mid name file = subst (λ (x : Content). IsChecked A x h mid name file) (kept name) this in
+    (mid, checked_wider A A (content name) f mid h mid name file (λ bytes answer x. x) b (omega arith) here, all_moved A content now mid g mid names files kept (omega arith) more)
 
 -- ---- one file more
 
-all_more : (A : Answers) (content : Text → Content) (f g : ℕ) (names : List Text) (name : Text) (files : List Checked) (file : Checked) → AreChecked A content f g names files
-    → IsChecked A (content name) f g name file → AreChecked A content f g (names ++ name ∷ []) (files ++ file ∷ [])
-all_more A content f g [] name [] file c d = (d, tt)
-all_more A content f g [] name (other ∷ files) file c d = absurd c
-all_more A content f g (other ∷ names) name [] file c d = absurd c
-all_more A content f g (other ∷ names) name (first ∷ files) file c d = (c.0, all_more A content f g names name files file c.1 d)
+all_more : (A : Answers) (content : Text → Content) (f h k : ℕ) (names : List Text) (name : Text) (files : List Checked) (file : Checked) → AreChecked A content f h names files
+    → IsChecked A (content name) h k name file → AreChecked A content f k (names ++ name ∷ []) (files ++ file ∷ [])
+all_more A content f h k [] name [] file c d =
+    (k, checked_wider A A (content name) f k h k name file (λ bytes answer x. x) c (omega arith) d, omega arith)
+all_more A content f h k [] name (other ∷ files) file c d = absurd c
+all_more A content f h k (other ∷ names) name [] file c d = absurd c
+all_more A content f h k (other ∷ names) name (first ∷ files) file (mid, this, more) d = (mid, this, all_more A content mid h k names name files file more d)
 
 take_at : (names : List Text) (k : ℕ) (name : Text) → slice_get names k ≡ Some name → take (k + 1) names ≡ take k names ++ name ∷ []
 take_at [] k name e = absurd (omega (arith, slice_get_within [] k name e))
@@ -76,13 +68,13 @@ take_at (first ∷ names) (suc k) name e =
     rw next (ap (λ ns. first ∷ ns) (take_at names k name e))
 
 pub next_checked : (A B : Answers) (content now : Text → Content) (f h k : ℕ) (names : List Text) (i : ℕ) (name : Text) (files : List Checked) (file : Checked) → slice_get names i ≡ Some name
-    → AreChecked A content f h (take i names) files → KeepsContents content now → ((bytes : List ℕ) (judged : Judged) → B bytes judged → A bytes judged) → f ≤ h → h ≤ k
+    → AreChecked A content f h (take i names) files → KeepsContents content now → ((bytes : List ℕ) (judged : Judged) → B bytes judged → A bytes judged)
     → IsChecked B (now name) h k name file → AreChecked A content f k (take (i + 1) names) (files ++ file ∷ [])
-next_checked A B content now f h k names i name files file at so kept same a b c =
+next_checked A B content now f h k names i name files file at so kept same c =
     let here : IsChecked B (content name) h k name file = subst (λ (x : Content). IsChecked B x h k name file) (kept name) c in
-    let this = checked_wider A B (content name) f k h k name file same a (omega arith) here in
+    let this = checked_wider A B (content name) h k h k name file same (omega arith) (omega arith) here in
     subst (λ (ns : List Text). AreChecked A content f k ns (files ++ file ∷ [])) (sym (take_at names i name at))
-    (all_more A content f k (take i names) name files file (all_wider A content f k h (take i names) files b so) this)
+    (all_more A content f h k (take i names) name files file so this)
 
 pub all_checked : (A : Answers) (content : Text → Content) (f g : ℕ) (names : List Text) (i : ℕ) (files : List Checked) → length names ≤ i → AreChecked A content f g (take i names) files
     → AreChecked A content f g names files

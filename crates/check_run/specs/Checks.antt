@@ -1,5 +1,5 @@
 -- What comes of files.
-use Rattle.std.specs.Prelude.{◌≡◌, ◌⊎◌, ℕ, List, [], ◌∷◌, None, ⊤}
+use Rattle.std.specs.Prelude.{◌≡◌, ◌≤◌, ◌⊎◌, ℕ, List, [], ◌∷◌, None}
 use Rattle.file_store.specs.Contents.{Content, IsBytes}
 use Rattle.file_store.specs.Refused.{MayBeLong, MayMiss}
 use Rattle.file_store.specs.declared.store.FileError.{FileError}
@@ -55,10 +55,11 @@ pub record IsChecked (answers : Answers) (content : Content) (before now : ℕ) 
   pub named : file.name ≡ name
   pub came : IsAnswered answers content file ⊎ IsUnreadFile content before now file
 
--- this came of these names, one by one
+-- This came of these names, one by one. The count of failures goes on from name to name, so that for each file that could not be read a call
+-- of its own failed, and no other file pays for it.
 abbrev pub AreChecked : Answers → (Text → Content) → ℕ → ℕ → List Text → List Checked → Type 0
-AreChecked answers content before now [] [] = ⊤
+AreChecked answers content before now [] [] = before ≤ now
 AreChecked answers content before now [] (file ∷ files) = ⊥
 AreChecked answers content before now (name ∷ names) [] = ⊥
 AreChecked answers content before now (name ∷ names) (file ∷ files) =
-    IsChecked answers (content name) before now name file × AreChecked answers content before now names files
+    (mid : ℕ) × IsChecked answers (content name) before mid name file × AreChecked answers content mid now names files

@@ -1,4 +1,3 @@
 pub mod Checks
 pub mod Inputs
-pub mod Names
 pub mod Runs

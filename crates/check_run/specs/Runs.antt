@@ -9,6 +9,7 @@ use Rattle.checked_file.specs.Files.{worst}
 use Rattle.checked_file.specs.Sound.{IsSound}
 use Rattle.file_choice.specs.Choice.{chosen_of}
 use Rattle.file_store.specs.Contents.{Content}
+use Rattle.sql_files.specs.Named.{AreNamed}
 use Rattle.squawk_run.specs.declared.stop.Stop.{Stop}
 use Rattle.squawk_run.specs.declared.stop.Stop.TheVariants.{BadArguments, NotUtf8, TooLong, ReadFault, WriteFault, NoMemory}
 use Rattle.squawk_stream.specs.Faults.{Rose}
@@ -16,7 +17,6 @@ use Rattle.squawk_stream.specs.Parts.{AppendsPart}
 use Rattle.squawk_words.specs.Words.{Text}
 use Rattle.check_run.specs.Checks.{Answers, AreChecked, IsChecked}
 use Rattle.check_run.specs.Inputs.{input_content, reads_input}
-use Rattle.check_run.specs.Names.{AreNamed}
 
 -- ---- the answers
 
@@ -26,11 +26,13 @@ pub record IsInputAnswer (answers : Answers) (left : Option (List ℕ)) (before 
   pub only : files ≡ file ∷ []
   pub came : IsChecked answers (input_content left) before now name file
 
--- the answers of a run over the files that words stand for: of those that no pattern leaves out, each once
+-- The answers of a run over the files that words stand for: of those that no pattern leaves out, each once. The names come first; `named` is
+-- the count of failures then.
 pub record AreFileAnswers (answers : Answers) (content : Text → Content) (before now : ℕ) (patterns words : List Text) (files : List Checked) : Type 0 where
   pub names : List Text
-  pub named : AreNamed content words names
-  pub came : AreChecked answers content before now (chosen_of patterns names) files
+  pub named : ℕ
+  pub are_named : AreNamed content before named words names
+  pub came : AreChecked answers content named now (chosen_of patterns names) files
 
 -- What a run reads: what the names hold and what is left of the input, as far as that is known, and how often calls on them failed
 -- before the run and after it.

@@ -4,7 +4,6 @@
 //! depends on the linter, on a list of known reports or on a format. A [`Progress`] shows how far a run is.
 #![tactic(auto)]
 
-mod expand;
 mod files;
 mod input;
 mod judge;
@@ -13,7 +12,6 @@ mod progress;
 mod run;
 mod sieve;
 
-pub use expand::expanded;
 pub use files::check_files;
 pub use input::{check_input, reads_input};
 pub use judge::Judge;

@@ -4,7 +4,6 @@ ghost use Rattle.std.specs.Io.KnownBytes.{Appends};
 ghost use Rattle.checked_file.specs.Sound.{IsSound};
 ghost use Rattle.check_run.specs.Runs.{AreAnswers, AreFileAnswers, AreLeft, HasRun, HasStopped, IsInputAnswer, StopsWriting};
 
-use crate::expand::expanded;
 use crate::files::check_files;
 use crate::input::{check_input, reads_input};
 use crate::judge::Judge;
@@ -15,6 +14,7 @@ use check_words::Request;
 use checked_file::{Checked, Status, worst};
 use file_choice::chosen;
 use file_store::FileStore;
+use sql_files::expanded;
 use squawk_run::Stop;
 use squawk_stream::{Sink, Source, write_all};
 use squawk_words::Words;

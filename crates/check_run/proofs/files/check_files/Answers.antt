@@ -20,7 +20,7 @@ loop-i-preserved g c =
     record {
       checked = subst (λ (fs : List Checked). AreChecked answers content first now (take (l.i + 1) c.args.names.now) fs) (sym items)
           (next_checked answers (g.J.Judge.answers l.judge) content (g.F.FileStore.content l.files) first before now c.args.names.now l.i c.get.result.now l.all.items file
-          c.get.ensures l.invariant.checked l.invariant.kept l.invariant.same l.invariant.later e.later e.checked);
+          c.get.ensures l.invariant.checked l.invariant.kept l.invariant.same e.checked);
       sound = subst (λ (fs : List Checked). All IsSound fs) (sym items) (All-push IsSound l.all.items file l.invariant.sound e.sound);
       kept = λ name. e.kept name ∙ l.invariant.kept name;
       later = omega (arith, e.later, l.invariant.later);

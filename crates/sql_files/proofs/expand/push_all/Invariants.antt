@@ -1,5 +1,5 @@
 use Rattle.std.proofs.Common.{◌≡◌, ◌++◌, map, string_bytes, take}
-use Rattle.check_run.proofs.expand.push_all.Given as goal
+use Rattle.sql_files.proofs.expand.push_all.Given as goal
 
 -- the names so far were added
 abbrev pub invariant-loop-name : goal.invariant-loop-name

@@ -1,7 +1,7 @@
 //! The files that words stand for.
 ghost use Rattle.std.specs.Prelude.{◌≡◌, ◌≤◌, ◌++◌, IfOk, OnOk, map, string_bytes};
 ghost use Rattle.file_store.specs.Contents.{KeepsContents};
-ghost use Rattle.check_run.specs.Names.{Adds, AreNamed};
+ghost use Rattle.sql_files.specs.Named.{Adds, AreNamed};
 
 use file_store::{FileError, FileStore, sql_names};
 use squawk_words::Words;
@@ -25,7 +25,7 @@ fn push_named<F: FileStore>(
     names: &mut Words,
     word: &str,
 ) -> Result<(), NoMemory>
-    ensures adds { OnOk result (Adds (F.content files.old word.now) word.now names.old names.new) }
+    ensures adds { OnOk result (Adds (F.content files.old word.now) (F.faults files.old) (F.faults files.new) word.now names.old names.new) }
     ensures kept { KeepsContents (F.content files.old) (F.content files.new) }
     ensures later { F.faults files.old ≤ F.faults files.new }
 {
@@ -34,21 +34,21 @@ fn push_named<F: FileStore>(
             let kept = sql_names(alloc, inner)?;
             push_all(names, kept.as_slice())
         }
+        Ok(None) => names.push(word),
         Err(FileError::NoMemory) => Err(NoMemory),
-        Ok(None) | Err(FileError::Missing | FileError::Fault | FileError::TooLong) => {
-            names.push(word)
-        }
+        Err(FileError::Missing | FileError::Fault | FileError::TooLong) => names.push(word),
     }
 }
 
 /// The names of the files that words stand for, in their order: a folder stands for the files in it, at any depth, whose names end in
-/// `.sql`, in order of their bytes. The error comes when memory runs out.
+/// `.sql`, in order of their bytes; a folder that can't be read stands for itself, so that reading it then fails too. The error comes when
+/// memory runs out.
 pub fn expanded<F: FileStore>(
     alloc: Global,
     files: &mut F,
     words: &Words,
 ) -> Result<Words, NoMemory>
-    ensures named { IfOk result (λ names. AreNamed (F.content files.old) words.now names) }
+    ensures named { IfOk result (λ names. AreNamed (F.content files.old) (F.faults files.old) (F.faults files.new) words.now names) }
     ensures kept { KeepsContents (F.content files.old) (F.content files.new) }
     ensures later { F.faults files.old ≤ F.faults files.new }
 {
