@@ -49,6 +49,7 @@ after_dashes [] = None
 after_dashes (x ∷ []) = None
 after_dashes (x ∷ y ∷ rest) = if x == 45 && y == 45 then Some rest else None
 
+-- whether the first byte is `-`
 abbrev pub begins_with_dash : Text → Bool
 begins_with_dash [] = false
 begins_with_dash (x ∷ rest) = x == 45
