@@ -54,6 +54,12 @@ abbrev pub begins_with_dash : Text → Bool
 begins_with_dash [] = false
 begins_with_dash (x ∷ rest) = x == 45
 
+-- a `-` and at least one byte more
+abbrev pub is_option : Text → Bool
+is_option [] = false
+is_option (x ∷ []) = false
+is_option (x ∷ y ∷ rest) = x == 45
+
 -- what comes before the first `=`
 abbrev pub name_in : Text → Text
 name_in text = before_first (λ x. x == 61) text

@@ -1,7 +1,7 @@
 //! The parts of a word.
 ghost use Rattle.std.specs.Prelude.{◌≡◌, IfOk, map, option_map};
 ghost use Rattle.squawk_words.specs.Choices.{items_of};
-ghost use Rattle.squawk_words.specs.Words.{after_dashes, begins_with_dash, name_in, value_in};
+ghost use Rattle.squawk_words.specs.Words.{after_dashes, begins_with_dash, is_option, name_in, value_in};
 
 use std::alloc::{AllocError, Global};
 
@@ -19,6 +19,16 @@ pub fn begins_with_dash(word: &str) -> bool
     match word.as_bytes() {
         [first, ..] => *first == b'-',
         [] => false,
+    }
+}
+
+/// Whether a word begins with `-` and has more. A word `-` alone is none: it names standard input.
+pub fn is_option(word: &str) -> bool
+    ensures { result ≡ is_option word.now }
+{
+    match word.as_bytes() {
+        [first, _, ..] => *first == b'-',
+        _ => false,
     }
 }
 
