@@ -1,3 +1,2 @@
 mod Items
-mod Signs
 mod Walk

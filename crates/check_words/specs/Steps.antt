@@ -1,10 +1,10 @@
 -- What one word adds to what the words before it ask for, or what is wrong with it.
-use Rattle.std.specs.Prelude.{◌==◌, ◌++◌, Bool, true, false, List, [], ◌∷◌, Option, Some, None, Result, Ok, Err, codes, is_none, is_some, if◌then◌else◌}
+use Rattle.std.specs.Prelude.{◌++◌, Bool, true, false, List, [], ◌∷◌, Option, Some, None, Result, Ok, Err, codes, is_none, is_some, if◌then◌else◌}
 use Rattle.code_choice.specs.Choices.{code_choices_of}
 use Rattle.lint_report.specs.Codes.{code_named}
 use Rattle.squawk_run.specs.ForeignWords.{has_foreign_word}
 use Rattle.squawk_words.specs.Choices.{items_of}
-use Rattle.squawk_words.specs.Words.{Text, after_dashes, begins_with_dash, name_in, value_in}
+use Rattle.squawk_words.specs.Words.{Text, after_dashes, begins_with_dash, is_option, name_in, value_in}
 use Rattle.check_words.specs.declared.fault.WordFault.{WordFault}
 use Rattle.check_words.specs.declared.fault.WordFault.TheVariants as fault
 use Rattle.check_words.specs.declared.names.Choice.{Choice}
@@ -117,12 +117,6 @@ abbrev pub with_file : Next → Text → Request → Reader
 with_file next word r = record { next = next; request = record r { files = r.files ++ word ∷ [] } }
 
 -- ---- one word
-
--- a `-` and at least one byte more
-abbrev pub is_option : Text → Bool
-is_option [] = false
-is_option (x ∷ []) = false
-is_option (x ∷ y ∷ rest) = x == 45
 
 -- an option has its value after `=`, or else the next word is its value
 abbrev pub choice_word : Choice → Option Text → Request → Result Reader WordFault

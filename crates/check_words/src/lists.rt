@@ -6,15 +6,9 @@ ghost use Rattle.check_words.specs.Steps as spec;
 
 use lint_base::Text;
 use lint_report::code_named;
-use std::alloc::{AllocError, Global};
+use squawk_words::items_of;
+use std::alloc::Global;
 use text_pos::NoMemory;
-
-// What is between the commas of a list.
-fn items_of(alloc: Global, list: &str) -> Result<Vec<&str>, AllocError>
-    ensures { IfOk result (λ items. map (λ s. s.now) items.items ≡ items_of list.now) }
-{
-    list.split(',').collect(alloc)
-}
 
 // Whether a text names nothing.
 fn names_nothing(text: &str) -> bool

@@ -1,12 +1,12 @@
 //! One word after another.
 ghost use Rattle.std.specs.Prelude.{◌≡◌, IfOk, Ok, OnOk, option_map};
-ghost use Rattle.squawk_words.specs.Words.{after_dashes, begins_with_dash, name_in, value_in};
 ghost use Rattle.check_words.specs.Steps as spec;
 
 use crate::fault::WordFault;
 use crate::names::{Choice, Flag, choice_named, flag_named};
 use crate::request::Request;
 use crate::set::{copied, set, set_flag};
+use squawk_words::{after_dashes, begins_with_dash, is_option, name_in, value_in};
 use std::alloc::Global;
 use text_pos::NoMemory;
 
@@ -26,53 +26,6 @@ pub(crate) enum Next {
 pub(crate) struct Reader {
     pub(crate) next: Next,
     pub(crate) request: Request,
-}
-
-// What comes before the first `=`.
-fn name_in(text: &str) -> &str
-    ensures { result.now ≡ name_in text.entry.now }
-{
-    match text.split_once('=') {
-        Some((name, _)) => name,
-        None => text,
-    }
-}
-
-// What comes after the first `=`, if there is one.
-fn value_in(text: &str) -> Option<&str>
-    ensures { option_map (λ s. s.now) result ≡ value_in text.entry.now }
-{
-    match text.split_once('=') {
-        Some((_, value)) => Some(value),
-        None => None,
-    }
-}
-
-// What follows `--` at the start of a word.
-fn after_dashes(word: &str) -> Option<&str>
-    ensures { option_map (λ s. s.now) result ≡ after_dashes word.entry.now }
-{
-    word.strip_prefix("--")
-}
-
-// Whether a word begins with `-` and has more.
-fn is_option(word: &str) -> bool
-    ensures { result ≡ spec.is_option word.now }
-{
-    match word.as_bytes() {
-        [first, _, ..] => *first == b'-',
-        _ => false,
-    }
-}
-
-// Whether a word begins with `-`.
-fn begins_with_dash(word: &str) -> bool
-    ensures { result ≡ begins_with_dash word.now }
-{
-    match word.as_bytes() {
-        [first, ..] => *first == b'-',
-        _ => false,
-    }
 }
 
 // Adds a file, and says what the next word is to be.

@@ -1,20 +1,14 @@
 //! Lists of names.
-ghost use Rattle.std.specs.Prelude.{◌≡◌, ◌++◌, [], IfOk, OnOk, map, option_map};
-ghost use Rattle.squawk_words.specs.Choices.{items_of, read_or};
+ghost use Rattle.std.specs.Prelude.{◌≡◌, ◌++◌, [], IfOk, OnOk, option_map};
+ghost use Rattle.squawk_words.specs.Choices.{read_or};
 ghost use Rattle.code_choice.specs.Choices as spec;
 
 use hazard_base::Hazard;
 use lint_base::Rule;
 use lint_report::{Code, code_named};
+use squawk_words::items_of;
 use std::alloc::{AllocError, Global};
 use text_pos::NoMemory;
-
-// What is between the commas of a list.
-fn items_of(alloc: Global, list: &str) -> Result<Vec<&str>, AllocError>
-    ensures { IfOk result (λ v. map (λ s. s.now) v.items ≡ items_of list.now) }
-{
-    list.split(',').collect(alloc)
-}
 
 /// What a list names, between its commas, or `None` where an item names neither a rule nor a hazard. The error comes when memory runs out.
 pub fn code_list(alloc: Global, list: &str) -> Result<Option<Vec<Code>>, NoMemory>

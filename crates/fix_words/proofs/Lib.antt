@@ -1,3 +1,1 @@
 pub mod Walk
-pub mod Parts
-pub mod Signs

@@ -1,7 +1,7 @@
 -- What one word adds to what the words before it ask for.
-use Rattle.std.specs.Prelude.{◌&&◌, ◌||◌, ◌++◌, Bool, true, false, not, [], ◌∷◌, Option, Some, None, codes, is_some, if◌then◌else◌}
+use Rattle.std.specs.Prelude.{◌||◌, ◌++◌, Bool, true, false, [], ◌∷◌, Option, Some, None, codes, is_some, if◌then◌else◌}
 use Rattle.std.specs.Str.{bytes_eq}
-use Rattle.squawk_words.specs.Words.{Text, after_dashes, begins_with_dash, name_in, value_in}
+use Rattle.squawk_words.specs.Words.{Text, after_dashes, is_option, name_in, value_in}
 use Rattle.fix_words.specs.declared.request.Request.{Request}
 use Rattle.fix_words.specs.declared.step.Next.{Next}
 use Rattle.fix_words.specs.declared.step.Next.TheVariants.{Any, ConfigValue, LinterValue, File}
@@ -54,9 +54,9 @@ abbrev pub dashed_word : Text → Text → Request → Reader
 dashed_word word [] r = record { next = File; request = r }
 dashed_word word (x ∷ rest) r = option_word word (x ∷ rest) r
 
--- what does not begin with `--` is a file, and begins with no `-`, but for the one byte that names standard input
+-- what does not begin with `--` is a file, which `-` is too, and begins with no `-`
 abbrev pub plain_word : Text → Request → Option Reader
-plain_word word r = if begins_with_dash word && not (bytes_eq word (codes "-")) then None else Some (with_file Any word r)
+plain_word word r = if is_option word then None else Some (with_file Any word r)
 
 -- a word, by what follows its dashes, where it has some
 abbrev pub word_by : Option Text → Text → Request → Option Reader

@@ -1,10 +1,10 @@
 //! Why words are refused.
-ghost use Rattle.std.specs.Prelude.{◌≡◌, ◌++◌, IfOk, OnOk, flat_map};
+ghost use Rattle.std.specs.Prelude.{◌≡◌, ◌++◌, IfOk, OnOk};
 ghost use Rattle.fix_words.specs.Faults as spec;
 
 use lint_base::Text;
 use report_lines::push;
-use source_file::push_escaped;
+use shown_words::{push_word, push_words};
 use squawk_words::Words;
 use std::alloc::Global;
 use text_pos::NoMemory;
@@ -18,24 +18,6 @@ pub enum Fault {
     NoValue,
     /// The linter refuses these words.
     Linter(Words),
-}
-
-// Adds a word after a blank.
-fn push_word(to: &mut Vec<u8>, word: &str) -> Result<(), NoMemory>
-    ensures { OnOk result (to.new.items ≡ to.old.items ++ spec.word_part word.now) }
-{
-    push(to, b" ")?;
-    push_escaped(to, word.as_bytes())
-}
-
-// Adds words, each after a blank.
-fn push_words(to: &mut Vec<u8>, words: &Words) -> Result<(), NoMemory>
-    ensures { OnOk result (to.new.items ≡ to.old.items ++ flat_map spec.word_part words.now) }
-{
-    for i in 0..words.len() {
-        push_word(to, words.get(i))?;
-    }
-    Ok(())
 }
 
 // Adds what a fault is about.

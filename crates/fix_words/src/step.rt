@@ -1,11 +1,10 @@
 //! One word after another.
-ghost use Rattle.std.specs.Prelude.{◌≡◌, IfOk, OnOk, codes, option_map};
-ghost use Rattle.std.specs.Str.{bytes_eq};
-ghost use Rattle.squawk_words.specs.Words.{after_dashes, begins_with_dash, name_in, value_in};
+ghost use Rattle.std.specs.Prelude.{◌≡◌, IfOk, OnOk, option_map};
 ghost use Rattle.fix_words.specs.Steps as spec;
 
 use crate::request::Request;
 use lint_base::Text;
+use squawk_words::{after_dashes, is_option, name_in, value_in};
 use std::alloc::Global;
 use text_pos::NoMemory;
 
@@ -27,50 +26,6 @@ pub(crate) enum Next {
 pub(crate) struct Reader {
     pub(crate) next: Next,
     pub(crate) request: Request,
-}
-
-// What comes before the first `=`.
-fn name_in(text: &str) -> &str
-    ensures { result.now ≡ name_in text.entry.now }
-{
-    match text.split_once('=') {
-        Some((name, _)) => name,
-        None => text,
-    }
-}
-
-// What comes after the first `=`, if there is one.
-fn value_in(text: &str) -> Option<&str>
-    ensures { option_map (λ s. s.now) result ≡ value_in text.entry.now }
-{
-    match text.split_once('=') {
-        Some((_, value)) => Some(value),
-        None => None,
-    }
-}
-
-// What follows `--` at the start of a word.
-fn after_dashes(word: &str) -> Option<&str>
-    ensures { option_map (λ s. s.now) result ≡ after_dashes word.entry.now }
-{
-    word.strip_prefix("--")
-}
-
-// Whether a word begins with `-`.
-fn begins_with_dash(word: &str) -> bool
-    ensures { result ≡ begins_with_dash word.now }
-{
-    match word.as_bytes() {
-        [first, ..] => *first == b'-',
-        [] => false,
-    }
-}
-
-// Whether a word names standard input.
-fn is_input(word: &str) -> bool
-    ensures { result ≡ bytes_eq word.now (codes "-") }
-{
-    word == "-"
 }
 
 // Adds a file, and says what the next word is to be.
@@ -171,7 +126,7 @@ fn dashed_word(alloc: Global, word: &str, rest: &str, reader: &mut Reader) -> Re
 fn plain_word(word: &str, reader: &mut Reader) -> Result<bool, NoMemory>
     ensures { IfOk result (λ is. spec.after is reader.new ≡ spec.plain_word word.now reader.old.request) }
 {
-    if begins_with_dash(word) && !is_input(word) {
+    if is_option(word) {
         return Ok(false);
     }
     push_file(Next::Any, reader, word)?;

@@ -1,6 +1,4 @@
-mod Signs
 mod Walk
-mod Parts
 mod Opening
 mod Judging
 mod Listing

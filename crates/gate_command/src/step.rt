@@ -1,10 +1,10 @@
 //! One word after another.
 ghost use Rattle.std.specs.Prelude.{◌≡◌, [], IfOk, codes, option_map};
-ghost use Rattle.squawk_words.specs.Words.{after_dashes, begins_with_dash, name_in, value_in};
 ghost use Rattle.gate_command.specs.Steps as spec;
 
 use crate::request::Request;
 use gate_files::Order;
+use squawk_words::{after_dashes, begins_with_dash, name_in, value_in};
 use text_pos::NoMemory;
 
 /// What the next word is to be.
@@ -25,43 +25,6 @@ pub(crate) enum Next {
 pub(crate) struct Reader {
     pub(crate) next: Next,
     pub(crate) request: Request,
-}
-
-// What comes before the first `=`.
-fn name_in(text: &str) -> &str
-    ensures { result.now ≡ name_in text.entry.now }
-{
-    match text.split_once('=') {
-        Some((name, _)) => name,
-        None => text,
-    }
-}
-
-// What comes after the first `=`, if there is one.
-fn value_in(text: &str) -> Option<&str>
-    ensures { option_map (λ s. s.now) result ≡ value_in text.entry.now }
-{
-    match text.split_once('=') {
-        Some((_, value)) => Some(value),
-        None => None,
-    }
-}
-
-// What follows `--` at the start of a word.
-fn after_dashes(word: &str) -> Option<&str>
-    ensures { option_map (λ s. s.now) result ≡ after_dashes word.entry.now }
-{
-    word.strip_prefix("--")
-}
-
-// Whether a word begins with `-`.
-fn begins_with_dash(word: &str) -> bool
-    ensures { result ≡ begins_with_dash word.now }
-{
-    match word.as_bytes() {
-        [first, ..] => *first == b'-',
-        [] => false,
-    }
 }
 
 // The order of a name.

@@ -1,29 +1,11 @@
 //! Words that name an option which a program does not take.
 
-ghost use Rattle.std.specs.Prelude.{◌≡◌, map, option_map};
+ghost use Rattle.std.specs.Prelude.{◌≡◌, map};
 ghost use Rattle.std.specs.List.{list_any};
 ghost use Rattle.std.specs.Str.{bytes_eq};
 ghost use Rattle.squawk_run.specs.ForeignWords as spec;
-ghost use Rattle.squawk_words.specs.Words.{after_dashes, name_in};
 
-use squawk_words::Words;
-
-/// What comes before the first `=`.
-fn name_in(text: &str) -> &str
-    ensures { result.now ≡ name_in text.entry.now }
-{
-    match text.split_once('=') {
-        Some((name, _)) => name,
-        None => text,
-    }
-}
-
-/// What follows `--` at the start of a word.
-fn after_dashes(word: &str) -> Option<&str>
-    ensures { option_map (λ s. s.now) result ≡ after_dashes word.entry.now }
-{
-    word.strip_prefix("--")
-}
+use squawk_words::{Words, after_dashes, name_in};
 
 /// Whether a name is one of these.
 fn is_among(names: &[&str], name: &str) -> bool

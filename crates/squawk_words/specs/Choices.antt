@@ -14,7 +14,7 @@ use Rattle.squawk_words.specs.Words.{Settings, Text, has, settings_of, value_of}
 
 -- ---- values
 
--- the items_of of a list, between its commas
+-- the items of a list, between its commas
 abbrev pub items_of : Text → List Text
 items_of list = slice_split (λ b. b == 44) list
 
@@ -23,15 +23,15 @@ abbrev pub each : {A B : Type 0} → (A → Option B) → List A → Option (Lis
 each read [] = Some []
 each read (x ∷ xs) = option_and_then (λ y. option_map (λ ys. y ∷ ys) (each read xs)) (read x)
 
--- the rules whose names a list has, or nothing where one of its items_of names no rule
+-- the rules whose names a list has, or nothing where one of its items names no rule
 abbrev pub rule_list : Text → Option (List Rule)
 rule_list list = each rule_named (items_of list)
 
--- a item that is not empty
+-- an item that is not empty
 abbrev pub full_item : Text → Option Text
 full_item item = if length item == 0 then None else Some item
 
--- the items_of of a list, or nothing where one of them is empty
+-- the items of a list, or nothing where one of them is empty
 abbrev pub name_list : Text → Option (List Text)
 name_list list = each full_item (items_of list)
 

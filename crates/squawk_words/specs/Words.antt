@@ -49,9 +49,16 @@ after_dashes [] = None
 after_dashes (x ∷ []) = None
 after_dashes (x ∷ y ∷ rest) = if x == 45 && y == 45 then Some rest else None
 
+-- whether the first byte is `-`
 abbrev pub begins_with_dash : Text → Bool
 begins_with_dash [] = false
 begins_with_dash (x ∷ rest) = x == 45
+
+-- a `-` and at least one byte more
+abbrev pub is_option : Text → Bool
+is_option [] = false
+is_option (x ∷ []) = false
+is_option (x ∷ y ∷ rest) = x == 45
 
 -- what comes before the first `=`
 abbrev pub name_in : Text → Text

@@ -6,9 +6,11 @@
 
 mod choices;
 mod given;
+mod parts;
 mod values;
 mod words;
 
 pub use choices::{Choices, choices_by, read_choices, read_given};
 pub use given::Given;
+pub use parts::{after_dashes, begins_with_dash, is_option, items_of, name_in, value_in};
 pub use words::Words;

@@ -1,11 +1,12 @@
 //! The values of words: lists and numbers.
-ghost use Rattle.std.specs.Prelude.{◌≡◌, [], IfOk, map, option_map, pos};
+ghost use Rattle.std.specs.Prelude.{◌≡◌, [], IfOk, option_map, pos};
 ghost use Rattle.std.specs.Char.{is_ascii_digit};
 ghost use Rattle.std.specs.List.{list_all};
-ghost use Rattle.squawk_words.specs.Choices.{groups, groups_by, is_numeral, name_list, names_by, number, items_of, read_or, rule_list};
+ghost use Rattle.squawk_words.specs.Choices.{groups, groups_by, is_numeral, names_by, number, read_or, rule_list};
 
+use crate::parts::items_of;
 use lint_base::{Names, Rule, UnknownName};
-use std::alloc::{AllocError, Global};
+use std::alloc::Global;
 use text_pos::NoMemory;
 
 // The most digits that a number may have.
@@ -14,7 +15,7 @@ const MOST_DIGITS: usize = 10;
 // The most groups of statements that can be asked for.
 const MOST_GROUPS: u32 = 100_000;
 
-/// The rules whose names a list has, `Some` of none where there is no list, or `None` where a item
+/// The rules whose names a list has, `Some` of none where there is no list, or `None` where an item
 /// of the list names no rule. The error comes when memory runs out.
 pub(crate) fn rules_or_none(
     alloc: Global,
@@ -28,14 +29,14 @@ pub(crate) fn rules_or_none(
     }
 }
 
-/// The rules whose names a list has, or `None` where a item of the list names no rule. The error
+/// The rules whose names a list has, or `None` where an item of the list names no rule. The error
 /// comes when memory runs out.
 pub(crate) fn rule_list(alloc: Global, list: &str) -> Result<Option<Vec<Rule>>, NoMemory>
     ensures { IfOk result (λ rules. option_map (λ r. r.items) rules ≡ rule_list list.now) }
 {
-    let items_of = items_of(alloc, list)?;
+    let items = items_of(alloc, list)?;
     let mut rules = Vec::new(alloc);
-    for item in &items_of {
+    for item in &items {
         match Rule::try_from(*item) {
             Ok(rule) => rules.push(rule)?,
             Err(UnknownName) => return Ok(None),
@@ -45,14 +46,14 @@ pub(crate) fn rule_list(alloc: Global, list: &str) -> Result<Option<Vec<Rule>>, 
 }
 
 /// The names that count as not volatile: the standard ones and those of a list, if there is one, or
-/// `None` where a item of the list is empty. The error comes when memory runs out.
+/// `None` where an item of the list is empty. The error comes when memory runs out.
 pub(crate) fn names_by(alloc: Global, list: Option<&str>) -> Result<Option<Names>, NoMemory>
     ensures { IfOk result (λ names. names ≡ names_by (option_map (λ s. s.now) list.entry)) }
 {
     let mut names = Names::standard(alloc)?;
     if let Some(list) = list {
-        let items_of = items_of(alloc, list)?;
-        for item in &items_of {
+        let items = items_of(alloc, list)?;
+        for item in &items {
             if item.is_empty() {
                 return Ok(None);
             }
@@ -60,13 +61,6 @@ pub(crate) fn names_by(alloc: Global, list: Option<&str>) -> Result<Option<Names
         }
     }
     Ok(Some(names))
-}
-
-// The items_of of a list, between its commas.
-fn items_of(alloc: Global, list: &str) -> Result<Vec<&str>, AllocError>
-    ensures { IfOk result (λ v. map (λ s. s.now) v.items ≡ items_of list.now) }
-{
-    list.split(',').collect(alloc)
 }
 
 /// The number that a text is, or a default where there is no text; `None` where the text is not one

@@ -15,7 +15,7 @@ pub returns-then-is_empty : goal.returns-then-is_empty
 returns-then-is_empty c =
     let items = c.deref-item-items.result.now in
     let within : c.loop-item.item-index < length items = omega arith in
-    let all : map (λ s. s.now) items ≡ items_of c.in-Some.list.now = ap (map (λ (s : Bor Text). s.now)) c.deref-item-items.ensures.value ∙ c.in_ok-items_of.ensures in
+    let all : map (λ s. s.now) items ≡ items_of c.in-Some.list.now = ap (map (λ (s : Bor Text). s.now)) c.deref-item-items.ensures.value ∙ c.in_ok-items.ensures in
     let none : each full_item (map (λ s. s.now) items) ≡ None = each_fails (λ (s : Bor Text). s.now) full_item items c.loop-item.item-index _ within (empty_is_none _ c.if-is_empty.ensures) in
     let here : each full_item (items_of c.in-Some.list.now) ≡ None = rw all at none in
     rw (c.in-Some.is, here) refl

@@ -9,7 +9,7 @@ pub returns-in-Err : goal.returns-in-Err
 returns-in-Err c =
     let items = c.deref-item-items.result.now in
     let within : c.loop-item.item-index < length items = omega arith in
-    let all : map (λ s. s.now) items ≡ items_of c.args.list.now = ap (map (λ (s : Bor Text). s.now)) c.deref-item-items.ensures.value ∙ c.in_ok-items_of.ensures in
+    let all : map (λ s. s.now) items ≡ items_of c.args.list.now = ap (map (λ (s : Bor Text). s.now)) c.deref-item-items.ensures.value ∙ c.in_ok-items.ensures in
     let none : each rule_named (map (λ s. s.now) items) ≡ None = each_fails (λ (s : Bor Text). s.now) rule_named items c.loop-item.item-index _ within (sym c.in-Err.ensures.value) in
     sym (rw all at none)
 

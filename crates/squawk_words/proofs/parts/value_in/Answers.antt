@@ -1,7 +1,7 @@
 use Rattle.std.proofs.Common.{arith, refl}
 use Rattle.std.specs.Prelude.{◌==◌}
-use Rattle.fix_words.proofs.Signs.{none_there}
-use Rattle.fix_words.proofs.step.value_in.Goals as goal
+use Rattle.squawk_words.proofs.Signs.{none_there}
+use Rattle.squawk_words.proofs.parts.value_in.Goals as goal
 
 pub returns-in-None : goal.returns-in-None
 returns-in-None c =

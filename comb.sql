@@ -1,1 +1,0 @@
-/* é */ DROP TABLE "é";

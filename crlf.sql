@@ -1,3 +1,0 @@
-DROP TABLE t;
-DROP TABLE
- u;

@@ -1,1 +1,0 @@
-DROP TABLE "a[31m";

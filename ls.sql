@@ -1,1 +1,0 @@
-DROP TABLE t -- x DROP TABLE u;
