@@ -5,7 +5,7 @@ use Rattle.sql_tree.specs.declared.nodes.Stmt.{Stmt}
 use Rattle.sql_tree.specs.Range.{stmt_range_of}
 use Rattle.sql_tree.specs.Statement.{Tree}
 use Rattle.text_pos.specs.Range.{Range}
-use Rattle.text_reports.specs.declared.cursor.Cursor.{Cursor}
+use Rattle.statement_place.specs.declared.cursor.Cursor.{Cursor}
 
 -- a statement ends behind a place
 unfoldable pub ends_behind : Tree → ℕ → Stmt → Bool
