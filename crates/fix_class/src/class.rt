@@ -142,7 +142,7 @@ impl FixClasses {
     }
 
     /// The class of the fix of a report, whose statement has this number, from 0 on; `None` where the fix always fails where it is made, so
-    /// that it is not offered.
+    /// that it is not offered. It does not ask whether the report has a fix.
     #[tactic(auto, unfolding(crate::specs::Classes::class_of))]
     pub fn class_of(&self, p: &Parse<'_>, v: &Violation, number: usize) -> Option<FixClass>
         requires { number ≡ number_behind p.now v.now.text_range.start }
