@@ -1,5 +1,5 @@
 -- What is known of a statement by the text around it.
-use Rattle.std.specs.Prelude.{◌≡◌, ◌<◌, ℕ, Bool, true, false, not, ◌&&◌, ◌||◌, List, [], ◌∷◌, length, codes, slice_index_or, Option, Some, None}
+use Rattle.std.specs.Prelude.{◌≡◌, ◌<◌, ℕ, Bool, true, false, not, ◌&&◌, ◌||◌, List, length, codes, slice_index_or, Option, Some, None}
 use Rattle.std.specs.List.{list_any}
 use Rattle.sql_token.specs.declared.token.Span.{Span}
 use Rattle.sql_tree.specs.declared.kinds.ActionKind.TheVariants as action

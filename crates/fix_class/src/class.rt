@@ -3,9 +3,9 @@ ghost use Rattle.std.specs.Prelude.{◌≡◌, IfOk};
 ghost use Rattle.lint_base.specs.declared.settings.LinterSettings.{LinterSettings};
 ghost use Rattle.fix_class.specs.Classes as spec;
 ghost use Rattle.fix_class.specs.Known.{AreKnown};
+ghost use Rattle.statement_place.specs.Statements.{number_behind};
 
 use crate::known::{Known, each_known};
-use crate::number::number_of;
 use crate::word::says;
 use lint_base::{LinterSettings, Rule, Violation};
 use lint_report::FixClass;
@@ -129,9 +129,9 @@ impl FixClasses {
         })
     }
 
-    /// The class of the fix of a report of a rule on the statement of this number, from 0 on, or `None` where there is no such statement, or the
-    /// fix always fails where it is made, so that it is not offered.
-    pub fn class_at(&self, p: &Parse<'_>, code: Rule, i: usize) -> Option<FixClass>
+    // The class of the fix of a report of a rule on the statement of this number, or `None` where there is no such statement, or the fix is
+    // not offered.
+    fn class_at(&self, p: &Parse<'_>, code: Rule, i: usize) -> Option<FixClass>
         ensures { (settings : LinterSettings) → AreKnown settings p.now self.now → result ≡ spec.class_at settings p.now code i }
     {
         let stmts = p.tree().stmts.as_slice();
@@ -141,15 +141,13 @@ impl FixClasses {
         None
     }
 
-    /// The class of the fix of a report, or `None` where it has no fix, or one that always fails where it is made, so that it is not
-    /// offered. It takes time in proportion to the number of the statement.
+    /// The class of the fix of a report, whose statement has this number, from 0 on; `None` where the fix always fails where it is made, so
+    /// that it is not offered. It does not ask whether the report has a fix.
     #[tactic(auto, unfolding(crate::specs::Classes::class_of))]
-    pub fn class_of(&self, p: &Parse<'_>, v: &Violation) -> Option<FixClass>
+    pub fn class_of(&self, p: &Parse<'_>, v: &Violation, number: usize) -> Option<FixClass>
+        requires { number ≡ number_behind p.now v.now.text_range.start }
         ensures { (settings : LinterSettings) → AreKnown settings p.now self.now → result ≡ spec.class_of settings p.now v.now }
     {
-        if v.fix.is_none() {
-            return None;
-        }
-        self.class_at(p, v.code, number_of(p, v.text_range.start()))
+        self.class_at(p, v.code, number)
     }
 }

@@ -1,6 +1,4 @@
-use Rattle.std.proofs.Common.{◌≡◌, ◌+◌, ◌∙◌, ap, length, length-append, arith, List}
-use Rattle.lint_transaction.specs.Transaction.{is_open}
-use Rattle.fix_class.specs.declared.known.Known.{Known}
+use Rattle.std.proofs.Common.{◌∙◌}
 use Rattle.fix_class.specs.Known.{is_assumed, known_at}
 use Rattle.fix_class.proofs.Knowing.{known_is, more_count, more_known}
 use Rattle.fix_class.proofs.known.each_known.Goals as goal
