@@ -36,14 +36,6 @@ drops_many_by _ = false
 abbrev pub is_too_much : Tree → Stmt → Bool
 is_too_much tree s = drops_many_by s.body || says tree (codes "cascade") s
 
-abbrev pub is_table_by : Body → Bool
-is_table_by (body.Table temp guarded on_commit_drop word path elems) = true
-is_table_by _ = false
-
--- The statement makes a table whose columns are its own: those of a child of another table must have the types of the parent's.
-abbrev pub is_new_table : Tree → Stmt → Bool
-is_new_table tree s = is_table_by s.body && not (says tree (codes "inherits") s)
-
 -- the class by rule; without one the fix is not offered
 unfoldable pub class_by : Rule → Known → Tree → Stmt → Option FixClass
 class_by rule.RequireConcurrentIndexCreation known tree s = concurrent known (is_guarded_by s.body)
@@ -51,11 +43,11 @@ class_by rule.RequireConcurrentIndexDeletion known tree s = if is_too_much tree 
 class_by rule.RequireConcurrentReindex known tree s = concurrent known false
 class_by rule.RequireConcurrentPartitionDetach known tree s = concurrent known true
 class_by rule.PreferRepack known tree s = concurrent known true
-class_by rule.RequireLockTimeout known tree s = Some (safe_unless known.has_builds)
-class_by rule.RequireStatementTimeout known tree s = Some (safe_unless known.has_builds)
-class_by rule.PreferBigintOverInt known tree s = Some (safe_unless (not (is_new_table tree s)))
-class_by rule.PreferBigintOverSmallint known tree s = Some (safe_unless (not (is_new_table tree s)))
-class_by rule.PreferIdentity known tree s = Some (safe_unless (not (is_new_table tree s)))
+class_by rule.RequireLockTimeout known tree s = Some (safe_unless known.has_long)
+class_by rule.RequireStatementTimeout known tree s = Some (safe_unless known.has_long)
+class_by rule.PreferBigintOverInt known tree s = Some (safe_unless (not known.has_own_types))
+class_by rule.PreferBigintOverSmallint known tree s = Some (safe_unless (not known.has_own_types))
+class_by rule.PreferIdentity known tree s = Some (safe_unless (not known.has_own_types))
 class_by rule.IdentifierTooLong known tree s = Some Safe
 class_by rule.RequireEnumValueOrdering known tree s = Some Template
 class_by _ known tree s = Some Unsafe

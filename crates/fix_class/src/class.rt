@@ -60,19 +60,6 @@ fn is_too_much(p: &Parse<'_>, s: &Stmt) -> bool
     drops_many(s) || says(p, "cascade", s)
 }
 
-fn is_table(s: &Stmt) -> bool
-    ensures { result ≡ spec.is_table_by s.now.body }
-{
-    matches!(s.body, Body::Table { .. })
-}
-
-// Whether a statement makes a table whose columns are its own.
-fn is_new_table(p: &Parse<'_>, s: &Stmt) -> bool
-    ensures { result ≡ spec.is_new_table p.now s.now }
-{
-    is_table(s) && !says(p, "inherits", s)
-}
-
 // The class of a fix of a rule in a statement.
 #[tactic(auto, unfolding(crate::specs::Classes::class_by))]
 fn class_by(rule: Rule, known: Known, p: &Parse<'_>, s: &Stmt) -> Option<FixClass>
@@ -89,10 +76,10 @@ fn class_by(rule: Rule, known: Known, p: &Parse<'_>, s: &Stmt) -> Option<FixClas
         Rule::RequireConcurrentReindex => concurrent(known, false),
         Rule::RequireConcurrentPartitionDetach | Rule::PreferRepack => concurrent(known, true),
         Rule::RequireLockTimeout | Rule::RequireStatementTimeout => {
-            Some(safe_unless(known.has_builds))
+            Some(safe_unless(known.has_long))
         }
         Rule::PreferBigintOverInt | Rule::PreferBigintOverSmallint | Rule::PreferIdentity => {
-            Some(safe_unless(!is_new_table(p, s)))
+            Some(safe_unless(!known.has_own_types))
         }
         Rule::IdentifierTooLong => Some(FixClass::Safe),
         Rule::RequireEnumValueOrdering => Some(FixClass::Template),
