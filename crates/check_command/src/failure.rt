@@ -64,7 +64,7 @@ pub(crate) fn word_failure(alloc: Global, fault: &WordFault) -> Failure
     }
 }
 
-/// Writes a line, which has its line feed. Nothing comes of a failure.
+/// Writes a line, which has its line feed. A failed write changes nothing else.
 pub(crate) fn say<E: Sink>(err: &mut E, line: &[u8])
     ensures part { AppendsPart (E.held err.old) (E.held err.new) line.now }
     ensures whole { ¬ (Rose (E.faults err.old) (E.faults err.new)) → Appends (E.held err.old) (E.held err.new) line.now }

@@ -39,7 +39,7 @@ fn is_excluded(alloc: Global, patterns: &Words, path: &str) -> Result<bool, NoMe
     Ok(false)
 }
 
-// Whether a name was not there before, which it is from then on.
+// Adds a name, and says whether it is new.
 fn is_first(alloc: Global, seen: &mut BTreeSet<String>, name: &str) -> Result<bool, NoMemory>
     ensures first { IfOk result (λ is. is ≡ not (contains_text seen.old name.now)) }
     ensures seen { OnOk result ((other : List ℕ) → contains_text seen.new other ≡ (if bytes_eq name.now other then true else contains_text seen.old other)) }

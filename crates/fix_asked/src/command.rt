@@ -121,7 +121,7 @@ fn work<F: FileStore, W: FileWriter, S: Source, K: Sink, M: Fixer + Chosen + Dro
     }
 }
 
-// Writes lines, each of which has its line feed. Nothing comes of a failure.
+// Writes lines, each of which has its line feed. A failed write changes nothing else.
 fn say<E: Sink>(err: &mut E, lines: &[u8])
     ensures { spec.HasSaid lines.now (E.held err.old) (E.held err.new) (E.faults err.old) (E.faults err.new) }
 {

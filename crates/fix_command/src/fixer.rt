@@ -78,7 +78,7 @@ fn refused(text: &str, error: LintError) -> Result<TextOutcome, NoMemory>
     }
 }
 
-// What comes of a text. The linter is of no more use.
+// What comes of a text. The linter is not to be used again.
 fn outcome_of(
     alloc: Global,
     linter: &mut Linter,

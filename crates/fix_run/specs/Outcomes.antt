@@ -139,7 +139,7 @@ unread_of [] = []
 unread_of (outcome.Fixed file ∷ cs) = unread_of cs
 unread_of (outcome.Unread u ∷ cs) = u ∷ unread_of cs
 
--- Each of these names has come: this was made of some, and these are the others, both in order.
+-- Each of these names has its outcome: these are the files that were fixed, and these the others, both in order.
 pub record HaveCome (answers : Answers) (content : Text → Content) (before now : ℕ) (names : List Text) (fixed : List FixedFile) (unread : List Unread) : Type 0 where
   pub all : List FileOutcome
   pub are : AreCome answers content before now names all

@@ -45,7 +45,8 @@ pub record FixedValue : Type 0 where
   pub others : List OtherFix
 
 -- Fixing has ended: the text is reached by the steps that are counted, no more than the load of the given text; these are its reports,
--- and none of them has a fix for one step more. The others are those of the reports of the given text. All under the settings that the given text leaves, its flag cleared.
+-- and none of them has a fix for one step more. The fixes that are not made beside another one are those of the reports of the given text.
+-- All under the settings that the given text leaves, its flag cleared.
 pub record IsFixed (tree : Tree) (wide : Bool) (rules : Rules) (settings : LinterSettings) (fixed : FixedValue) : Type 0 where
   pub reached : Reached wide rules (cleared tree settings) tree.text fixed.applied fixed.text
   pub few : fixed.applied ≤ load tree rules (cleared tree settings)

@@ -94,8 +94,9 @@ fn fix_tree(
 }
 
 /// Makes fixes in a text, one after another, until none is left that fits and that the classes allow: safe ones, and unsafe ones too where
-/// `wide` says so. The fixes that are not made because one that comes first changes the same bytes are found in the given text. Each time the first one is made in the order of the reports, and the text is linted again, so it takes time in
-/// proportion to the fixes and the text. The linter's flag is as the text leaves it.
+/// `wide` says so. Each time the first one in the order of the reports is made, and the text is linted again, so it takes time in proportion
+/// to the fixes and the text. The fixes of the given text that are not made, since one that comes first changes the same bytes, are named
+/// too. The linter's flag is as the text leaves it.
 ///
 /// `TooLong`, `Unterminated` and `Syntax` come of the given text, since each text that is made is valid; `NoMemory` comes because
 /// memory ran out.

@@ -2,7 +2,7 @@
 
 ghost use Rattle.hazard_ignore.specs.Laws.{UnknownNamesAreTold, UnusedNamesStay};
 
-/// Of the linter's reports on ignore comments, those that a name is unknown are told by the name, and those that a name covers nothing stay.
+/// A report that a name is unknown is matched to a hazard by that name; a report that a name covers nothing never is.
 pub fn names_tell()
     ensures unknown { UnknownNamesAreTold }
     ensures unused { UnusedNamesStay }

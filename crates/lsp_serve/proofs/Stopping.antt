@@ -24,7 +24,7 @@ on_ok (Ok x) P Q f h = f h
 on_ok (Err e) P Q f h = tt
 
 module _ {C : Type 0} (Shows : C → List ℕ → List Report → Type 0) (TakenAs : Stage → Message → Message → C → C → Type 0) (old new : Session C) where
-  -- a message was heard, and what was said to it was not written
+  -- a message was received, and what was said to it was not written
   pub not_said : (m : Message) (said : Option Reply) (held held_now : Option (List ℕ)) (before now : ℕ) (end : End) → Handles Shows TakenAs old new m said
       → StopsSaying end (said_bytes said) held held_now before now → StopsResponding end Shows TakenAs old new m held held_now before now
   not_said m said held held_now before now (Exited in_order) h s = absurd s

@@ -48,8 +48,8 @@ wrote_part : (a b c : Option (List ℕ)) (replies : List Reply) (said : Option R
     → AppendsPart a c (all_bytes (replies ++ option_to_list said))
 wrote_part a b c replies said p q = subst (AppendsPart a c) (sym (bytes_more replies said)) (part_after a b c (all_bytes replies) (said_bytes said) p q)
 
-taken_more : {C : Type 0} (TakenAs : Stage → Message → Message → C → C → Type 0) (stage : Stage) (heard messages : List Message) (m t : Message) (first mid last : C)
-    → AreTaken TakenAs stage heard messages first mid → TakenAs (stage_behind stage messages) m t mid last → AreTaken TakenAs stage (heard ++ m ∷ []) (messages ++ t ∷ []) first last
+taken_more : {C : Type 0} (TakenAs : Stage → Message → Message → C → C → Type 0) (stage : Stage) (received messages : List Message) (m t : Message) (first mid last : C)
+    → AreTaken TakenAs stage received messages first mid → TakenAs (stage_behind stage messages) m t mid last → AreTaken TakenAs stage (received ++ m ∷ []) (messages ++ t ∷ []) first last
 unfolding AreTaken stage_behind
 taken_more TakenAs stage [] [] m t first mid last h one = (last, subst (λ k. TakenAs stage m t k last) h one, refl)
 taken_more TakenAs stage [] (y ∷ ys) m t first mid last h one = absurd h
@@ -124,7 +124,7 @@ module _ {C : Type 0} (Shows : C → List ℕ → List Report → Type 0) (Taken
       → SoFar Shows TakenAs session.checker session input input old old
   unfolding AreRead AreTaken IsOpenBefore SaysEach stage_behind document_behind last_published
   begun session input old fresh none = record {
-    heard = [];
+    received = [];
     messages = [];
     replies = [];
     read = refl;
@@ -140,9 +140,9 @@ module _ {C : Type 0} (Shows : C → List ℕ → List Report → Type 0) (Taken
   }
 
   takes_more : (first : C) (session new : Session C) (input from : Option (List ℕ)) (old before : Streams) (s : SoFar Shows TakenAs first session input from old before) (m : Message) (said : Option Reply)
-      (h : Handles Shows TakenAs session new m said) → AreTaken TakenAs Fresh (s.heard ++ m ∷ []) (s.messages ++ h.taken ∷ []) first new.checker
+      (h : Handles Shows TakenAs session new m said) → AreTaken TakenAs Fresh (s.received ++ m ∷ []) (s.messages ++ h.taken ∷ []) first new.checker
   takes_more first session new input from old before s m said h =
-      taken_more TakenAs Fresh s.heard s.messages m h.taken first session.checker new.checker s.taken
+      taken_more TakenAs Fresh s.received s.messages m h.taken first session.checker new.checker s.taken
       (subst (λ stage. TakenAs stage m h.taken session.checker new.checker) s.stage h.takes)
 
   pub one_turn : (first : C) (session new : Session C) (input from to : Option (List ℕ)) (old before now : Streams) → SoFar Shows TakenAs first session input from old before → IsOpen session.stage
@@ -152,10 +152,10 @@ module _ {C : Type 0} (Shows : C → List ℕ → List Report → Type 0) (Taken
       let said = t.responds.said in
       let after : (uri : List ℕ) → document_of uri new ≡ document_behind Fresh (s.messages ++ h.taken ∷ []) uri None = λ uri. document_more session new s.messages t.message said uri s.stage (s.documents uri) h in
       record {
-        heard = s.heard ++ t.message ∷ [];
+        received = s.received ++ t.message ∷ [];
         messages = s.messages ++ h.taken ∷ [];
         replies = s.replies ++ option_to_list said;
-        read = read_more input from to s.heard t.message s.read t.read;
+        read = read_more input from to s.received t.message s.read t.read;
         taken = takes_more first session new input from old before s t.message said h;
         open_before = open_more Fresh s.messages h.taken s.open_before (subst IsOpen s.stage going);
         stage = stage_more session new s.messages t.message said s.stage h;
@@ -179,11 +179,11 @@ module _ {C : Type 0} (Shows : C → List ℕ → List Report → Type 0) (Taken
       let after : (uri : List ℕ) → document_of uri new ≡ document_behind Fresh (s.messages ++ h.taken ∷ []) uri None = λ uri. document_more session new s.messages t.message said uri s.stage (s.documents uri) h in
       record {
         last = new.checker;
-        heard = s.heard ++ t.message ∷ [];
+        received = s.received ++ t.message ∷ [];
         messages = s.messages ++ h.taken ∷ [];
         replies = s.replies ++ option_to_list said;
         rest = to;
-        read = read_more input from to s.heard t.message s.read t.read;
+        read = read_more input from to s.received t.message s.read t.read;
         taken = takes_more first session new input from old before s t.message said h;
         open_before = open_more Fresh s.messages h.taken s.open_before (subst IsOpen s.stage going);
         said = said_more session new s.messages s.replies t.message said h s.stage s.silent s.documents after s.said;
@@ -196,7 +196,7 @@ module _ {C : Type 0} (Shows : C → List ℕ → List Report → Type 0) (Taken
   ends first session new input from to old before now (Exited in_order) s going t = absurd t
   ends first session new input from to old before now EndOfInput s going t = record {
     last = session.checker;
-    heard = s.heard;
+    received = s.received;
     messages = s.messages;
     replies = s.replies;
     rest = from;
@@ -209,7 +209,7 @@ module _ {C : Type 0} (Shows : C → List ℕ → List Report → Type 0) (Taken
   }
   ends first session new input from to old before now (BadFrame fault) s going t = record {
     last = session.checker;
-    heard = s.heard;
+    received = s.received;
     messages = s.messages;
     replies = s.replies;
     rest = from;
@@ -222,7 +222,7 @@ module _ {C : Type 0} (Shows : C → List ℕ → List Report → Type 0) (Taken
   }
   ends first session new input from to old before now CutOff s going t = record {
     last = session.checker;
-    heard = s.heard;
+    received = s.received;
     messages = s.messages;
     replies = s.replies;
     rest = from;
@@ -235,7 +235,7 @@ module _ {C : Type 0} (Shows : C → List ℕ → List Report → Type 0) (Taken
   }
   ends first session new input from to old before now ReadFault s going t = record {
     last = session.checker;
-    heard = s.heard;
+    received = s.received;
     messages = s.messages;
     replies = s.replies;
     rest = from;
@@ -249,7 +249,7 @@ module _ {C : Type 0} (Shows : C → List ℕ → List Report → Type 0) (Taken
   ends first session new input from to old before now WriteFault s going t = ends_in_write first session new input from to old before now s going t
   ends first session new input from to old before now NoMemory s going t = record {
     last = session.checker;
-    heard = s.heard;
+    received = s.received;
     messages = s.messages;
     replies = s.replies;
     rest = from;
@@ -267,7 +267,7 @@ module _ {C : Type 0} (Shows : C → List ℕ → List Report → Type 0) (Taken
       let left = gone session.stage end e in
       subst (Served Shows TakenAs first input old now) (sym left.2) (record {
         last = session.checker;
-        heard = s.heard;
+        received = s.received;
         messages = s.messages;
         replies = s.replies;
         rest = rest;
@@ -283,7 +283,7 @@ module _ {C : Type 0} (Shows : C → List ℕ → List Report → Type 0) (Taken
   pub worn_out : (first : C) (session : Session C) (input rest : Option (List ℕ)) (old now : Streams) → SoFar Shows TakenAs first session input rest old now → Served Shows TakenAs first input old now NoMemory
   worn_out first session input rest old now s = record {
     last = session.checker;
-    heard = s.heard;
+    received = s.received;
     messages = s.messages;
     replies = s.replies;
     rest = rest;
@@ -300,7 +300,7 @@ pub nothing_done : {C : Type 0} (Shows : C → List ℕ → List Report → Type
 unfolding AreRead AreTaken IsOpenBefore SaysEach document_behind last_published
 nothing_done Shows TakenAs first input old = record {
   last = first;
-  heard = [];
+  received = [];
   messages = [];
   replies = [];
   rest = input;

@@ -75,17 +75,17 @@ WroteFor ReadFault old new bytes = Appends old.held new.held bytes
 WroteFor WriteFault old new bytes = AppendsPart old.held new.held bytes
 WroteFor NoMemory old new bytes = Appends old.held new.held bytes
 
--- What a server did: the messages that it heard are those of the frames of the input, in turn; it took them for these, and its checker became
+-- What a server did: the messages that it received are those of the frames of the input, in turn; it took them for these, and its checker became
 -- the last one; the session was open before each of them; the replies are what is said to each of them, with the reports that the last checker
 -- shows; and the sink has their frames.
 pub record Served {C : Type 0} (Shows : C → List ℕ → List Report → Type 0) (TakenAs : Stage → Message → Message → C → C → Type 0) (first : C) (input : Option (List ℕ)) (old new : Streams) (end : End) : Type 0 where
   pub last : C
-  pub heard : List Message
+  pub received : List Message
   pub messages : List Message
   pub replies : List Reply
   pub rest : Option (List ℕ)
-  pub read : AreRead input heard rest
-  pub taken : AreTaken TakenAs Fresh heard messages first last
+  pub read : AreRead input received rest
+  pub taken : AreTaken TakenAs Fresh received messages first last
   pub open_before : IsOpenBefore Fresh messages
   pub said : AreSaidTo (Shows last) messages replies
   pub wrote : WroteFor end old new (all_bytes replies)

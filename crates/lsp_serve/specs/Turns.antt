@@ -87,11 +87,11 @@ StopsTurn NoMemory Shows TakenAs old new from to before now = Keeps before.held 
 
 -- what is known between two turns of all that was read, said and written, with the checker that the session had first
 pub record SoFar {C : Type 0} (Shows : C → List ℕ → List Report → Type 0) (TakenAs : Stage → Message → Message → C → C → Type 0) (first : C) (session : Session C) (input rest : Option (List ℕ)) (old now : Streams) : Type 0 where
-  pub heard : List Message
+  pub received : List Message
   pub messages : List Message
   pub replies : List Reply
-  pub read : AreRead input heard rest
-  pub taken : AreTaken TakenAs Fresh heard messages first session.checker
+  pub read : AreRead input received rest
+  pub taken : AreTaken TakenAs Fresh received messages first session.checker
   pub open_before : IsOpenBefore Fresh messages
   pub stage : session.stage ≡ stage_behind Fresh messages
   pub documents : (uri : List ℕ) → document_of uri session ≡ document_behind Fresh messages uri None

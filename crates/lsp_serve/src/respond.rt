@@ -45,15 +45,15 @@ fn write_said<K: Sink>(alloc: Global, said: &Option<Reply>, out: &mut K) -> Resu
 }
 
 // Handles the message that a content is.
-fn hear<C: Checker + Enter>(
+fn handle_message<C: Checker + Enter>(
     alloc: Global,
     session: &mut Session<C>,
     content: &[u8],
 ) -> Result<Option<Reply>, NoMemory>
     ensures { IfOk result (Handles C.shows (IsTakenAs C.enters C.refuses) session.old session.new (message_of content.now)) }
 {
-    let heard = read_message(alloc, content)?;
-    let message = session.take(heard)?;
+    let received = read_message(alloc, content)?;
+    let message = session.take(received)?;
     let said = session.step(message)?;
     Ok(said)
 }
@@ -70,7 +70,7 @@ pub(crate) fn respond<C: Checker + Enter, K: Sink>(
         (K.held out.old) (K.held out.new) (K.faults out.old) (K.faults out.new)) }
     ensures later { K.faults out.old ≤ K.faults out.new }
 {
-    match hear(alloc, session, content) {
+    match handle_message(alloc, session, content) {
         Err(NoMemory) => Err(End::NoMemory),
         Ok(said) => write_said(alloc, &said, out),
     }

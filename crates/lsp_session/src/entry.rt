@@ -7,10 +7,10 @@ use text_pos::NoMemory;
 
 /// A checker that settles what it shows of texts when a session begins, from the root of the workspace.
 pub trait Enter {
-    /// Entered at this root, the first is the second.
+    /// The second is the first after it was entered at this root.
     ghost enters: { Self → Option (List ℕ) → Self → Type 0 };
 
-    /// The first can't be entered at this root, as this line says, and is the second after it was tried.
+    /// The second is the first after this root was refused, for the reason that this line gives.
     ghost refuses: { Self → Option (List ℕ) → List ℕ → Self → Type 0 };
 
     /// Enters the workspace that has this root, a path; `None` is a workspace without one. What comes is the line that says why it can't

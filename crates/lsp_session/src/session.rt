@@ -67,7 +67,7 @@ impl<C: Checker> Session<C> {
                 self.stage = stage;
                 Ok(Some(Reply::Answer { id, answer }))
             }
-            Message::Notice(notice) => self.hear(notice),
+            Message::Notice(notice) => self.handle_notice(notice),
             Message::Response => Ok(None),
             Message::Unreadable(refusal) => Ok(Some(Reply::Answer {
                 id: Id::Null,
@@ -116,7 +116,7 @@ impl<C: Checker> Session<C> {
     }
 
     /// Takes a notification, and gives what is to be said to it.
-    fn hear(&mut self, notice: Notice) -> Result<Option<Reply>, NoMemory>
+    fn handle_notice(&mut self, notice: Notice) -> Result<Option<Reply>, NoMemory>
         ensures checker { self.new.checker ≡ self.old.checker }
         ensures stage { OnOk result (self.new.stage ≡ stage_after self.old.stage (message.Notice notice)) }
         ensures documents { OnOk result ((uri : List ℕ) → document_of uri self.new ≡ document_after (message.Notice notice) self.old.stage uri (document_of uri self.old)) }

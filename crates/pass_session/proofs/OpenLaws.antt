@@ -11,7 +11,7 @@ use Rattle.lint_pass.specs.Blocks.{begins_at, ends_at, is_end_kind}
 use Rattle.pass_session.specs.TransactionNesting.{is_in_transaction}
 use Rattle.pass_session.specs.BanUncommittedTransaction.{is_left_open, last_below, left_open, tokens_of}
 
--- ---- whether a transaction has in_transaction
+-- ---- whether a transaction is open
 
 pub begun_next : (tree : Tree) (i : ℕ) (s : Stmt) (old new : Bool) → s ≡ stmt_at tree i → old ≡ is_in_transaction tree i → new ≡ (is_begin_kind s.kind || (old && not (is_end_kind s.kind))) → new ≡ is_in_transaction tree (i + 1)
 begun_next tree i s old new e h n =

@@ -1,5 +1,5 @@
 -- What is reported of statements that begin or end a transaction at a wrong place (PostgreSQL manual, BEGIN, COMMIT and
--- ROLLBACK, and chapter 3.4). A transaction has in_transaction where the last BEGIN, COMMIT or ROLLBACK, of any form, is a BEGIN.
+-- ROLLBACK, and chapter 3.4). A transaction is open where the last BEGIN, COMMIT or ROLLBACK, of any form, is a BEGIN.
 use Rattle.std.specs.Prelude.{ℕ, Bool, List, [], ◌∷◌, length, codes, if◌then◌else◌, Some, None}
 use Rattle.sql_tree.specs.declared.nodes.Stmt.{Stmt}
 use Rattle.sql_tree.specs.Range.{stmt_range_of}
@@ -48,7 +48,7 @@ stray_end tree s =
     report tree (codes "there is no transaction to `commit` or `rollback`")
     (codes "`begin` a transaction at an earlier point in the migration or remove this statement") s
 
--- the report of a BEGIN: whether a transaction is assumed, and whether one has in_transaction
+-- the report of a BEGIN, by whether a transaction is assumed, and whether one is open
 abbrev pub begin_reports : Bool → Bool → Tree → Stmt → List Violation
 begin_reports assumed in_transaction tree s =
     if assumed then managed_begin tree s ∷ [] else (if in_transaction then nested_begin tree s ∷ [] else [])

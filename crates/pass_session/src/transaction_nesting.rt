@@ -40,7 +40,7 @@ const HELP_TO_BEGIN: &str =
 #[derive(Drop)]
 pub struct TransactionNesting;
 
-/// Whether a transaction has in_transaction: the last BEGIN, COMMIT or ROLLBACK is a BEGIN.
+/// Whether a transaction is open: the last BEGIN, COMMIT or ROLLBACK is a BEGIN.
 #[derive(Drop)]
 pub struct TransactionNestingMemory {
     is_in_transaction: bool,

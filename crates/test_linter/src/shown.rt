@@ -5,7 +5,7 @@ use lint_base::Violation;
 use std::alloc::Global;
 use std::process::Abort;
 
-/// The text is whole, and this one. The failure tells what it is shown of.
+/// Asserts that the text is whole, and this one. A failure says what is shown.
 pub(crate) fn is_shown(rt: &impl Abort, shown: &TextBuilder, of: &str, want: &str) {
     assert_eq!(rt; shown.text(), Some(want), "at {of:?}");
 }

@@ -144,7 +144,7 @@ const SAME: &str = "Equal Equal";
 
 const MORE: &str = "Greater Greater";
 
-/// Two names, and how the first one is there to the second one: by what is kept of both, and by their full texts.
+/// Two names, and how the first compares with the second: by what is kept of both, and by their full texts.
 const ORDER: &[(Left, &str, &str)] = &[
     (Left("public"), "PUBLIC", SAME),
     (Left("public"), "\"public\"", SAME),
@@ -199,7 +199,7 @@ impl Reading for Long {
     }
 }
 
-/// Two names, each by its quotes and by what comes after 62 letters, and how the first name is there to the second one.
+/// Two names, each by its quotes and by what comes after 62 letters, and how the first name compares with the second.
 const CUTS: &[(Long, &str, &str)] = &[
     (
         Long {

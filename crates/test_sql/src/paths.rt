@@ -6,7 +6,7 @@ use sql_read::parse;
 use sql_tree::{Body, NamePath, Parse, Stmt};
 use std::cmp::Ordering;
 
-/// A text of two statements, and how the path of the first one is there to the path of the second one, or `none`.
+/// A text of two statements, and how the path of the first compares with that of the second, or `none`.
 const ROWS: &[(&str, &str)] = &[
     ("CREATE TABLE t (); CREATE INDEX ON T (a);", "Equal"),
     ("CREATE TABLE t (); CREATE INDEX ON \"t\" (a);", "Equal"),

@@ -11,5 +11,5 @@ returns-in-Ok-clause-done g c =
 pub returns-in-Ok-clause-stop : goal.returns-in-Ok-clause-stop
 returns-in-Ok-clause-stop g c =
     IfErr-weaker c.write_said.result _ _
-    (λ end s. not_said g.C.Checker.shows (IsTakenAs g.C.Enter.enters g.C.Enter.refuses) c.args.session.now c.hear.new.session (message_of c.args.content.now) c.in-Ok.said (g.K.Sink.held c.args.out.now) (g.K.Sink.held c.write_said.new.out) (g.K.Sink.faults c.args.out.now) (g.K.Sink.faults c.write_said.new.out) end c.in-Ok.ensures s)
+    (λ end s. not_said g.C.Checker.shows (IsTakenAs g.C.Enter.enters g.C.Enter.refuses) c.args.session.now c.handle_message.new.session (message_of c.args.content.now) c.in-Ok.said (g.K.Sink.held c.args.out.now) (g.K.Sink.held c.write_said.new.out) (g.K.Sink.faults c.args.out.now) (g.K.Sink.faults c.write_said.new.out) end c.in-Ok.ensures s)
     c.write_said.ensures.stop

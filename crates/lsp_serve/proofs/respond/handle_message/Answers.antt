@@ -3,7 +3,7 @@ use Rattle.lsp_message.specs.declared.message.Message.{Message}
 use Rattle.lsp_serve.specs.Turns.{Handles}
 use Rattle.lsp_serve.proofs.Handling.{handled_as}
 use Rattle.lsp_session.specs.Entry.{IsTakenAs}
-use Rattle.lsp_serve.proofs.respond.hear.Goals as goal
+use Rattle.lsp_serve.proofs.respond.handle_message.Goals as goal
 
 pub returns : goal.returns
 returns g c =
@@ -12,6 +12,6 @@ returns g c =
     let shows = g.C.Checker.shows in
     let enters = g.C.Enter.enters in
     let refuses = g.C.Enter.refuses in
-    subst (λ (m : Message). Handles shows (IsTakenAs enters refuses) c.args.session.now c.step.new.self m c.in_ok-said.said) c.in_ok-heard.ensures
-    (handled_as enters refuses shows c.args.session.now c.take.new.self c.step.new.self c.in_ok-heard.heard c.in_ok-message.message c.in_ok-said.said
+    subst (λ (m : Message). Handles shows (IsTakenAs enters refuses) c.args.session.now c.step.new.self m c.in_ok-said.said) c.in_ok-received.ensures
+    (handled_as enters refuses shows c.args.session.now c.take.new.self c.step.new.self c.in_ok-received.received c.in_ok-message.message c.in_ok-said.said
     take.taken take.stage take.documents step.checker step.stage step.documents step.published step.answered step.silent step.says)
