@@ -13,7 +13,7 @@ loop-i-preserved c =
     let file = c.args.file.now in
     let reports = c.args.reports.now in
     let now : Numbered = record { report = l.i; statement = c.number_behind-number.result } in
-    let place = c.number_behind-number.ensures.number ∙ ap (number_behind file) c.start.ensures in
+    let place = c.number_behind-number.ensures.number ∙ ap (number_behind file) c.start.ensures.value in
     let kept = c.last_replacing-last.ensures in
     record {
       found = next_others c.args.wide c.args.settings.now file reports l.i l.last.report v l.others.items c.keep.new.others.items c.in_ok-other.other lt here
