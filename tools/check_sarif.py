@@ -3,7 +3,7 @@
 
 No schema file is read: the required properties, the value sets and the ranges are those of the standard's sections 3.8 (property bags), 3.13
 (sarifLog), 3.14 (run), 3.18 and 3.19 (tool), 3.27 (result), 3.29 (physicalLocation), 3.30 (region), 3.55 to 3.57 (fixes). Of the
-property bags, whose members are ours, it reads the class of a fix, and the note and the help of a result.
+property bags, whose members are ours, it reads the class of a fix, and the note, the help and the statement of a result.
 Prints what is wrong, a line each; the status is 1 where anything is.
 """
 import json
@@ -58,16 +58,19 @@ def fix(value, where):
                 want(change["replacements"], where, "no replacements")
                 for replacement in change["replacements"]:
                     region(replacement.get("deletedRegion"), where + ".deletedRegion")
-                    text(replacement.get("insertedContent"), where + ".insertedContent")
+                    if "insertedContent" in replacement:
+                        text(replacement["insertedContent"], where + ".insertedContent")
 
 
 def properties(value, where):
-    """The property bag of a result: a note and a help, each a text or null, and nothing more."""
+    """The property bag of a result: a note and a help, each a text or null, a statement, a region or null, and nothing more."""
     if has(value, where, "properties", dict):
         bag = value["properties"]
-        want(set(bag) == {"help", "note"}, where + ".properties", "the members are not help and note")
+        want(set(bag) == {"help", "note", "statement"}, where + ".properties", "the members are not help, note and statement")
         for name in ("help", "note"):
             want(bag.get(name) is None or isinstance(bag[name], str), where + ".properties", f"{name} is neither a text nor null")
+        if bag.get("statement") is not None:
+            region(bag["statement"], where + ".properties.statement")
 
 
 def result(value, where):

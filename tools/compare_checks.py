@@ -313,13 +313,29 @@ def dumped(value):
     return json.dumps(value, ensure_ascii=False, sort_keys=True, separators=(",", ":"))
 
 
+def statement_of(file, found):
+    """The range of the statement that a report is in."""
+    return fix_classes.statement_around(file.text, found.start, found.end) if found.level == "warning" else None
+
+
+def as_range(start, end):
+    return {"start": start, "end": end}
+
+
+def put_in(edit):
+    """What an edit puts in, or nothing where it only deletes. (No rule puts in an empty text.)"""
+    return edit.text.decode("utf-8") or None
+
+
 def as_json(file, found):
     (line, column), (last, past) = place(file.text, found.start), place(file.text, found.end)
-    fix = None
+    fix, statement = None, statement_of(file, found)
     if found.title is not None:
-        fix = {"class": found.fix_class, "title": found.title, "edits": [{"start": edit.start, "end": edit.end, "text": edit.text.decode("utf-8")} for edit in found.edits]}
+        edits = [{**as_range(edit.start, edit.end), "text": put_in(edit)} for edit in found.edits]
+        fix = {"class": found.fix_class, "title": found.title, "edits": edits}
     return dumped({"file": file.name, "line": line, "column": column, "line_end": last, "column_end": past, "level": found.level,
-                   "message": found.message, "note": found.note, "help": found.help, "rule_name": found.rule, "fix": fix})
+                   "message": found.message, "note": found.note, "help": found.help, "rule_name": found.rule, "fix": fix,
+                   "range": as_range(found.start, found.end), "statement": statement and as_range(*statement)})
 
 
 def uri(name):
@@ -333,19 +349,19 @@ def region(text, start, end):
 
 def as_sarif(file, found):
     location = {"physicalLocation": {"artifactLocation": {"uri": uri(file.name)}, "region": region(file.text, found.start, found.end)}}
-    fixes = []
+    fixes, statement = [], statement_of(file, found)
     if found.title is not None:
-        edits = [{"deletedRegion": region(file.text, edit.start, edit.end), "insertedContent": {"text": edit.text.decode("utf-8")}}
+        edits = [{"deletedRegion": region(file.text, edit.start, edit.end), **({"insertedContent": {"text": put_in(edit)}} if put_in(edit) else {})}
                  for edit in found.edits]
         change = {"artifactLocation": {"uri": uri(file.name)}, "replacements": edits}
         fixes = [{"description": {"text": found.title}, "artifactChanges": [change], "properties": {"class": found.fix_class}}]
     return dumped({"ruleId": found.rule, "level": found.level, "message": {"text": found.message}, "locations": [location], "fixes": fixes,
-                   "properties": {"note": found.note, "help": found.help}})
+                   "properties": {"note": found.note, "help": found.help, "statement": statement and region(file.text, *statement)}})
 
 
 def as_gitlab(file, found):
-    start, end = fix_classes.statement_around(file.text, found.start, found.end)
-    statement = file.text[start:end] if found.level == "warning" else b""
+    start, end = statement_of(file, found) or (0, 0)
+    statement = file.text[start:end]
     print_of = hashlib.sha256(b"\0".join((file.name.encode("utf-8"), found.rule.encode(), statement))).hexdigest()
     severity = {"warning": "minor", "error": "major"}[found.level]
     return dumped({"description": found.message, "check_name": found.rule, "fingerprint": print_of, "severity": severity,

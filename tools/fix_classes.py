@@ -91,10 +91,30 @@ def sets_timeout(said):
     return said[0] == "SET" and rest[:1] and rest[0].strip('"').lower() in ("lock_timeout", "statement_timeout")
 
 
-def builds(said):
+LONG = {"ANALYZE", "ANALYSE", "CALL", "CLUSTER", "COPY", "DELETE", "DO", "EXECUTE", "INSERT", "MERGE", "REFRESH", "REINDEX", "REPACK", "SELECT", "UPDATE", "VACUUM", "("}
+CONSTRAINTS = {"CONSTRAINT", "CHECK", "UNIQUE", "PRIMARY", "FOREIGN", "EXCLUDE", "NOT"}
+
+
+def is_long_action(said):
+    """An ALTER with an action that may read or write all rows, or wait for other transactions."""
+    pairs = list(zip(said[2:], said[3:]))
+    long = any(one in (("DETACH", "PARTITION"), ("VALIDATE", "CONSTRAINT"), ("SET", "NOT")) or one[0] == "ADD" and one[1] in CONSTRAINTS for one in pairs)
+    return long or "ALTER" in said[2:] and said[1:2] == ["TABLE"]
+
+
+def makes_from_rows(said):
+    """CREATE TABLE AS, CREATE MATERIALIZED VIEW, and a query after WITH."""
+    return said[:3] == ["CREATE", "MATERIALIZED", "VIEW"] or said[0] == "WITH" or makes_table(said) and "AS" in said and "(" not in said[:said.index("AS")]
+
+
+def is_long(said):
+    """A statement that may take longer than a timeout allows."""
     index = [word for word in said[:4] if word != "UNIQUE"]
-    detaches = said[:2] == ["ALTER", "TABLE"] and any(said[at:at + 2] == ["DETACH", "PARTITION"] for at in range(len(said)))
-    return index[:2] in (["CREATE", "INDEX"], ["DROP", "INDEX"]) or said[0] == "REINDEX" or detaches
+    return index[:2] in (["CREATE", "INDEX"], ["DROP", "INDEX"]) or said[0] in LONG or said[0] == "ALTER" and is_long_action(said) or makes_from_rows(said)
+
+
+def attaches(said):
+    return said[0] == "ALTER" and ("ATTACH" in said or "INHERIT" in said)
 
 
 def makes_table(said):
@@ -116,7 +136,8 @@ class Known:
             self.limited.append(limited)
             inside = True if begins(said) else chains(said) if ends(said) else inside
             limited = limited or bool(sets_timeout(said))
-        self.builds = any(map(builds, self.said))
+        self.is_long = any(map(is_long, self.said))
+        self.attaches = any(map(attaches, self.said))
 
     def class_of(self, rule, start):
         """The class of the fix of a report that begins there; None where it is not offered."""
@@ -133,7 +154,7 @@ class Known:
             guarded = rule == "require-concurrent-index-creation" and any(said[i:i + 3] == ["IF", "NOT", "EXISTS"] for i in range(len(said)))
             return safe(guarded or self.limited[at])
         if rule in ("require-lock-timeout", "require-statement-timeout"):
-            return safe(self.builds)
+            return safe(self.is_long)
         if rule in ("prefer-bigint-over-int", "prefer-bigint-over-smallint", "prefer-identity"):
-            return safe(not makes_table(said) or "INHERITS" in said)
+            return safe(not makes_table(said) or "INHERITS" in said or self.attaches)
         return {"identifier-too-long": "safe", "require-enum-value-ordering": "template"}.get(rule, "unsafe")

@@ -4,11 +4,11 @@
 pub const VERSION: &str = "lavkheto 0.1.0\n";
 
 /// What is printed for `--help`.
-pub const HELP: &str = "Lints migrations of PostgreSQL. Its answers are theorems.
+pub const HELP: &str = "Lints migrations of PostgreSQL. What is reported is proved to be what the rules define.
 
 Usage: lavkheto check [OPTIONS] [FILES]..
        lavkheto fix [OPTIONS] [FILES]..  what the safe fixes change, as a diff; with --write the files are written
-       lavkheto gate [FILES]             whether the migrations may be run
+       lavkheto gate [OPTIONS] FILES..   whether the migrations may be run
        lavkheto explain [RULE]           what a rule or a hazard reports, why, its lock, and what to write instead
        lavkheto server [OPTIONS]         a language server over standard input and output
 

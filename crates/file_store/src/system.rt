@@ -6,6 +6,7 @@ ghost use Rattle.file_store.specs.Refused.{RefusedFits};
 use crate::store::{FileError, FileStore};
 use squawk_stream::{ReadError, StdSource, read_to_end};
 use std::alloc::Global;
+use std::fs::FileType;
 use std::io;
 use std::io::ErrorKind;
 use std::marker::Model;
@@ -46,8 +47,19 @@ impl<'r, R: Files + AllocGlobal + Clone + Drop> SystemFiles<'r, R> {
         FileError::Fault
     }
 
+    // Whether reading it may wait for ever: a pipe, a socket or a device, or a link to one.
+    fn is_special(&self, path: &str, kind: FileType) -> bool {
+        if !kind.is_symlink() {
+            return !kind.is_file();
+        }
+        match std::fs::metadata(self.rt, path) {
+            Ok(about) => !about.is_file() && !about.is_dir(),
+            Err(_) => false,
+        }
+    }
+
     // Adds what is right in a folder: files to `names`, and folders to `folders`. A link to a folder counts as a file, so that no
-    // folder is gone through twice.
+    // folder is gone through twice. Pipes, sockets and devices are passed over.
     fn add_folder(
         &self,
         alloc: Global,
@@ -58,9 +70,10 @@ impl<'r, R: Files + AllocGlobal + Clone + Drop> SystemFiles<'r, R> {
         for entry in std::fs::read_dir(self.rt, folder)? {
             let entry = entry?;
             let path = String::from_str(alloc, entry.path().as_str())?;
-            if entry.file_type()?.is_dir() {
+            let kind = entry.file_type()?;
+            if kind.is_dir() {
                 folders.push(path)?;
-            } else {
+            } else if !self.is_special(path.as_str(), kind) {
                 names.push(path)?;
             }
         }

@@ -1,5 +1,5 @@
 -- What is known of one statement more.
-use Rattle.std.proofs.Common.{◌≡◌, ℕ, ◌+◌, ◌<◌, ◌∙◌, Bool, List, [], ◌∷◌, ◌++◌, length, get_or, refl, sym, ap, arith, below_more, length-append}
+use Rattle.std.proofs.Common.{◌≡◌, ℕ, ◌+◌, ◌<◌, ◌∙◌, ◌&&◌, not, Bool, List, [], ◌∷◌, ◌++◌, length, get_or, sym, ap, arith, below_more, length-append}
 use Rattle.std.proofs.lemmas.List.{get_or_append_left}
 use Rattle.std.proofs.Math.Seq.{get_or-append_seam}
 use Rattle.std.specs.List.{list_any}
@@ -8,13 +8,14 @@ use Rattle.lint_base.specs.declared.settings.LinterSettings.{LinterSettings}
 use Rattle.lint_transaction.specs.Earlier.{any_below}
 use Rattle.lint_transaction.specs.Transaction.{is_open, stmt_at}
 use Rattle.fix_class.specs.declared.known.Known.{Known}
-use Rattle.fix_class.specs.Known.{builds, is_assumed, known_at, limits, nothing}
+use Rattle.fix_class.specs.Known.{attaches, is_assumed, is_long, is_new_table, known_at, limits, nothing}
 
-pub known_is : (settings : LinterSettings) (tree : Tree) (i : ℕ) (a b c : Bool) → a ≡ is_open (is_assumed settings tree) tree i
-    → b ≡ any_below (λ j. limits tree (stmt_at tree j)) i → c ≡ list_any builds tree.stmts
-    → record { is_inside = a; is_limited = b; has_builds = c } ≡ known_at settings tree i
+pub known_is : (settings : LinterSettings) (tree : Tree) (i : ℕ) (a b c d : Bool) → a ≡ is_open (is_assumed settings tree) tree i
+    → b ≡ any_below (λ j. limits tree (stmt_at tree j)) i → c ≡ list_any is_long tree.stmts
+    → d ≡ is_new_table tree (stmt_at tree i) && not (list_any (attaches tree) tree.stmts)
+    → record { is_inside = a; is_limited = b; has_long = c; has_own_types = d } ≡ known_at settings tree i
 unfolding known_at
-known_is settings tree i a b c p q r = λ j. record { is_inside = p j; is_limited = q j; has_builds = r j }
+known_is settings tree i a b c d p q r s = λ j. record { is_inside = p j; is_limited = q j; has_long = r j; has_own_types = s j }
 
 pub more_count : (all : List Known) (x : Known) (new : List Known) (i : ℕ) → length all ≡ i → new ≡ all ++ x ∷ [] → length new ≡ i + 1
 more_count all x new i e is = omega (arith, ap length is, length-append all (x ∷ []), e)

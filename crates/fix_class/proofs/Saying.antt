@@ -1,5 +1,5 @@
 -- One token more.
-use Rattle.std.proofs.Common.{◌≡◌, ℕ, ◌+◌, ◌-◌, ◌<◌, ◌≤◌, false, List, refl, ap, ◌∙◌, suc, arith}
+use Rattle.std.proofs.Common.{◌≡◌, ℕ, ◌+◌, ◌-◌, ◌<◌, ◌≤◌, false, List, ap, suc, arith}
 use Rattle.std.specs.Prelude.{◌||◌}
 use Rattle.sql_tree.specs.Statement.{Tree}
 use Rattle.fix_class.specs.Words.{is_word_at, says_from}

@@ -1,10 +1,8 @@
 -- How far the fix of a report can be trusted, by its rule and by the statement that it changes.
-use Rattle.std.specs.Prelude.{ℕ, ◌+◌, ◌-◌, Bool, true, false, not, ◌&&◌, ◌||◌, List, [], ◌∷◌, length, codes, nat_lt, nat_le, Option, Some, None, is_none, if◌then◌else◌}
-use Rattle.sql_token.specs.declared.token.Span.{Span}
+use Rattle.std.specs.Prelude.{ℕ, Bool, true, false, not, ◌&&◌, ◌||◌, length, codes, nat_lt, Option, Some, None, if◌then◌else◌}
 use Rattle.sql_tree.specs.declared.nodes.Body.{Body}
 use Rattle.sql_tree.specs.declared.nodes.Body.TheVariants as body
 use Rattle.sql_tree.specs.declared.nodes.Stmt.{Stmt}
-use Rattle.sql_tree.specs.Range.{stmt_range_of}
 use Rattle.sql_tree.specs.Statement.{Tree}
 use Rattle.lint_base.specs.declared.rule.Rule.{Rule}
 use Rattle.lint_base.specs.declared.rule.Rule.TheVariants as rule
@@ -13,6 +11,7 @@ use Rattle.lint_base.specs.declared.violation.Violation.{Violation}
 use Rattle.lint_report.specs.declared.fix_class.FixClass.{FixClass}
 use Rattle.lint_report.specs.declared.fix_class.FixClass.TheVariants.{Safe, Unsafe, Template}
 use Rattle.lint_transaction.specs.Transaction.{stmt_at}
+use Rattle.statement_place.specs.Statements.{number_behind}
 use Rattle.fix_class.specs.declared.known.Known.{Known}
 use Rattle.fix_class.specs.Known.{known_at}
 use Rattle.fix_class.specs.Words.{says}
@@ -37,14 +36,6 @@ drops_many_by _ = false
 abbrev pub is_too_much : Tree → Stmt → Bool
 is_too_much tree s = drops_many_by s.body || says tree (codes "cascade") s
 
-abbrev pub is_table_by : Body → Bool
-is_table_by (body.Table temp guarded on_commit_drop word path elems) = true
-is_table_by _ = false
-
--- The statement makes a table whose columns are its own: those of a child of another table must have the types of the parent's.
-abbrev pub is_new_table : Tree → Stmt → Bool
-is_new_table tree s = is_table_by s.body && not (says tree (codes "inherits") s)
-
 -- the class by rule; without one the fix is not offered
 unfoldable pub class_by : Rule → Known → Tree → Stmt → Option FixClass
 class_by rule.RequireConcurrentIndexCreation known tree s = concurrent known (is_guarded_by s.body)
@@ -52,32 +43,22 @@ class_by rule.RequireConcurrentIndexDeletion known tree s = if is_too_much tree 
 class_by rule.RequireConcurrentReindex known tree s = concurrent known false
 class_by rule.RequireConcurrentPartitionDetach known tree s = concurrent known true
 class_by rule.PreferRepack known tree s = concurrent known true
-class_by rule.RequireLockTimeout known tree s = Some (safe_unless known.has_builds)
-class_by rule.RequireStatementTimeout known tree s = Some (safe_unless known.has_builds)
-class_by rule.PreferBigintOverInt known tree s = Some (safe_unless (not (is_new_table tree s)))
-class_by rule.PreferBigintOverSmallint known tree s = Some (safe_unless (not (is_new_table tree s)))
-class_by rule.PreferIdentity known tree s = Some (safe_unless (not (is_new_table tree s)))
+class_by rule.RequireLockTimeout known tree s = Some (safe_unless known.has_long)
+class_by rule.RequireStatementTimeout known tree s = Some (safe_unless known.has_long)
+class_by rule.PreferBigintOverInt known tree s = Some (safe_unless (not known.has_own_types))
+class_by rule.PreferBigintOverSmallint known tree s = Some (safe_unless (not known.has_own_types))
+class_by rule.PreferIdentity known tree s = Some (safe_unless (not known.has_own_types))
 class_by rule.IdentifierTooLong known tree s = Some Safe
 class_by rule.RequireEnumValueOrdering known tree s = Some Template
 class_by _ known tree s = Some Unsafe
 
--- ---- the statement of a place
-
--- how many of these statements, from the first on, begin at or before a place
-abbrev pub begun : Tree → ℕ → List Stmt → ℕ
-begun tree place [] = 0
-begun tree place (s ∷ ss) = if nat_le (stmt_range_of tree.toks s).start place then begun tree place ss + 1 else 0
-
--- the number of the statement that a place is in, or after
-abbrev pub number_of : Tree → ℕ → ℕ
-number_of tree place = begun tree place tree.stmts - 1
+-- ---- the class of a report
 
 -- the class of the fix of a report on statement i
 abbrev pub class_at : LinterSettings → Tree → Rule → ℕ → Option FixClass
 class_at settings tree code i =
     if nat_lt i (length tree.stmts) then class_by code (known_at settings tree i) tree (stmt_at tree i) else None
 
--- the class of the fix of a report, if it has one and it is offered
+-- the class of the fix of a report, by its rule and by the statement that it begins in; without one the fix is not offered
 unfoldable pub class_of : LinterSettings → Tree → Violation → Option FixClass
-class_of settings tree v =
-    if is_none v.fix then None else class_at settings tree v.code (number_of tree v.text_range.start)
+class_of settings tree v = class_at settings tree v.code (number_behind tree v.text_range.start)

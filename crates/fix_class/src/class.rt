@@ -3,9 +3,9 @@ ghost use Rattle.std.specs.Prelude.{◌≡◌, IfOk};
 ghost use Rattle.lint_base.specs.declared.settings.LinterSettings.{LinterSettings};
 ghost use Rattle.fix_class.specs.Classes as spec;
 ghost use Rattle.fix_class.specs.Known.{AreKnown};
+ghost use Rattle.statement_place.specs.Statements.{number_behind};
 
 use crate::known::{Known, each_known};
-use crate::number::number_of;
 use crate::word::says;
 use lint_base::{LinterSettings, Rule, Violation};
 use lint_report::FixClass;
@@ -60,19 +60,6 @@ fn is_too_much(p: &Parse<'_>, s: &Stmt) -> bool
     drops_many(s) || says(p, "cascade", s)
 }
 
-fn is_table(s: &Stmt) -> bool
-    ensures { result ≡ spec.is_table_by s.now.body }
-{
-    matches!(s.body, Body::Table { .. })
-}
-
-// Whether a statement makes a table whose columns are its own.
-fn is_new_table(p: &Parse<'_>, s: &Stmt) -> bool
-    ensures { result ≡ spec.is_new_table p.now s.now }
-{
-    is_table(s) && !says(p, "inherits", s)
-}
-
 // The class of a fix of a rule in a statement.
 #[tactic(auto, unfolding(crate::specs::Classes::class_by))]
 fn class_by(rule: Rule, known: Known, p: &Parse<'_>, s: &Stmt) -> Option<FixClass>
@@ -89,10 +76,10 @@ fn class_by(rule: Rule, known: Known, p: &Parse<'_>, s: &Stmt) -> Option<FixClas
         Rule::RequireConcurrentReindex => concurrent(known, false),
         Rule::RequireConcurrentPartitionDetach | Rule::PreferRepack => concurrent(known, true),
         Rule::RequireLockTimeout | Rule::RequireStatementTimeout => {
-            Some(safe_unless(known.has_builds))
+            Some(safe_unless(known.has_long))
         }
         Rule::PreferBigintOverInt | Rule::PreferBigintOverSmallint | Rule::PreferIdentity => {
-            Some(safe_unless(!is_new_table(p, s)))
+            Some(safe_unless(!known.has_own_types))
         }
         Rule::IdentifierTooLong => Some(FixClass::Safe),
         Rule::RequireEnumValueOrdering => Some(FixClass::Template),
@@ -129,9 +116,9 @@ impl FixClasses {
         })
     }
 
-    /// The class of the fix of a report of a rule on the statement of this number, from 0 on, or `None` where there is no such statement, or the
-    /// fix always fails where it is made, so that it is not offered.
-    pub fn class_at(&self, p: &Parse<'_>, code: Rule, i: usize) -> Option<FixClass>
+    // The class of the fix of a report of a rule on the statement of this number, or `None` where there is no such statement, or the fix is
+    // not offered.
+    fn class_at(&self, p: &Parse<'_>, code: Rule, i: usize) -> Option<FixClass>
         ensures { (settings : LinterSettings) → AreKnown settings p.now self.now → result ≡ spec.class_at settings p.now code i }
     {
         let stmts = p.tree().stmts.as_slice();
@@ -141,15 +128,13 @@ impl FixClasses {
         None
     }
 
-    /// The class of the fix of a report, or `None` where it has no fix, or one that always fails where it is made, so that it is not
-    /// offered. It takes time in proportion to the number of the statement.
+    /// The class of the fix of a report, whose statement has this number, from 0 on; `None` where the fix always fails where it is made, so
+    /// that it is not offered. It does not ask whether the report has a fix.
     #[tactic(auto, unfolding(crate::specs::Classes::class_of))]
-    pub fn class_of(&self, p: &Parse<'_>, v: &Violation) -> Option<FixClass>
+    pub fn class_of(&self, p: &Parse<'_>, v: &Violation, number: usize) -> Option<FixClass>
+        requires { number ≡ number_behind p.now v.now.text_range.start }
         ensures { (settings : LinterSettings) → AreKnown settings p.now self.now → result ≡ spec.class_of settings p.now v.now }
     {
-        if v.fix.is_none() {
-            return None;
-        }
-        self.class_at(p, v.code, number_of(p, v.text_range.start()))
+        self.class_at(p, v.code, number)
     }
 }

@@ -1,14 +1,15 @@
 //! What is known of a statement by the text around it.
-ghost use Rattle.std.specs.Prelude.{◌≡◌, ◌+◌, Bool, IfOk};
+ghost use Rattle.std.specs.Prelude.{◌≡◌, ◌+◌, ◌&&◌, Bool, IfOk, not};
 ghost use Rattle.std.specs.List.{list_any};
 ghost use Rattle.lint_transaction.specs.Earlier.{any_below};
 ghost use Rattle.lint_transaction.specs.Transaction.{is_open, stmt_at};
 ghost use Rattle.fix_class.specs.Known as spec;
 ghost use Rattle.fix_class.specs.Known.{AreKnown};
 
+use crate::word::says;
 use lint_base::LinterSettings;
 use lint_ignore::has_disable_assume_in_transaction;
-use lint_node::{same_action, same_kind};
+use lint_node::same_kind;
 use lint_transaction::{OpenTransaction, is_one_name};
 use sql_token::Span;
 use sql_tree::{Action, ActionKind, Body, Parse, Stmt, StmtKind};
@@ -22,8 +23,10 @@ pub struct Known {
     pub is_inside: bool,
     /// An earlier statement of the text sets a timeout.
     pub is_limited: bool,
-    /// The text has a statement that a timeout may break off half done: one that is concurrent, or that a fix may make so.
-    pub has_builds: bool,
+    /// The text has a statement that may take longer than a timeout allows.
+    pub has_long: bool,
+    /// It makes a table, and the types of its columns depend on no other table.
+    pub has_own_types: bool,
 }
 
 fn is_assumed(p: &Parse<'_>, settings: &LinterSettings) -> bool
@@ -61,31 +64,100 @@ fn limits(p: &Parse<'_>, s: &Stmt) -> bool
     is_timeout(p, parameter(s))
 }
 
-fn detaches(actions: &[Action]) -> bool
-    ensures { result ≡ list_any spec.is_detach actions.now }
+// Whether an action may read or write all rows of a table, or wait for other transactions.
+#[tactic(auto, unfolding(crate::specs::Known::is_long_action))]
+fn is_long_action(kind: ActionKind) -> bool
+    ensures { result ≡ spec.is_long_action kind }
 {
-    actions
-        .iter()
-        .any(|a| same_action(a.kind, ActionKind::DetachPartition))
+    matches!(
+        kind,
+        ActionKind::AddConstraint
+            | ActionKind::AlterColumn
+            | ActionKind::DetachPartition
+            | ActionKind::SetNotNull
+            | ActionKind::ValidateConstraint
+    )
 }
 
-// Whether a statement builds, drops or rebuilds an index or detaches a partition.
-#[tactic(auto, unfolding(crate::specs::Known::builds))]
-fn builds(s: &Stmt) -> bool
-    ensures { result ≡ spec.builds s.now }
+// The same of a statement of this kind.
+#[tactic(auto, unfolding(crate::specs::Known::is_long_kind))]
+fn is_long_kind(kind: StmtKind) -> bool
+    ensures { result ≡ spec.is_long_kind kind }
+{
+    matches!(
+        kind,
+        StmtKind::Analyze
+            | StmtKind::Call
+            | StmtKind::Cluster
+            | StmtKind::Copy
+            | StmtKind::CreateMaterializedView
+            | StmtKind::CreateTableAs
+            | StmtKind::Delete
+            | StmtKind::Do
+            | StmtKind::Execute
+            | StmtKind::Insert
+            | StmtKind::Merge
+            | StmtKind::ParenSelect
+            | StmtKind::Refresh
+            | StmtKind::Repack
+            | StmtKind::Select
+            | StmtKind::SelectInto
+            | StmtKind::Update
+            | StmtKind::Vacuum
+    )
+}
+
+fn has_long_action(actions: &[Action]) -> bool
+    ensures { result ≡ list_any (λ a. spec.is_long_action a.kind) actions.now }
+{
+    actions.iter().any(|a| is_long_action(a.kind))
+}
+
+// Whether a statement may take longer than a timeout allows.
+#[tactic(auto, unfolding(crate::specs::Known::is_long))]
+fn is_long(s: &Stmt) -> bool
+    ensures { result ≡ spec.is_long s.now }
 {
     match &s.body {
         Body::Index { .. } | Body::Reindex { .. } => true,
         Body::Drop { .. } => same_kind(s.kind, StmtKind::DropIndex),
-        Body::Alter { actions, .. } => detaches(actions.as_slice()),
-        _ => false,
+        Body::Alter { actions, .. } => has_long_action(actions.as_slice()),
+        _ => is_long_kind(s.kind),
     }
 }
 
-fn has_builds(p: &Parse<'_>) -> bool
-    ensures { result ≡ list_any spec.builds p.now.stmts }
+fn has_long(p: &Parse<'_>) -> bool
+    ensures { result ≡ list_any spec.is_long p.now.stmts }
 {
-    p.tree().stmts.as_slice().iter().any(|s| builds(s))
+    p.tree().stmts.as_slice().iter().any(|s| is_long(s))
+}
+
+// Whether a statement makes a table whose columns are its own.
+fn is_new_table(p: &Parse<'_>, s: &Stmt) -> bool
+    ensures { result ≡ spec.is_new_table p.now s.now }
+{
+    matches!(s.body, Body::Table { .. }) && !says(p, "inherits", s)
+}
+
+// Whether a statement may make a table the partition or the child of another one.
+fn attaches(p: &Parse<'_>, s: &Stmt) -> bool
+    ensures { result ≡ spec.attaches p.now s.now }
+{
+    matches!(s.body, Body::Alter { .. }) && (says(p, "attach", s) || says(p, "inherit", s))
+}
+
+fn any_attaches(p: &Parse<'_>) -> bool
+    ensures { result ≡ list_any (spec.attaches p.now) p.now.stmts }
+{
+    p.tree().stmts.as_slice().iter().any(|s| attaches(p, s))
+}
+
+// Whether statement `i` makes a table, and the types of its columns depend on no other table.
+fn has_own_types(p: &Parse<'_>, any_attaches: bool, s: &Stmt, i: usize) -> bool
+    requires { s.now ≡ stmt_at p.now i }
+    ensures { result ≡ (spec.is_new_table p.now (stmt_at p.now i) && not any_attaches) }
+{
+    is_new_table(p, s) && !any_attaches
 }
 
 // Goes past statement `i`: whether one up to it sets a timeout.
@@ -113,7 +185,8 @@ pub(crate) fn each_known(
 ) -> Result<Vec<Known>, NoMemory>
     ensures { IfOk result (λ all. AreKnown settings.now p.now all.items) }
 {
-    let has_builds = has_builds(p);
+    let has_long = has_long(p);
+    let any_attaches = any_attaches(p);
     let stmts = p.tree().stmts.as_slice();
     let mut transaction = OpenTransaction::new(is_assumed(p, settings));
     let mut is_limited = false;
@@ -122,7 +195,8 @@ pub(crate) fn each_known(
         all.push(Known {
             is_inside: transaction.inside(),
             is_limited,
-            has_builds,
+            has_long,
+            has_own_types: has_own_types(p, any_attaches, &stmts[i], i),
         })?;
         is_limited = step(&mut transaction, is_limited, p, &stmts[i], i);
     }

@@ -6,7 +6,6 @@
 
 mod class;
 mod known;
-mod number;
 mod word;
 
 pub use class::FixClasses;

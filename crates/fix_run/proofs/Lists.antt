@@ -39,33 +39,33 @@ come_wider A content f g h k name (outcome.Unread u) a b (n, why) = (
   ],
 )
 
--- the same of a store that holds the same, over a longer time
-all_moved : (A : Answers) (content now : Text → Content) (f g h k : ℕ) (names : List Text) (cs : List FileOutcome) → KeepsContents content now → f ≤ h → k ≤ g
-    → AreCome A now h k names cs → AreCome A content f g names cs
-all_moved A content now f g h k [] [] kept a b are = tt
-all_moved A content now f g h k [] (c ∷ cs) kept a b are = are
-all_moved A content now f g h k (name ∷ names) [] kept a b are = are
-all_moved A content now f g h k (name ∷ names) (c ∷ cs) kept a b are =
-    let here : HasCome A (content name) h k name c = subst (λ (x : Content). HasCome A x h k name c) (kept name) are.0 in
-    (come_wider A (content name) f g h k name c a b here, all_moved A content now f g h k names cs kept a b are.1)
+-- the same of a store that holds the same, from an earlier time on
+all_moved : (A : Answers) (content now : Text → Content) (f g h : ℕ) (names : List Text) (cs : List FileOutcome) → KeepsContents content now → f ≤ h
+    → AreCome A now h g names cs → AreCome A content f g names cs
+all_moved A content now f g h [] [] kept a are = omega (arith, a, are)
+all_moved A content now f g h [] (c ∷ cs) kept a are = are
+all_moved A content now f g h (name ∷ names) [] kept a are = are
+all_moved A content now f g h (name ∷ names) (c ∷ cs) kept a (mid, this, more) =
+    let here : HasCome A (content name) h mid name c = subst (λ (x : Content). HasCome A x h mid name c) (kept name) this in
+    (mid, come_wider A (content name) f mid h mid name c a (omega arith) here, all_moved A content now mid g mid names cs kept (omega arith) more)
 
 pub have_moved : (A : Answers) (content now : Text → Content) (f g h : ℕ) (names : List Text) (fixed : List FixedFile) (unread : List Unread) → KeepsContents content now → f ≤ h
     → HaveCome A now h g names fixed unread → HaveCome A content f g names fixed unread
 have_moved A content now f g h names fixed unread kept a have = record {
   all = have.all;
-  are = all_moved A content now f g h g names have.all kept a (omega arith) have.are;
+  are = all_moved A content now f g h names have.all kept a have.are;
   fixed_are = have.fixed_are;
   unread_are = have.unread_are;
 }
 
 -- ---- one file more
 
-all_more : (A : Answers) (content : Text → Content) (f g : ℕ) (names : List Text) (name : Text) (cs : List FileOutcome) (c : FileOutcome) → AreCome A content f g names cs
-    → HasCome A (content name) f g name c → AreCome A content f g (names ++ name ∷ []) (cs ++ c ∷ [])
-all_more A content f g [] name [] c are is = (is, tt)
-all_more A content f g [] name (other ∷ cs) c are is = absurd are
-all_more A content f g (other ∷ names) name [] c are is = absurd are
-all_more A content f g (other ∷ names) name (first ∷ cs) c are is = (are.0, all_more A content f g names name cs c are.1 is)
+all_more : (A : Answers) (content : Text → Content) (f h k : ℕ) (names : List Text) (name : Text) (cs : List FileOutcome) (c : FileOutcome) → AreCome A content f h names cs
+    → HasCome A (content name) h k name c → AreCome A content f k (names ++ name ∷ []) (cs ++ c ∷ [])
+all_more A content f h k [] name [] c are is = (k, come_wider A (content name) f k h k name c are (omega arith) is, omega arith)
+all_more A content f h k [] name (other ∷ cs) c are is = absurd are
+all_more A content f h k (other ∷ names) name [] c are is = absurd are
+all_more A content f h k (other ∷ names) name (first ∷ cs) c (mid, this, more) is = (mid, this, all_more A content mid h k names name cs c more is)
 
 fixed_push : (cs : List FileOutcome) (c : FileOutcome) → fixed_of (cs ++ c ∷ []) ≡ fixed_of cs ++ fixed_of (c ∷ [])
 fixed_push [] c = refl
@@ -77,12 +77,12 @@ unread_push [] c = refl
 unread_push (outcome.Fixed file ∷ cs) c = unread_push cs c
 unread_push (outcome.Unread u ∷ cs) c = ap (λ us. u ∷ us) (unread_push cs c)
 
-have_more : (A : Answers) (content : Text → Content) (f g : ℕ) (names : List Text) (name : Text) (fixed more : List FixedFile) (unread others : List Unread) (c : FileOutcome)
-    → HaveCome A content f g names fixed unread → HasCome A (content name) f g name c → more ≡ fixed ++ fixed_of (c ∷ []) → others ≡ unread ++ unread_of (c ∷ [])
-    → HaveCome A content f g (names ++ name ∷ []) more others
-have_more A content f g names name fixed more unread others c have is m u = record {
+have_more : (A : Answers) (content : Text → Content) (f h k : ℕ) (names : List Text) (name : Text) (fixed more : List FixedFile) (unread others : List Unread) (c : FileOutcome)
+    → HaveCome A content f h names fixed unread → HasCome A (content name) h k name c → more ≡ fixed ++ fixed_of (c ∷ []) → others ≡ unread ++ unread_of (c ∷ [])
+    → HaveCome A content f k (names ++ name ∷ []) more others
+have_more A content f h k names name fixed more unread others c have is m u = record {
   all = have.all ++ c ∷ [];
-  are = all_more A content f g names name have.all c have.are is;
+  are = all_more A content f h k names name have.all c have.are is;
   fixed_are = m ∙ (ap (λ fs. fs ++ fixed_of (c ∷ [])) have.fixed_are ∙ sym (fixed_push have.all c));
   unread_are = u ∙ (ap (λ us. us ++ unread_of (c ∷ [])) have.unread_are ∙ sym (unread_push have.all c));
 }
@@ -95,30 +95,23 @@ take_at (first ∷ names) (suc k) name e =
     rw next (ap (λ ns. first ∷ ns) (take_at names k name e))
 
 -- no file
-pub have_none : (A : Answers) (content : Text → Content) (f g : ℕ) (fixed : List FixedFile) (unread : List Unread) → fixed ≡ [] → unread ≡ [] → HaveCome A content f g [] fixed unread
-have_none A content f g fixed unread m u = record { all = []; are = tt; fixed_are = m; unread_are = u }
+pub have_none : (A : Answers) (content : Text → Content) (f : ℕ) (fixed : List FixedFile) (unread : List Unread) → fixed ≡ [] → unread ≡ [] → HaveCome A content f f [] fixed unread
+have_none A content f fixed unread m u = record { all = []; are = omega arith; fixed_are = m; unread_are = u }
 
 -- one file alone
 pub have_one : (A : Answers) (content : Text → Content) (f g : ℕ) (name : Text) (fixed more : List FixedFile) (unread others : List Unread) (c : FileOutcome) → fixed ≡ [] → unread ≡ []
     → HasCome A (content name) f g name c → more ≡ fixed ++ fixed_of (c ∷ []) → others ≡ unread ++ unread_of (c ∷ []) → HaveCome A content f g (name ∷ []) more others
 have_one A content f g name fixed more unread others c first none is m u =
-    have_more A content f g [] name fixed more unread others c (have_none A content f g fixed unread first none) is m u
+    have_more A content f f g [] name fixed more unread others c (have_none A content f fixed unread first none) is m u
 
 -- the next of some
 pub have_next : (A : Answers) (content now : Text → Content) (f h k : ℕ) (names : List Text) (i : ℕ) (name : Text) (fixed more : List FixedFile) (unread others : List Unread) (c : FileOutcome)
-    → slice_get names i ≡ Some name → HaveCome A content f h (take i names) fixed unread → KeepsContents content now → f ≤ h → h ≤ k → HasCome A (now name) h k name c
+    → slice_get names i ≡ Some name → HaveCome A content f h (take i names) fixed unread → KeepsContents content now → HasCome A (now name) h k name c
     → more ≡ fixed ++ fixed_of (c ∷ []) → others ≡ unread ++ unread_of (c ∷ []) → HaveCome A content f k (take (i + 1) names) more others
-have_next A content now f h k names i name fixed more unread others c at have kept a b is m u =
+have_next A content now f h k names i name fixed more unread others c at have kept is m u =
     let here : HasCome A (content name) h k name c = subst (λ (x : Content). HasCome A x h k name c) (kept name) is in
-    let this = come_wider A (content name) f k h k name c a (omega arith) here in
-    let before : HaveCome A content f k (take i names) fixed unread = record {
-      all = have.all;
-      are = all_moved A content content f k f h (take i names) have.all (λ n. refl) (omega arith) b have.are;
-      fixed_are = have.fixed_are;
-      unread_are = have.unread_are;
-    } in
     subst (λ (ns : List Text). HaveCome A content f k ns more others) (sym (take_at names i name at))
-    (have_more A content f k (take i names) name fixed more unread others c before this m u)
+    (have_more A content f h k (take i names) name fixed more unread others c have here m u)
 
 pub have_all : (A : Answers) (content : Text → Content) (f g : ℕ) (names : List Text) (i : ℕ) (fixed : List FixedFile) (unread : List Unread) → length names ≤ i
     → HaveCome A content f g (take i names) fixed unread → HaveCome A content f g names fixed unread

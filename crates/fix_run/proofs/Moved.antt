@@ -1,5 +1,5 @@
 -- A run over files that were used before.
-use Rattle.std.proofs.Common.{◌≤◌, subst, ℕ, Bool, true, false, List, [], ◌∷◌, Option}
+use Rattle.std.proofs.Common.{◌≤◌, arith, ℕ, Bool, true, false, List, Option}
 use Rattle.checked_file.specs.declared.status.Status.{Status}
 use Rattle.file_choice.specs.Choice.{chosen_of}
 use Rattle.file_store.specs.Contents.{Content, KeepsContents}
@@ -12,22 +12,24 @@ use Rattle.fix_run.specs.Runs.{AllCame, AllCameBy, Early, FilesCame, HasFixed, H
 use Rattle.fix_run.proofs.Lists.{have_moved}
 use Rattle.fix_words.specs.declared.request.Request.{Request}
 use Rattle.gate_files.specs.declared.read.Unread.{Unread}
-use Rattle.gate_files.specs.Named.{AreNamed, StandFor}
+use Rattle.sql_files.proofs.Moved.{named_moved}
 use Rattle.squawk_words.specs.Words.{Text}
 
 module _ (A : Answers) (content now : Text → Content) (before first last : ℕ) (left : Option (List ℕ)) (input input_now : ℕ) (patterns : List Text)
     (kept : KeepsContents content now) (later : before ≤ first) where
-  named_moved : (words names : List Text) → AreNamed now words names → AreNamed content words names
-  named_moved [] names h = h
-  named_moved (word ∷ words) names (front, rest, same, stand, more) =
-      (front, rest, same, subst (λ (c : Content). StandFor c word front) (kept word) stand, named_moved words rest more)
-
   files_moved : (words : List Text) (fixed : List FixedFile) (unread : List Unread) → FilesCame A now first last patterns words fixed unread
       → FilesCame A content before last patterns words fixed unread
   files_moved words fixed unread h = record {
     names = h.names;
-    named = record { given = h.named.given; result = h.named.result; named = named_moved words h.named.given h.named.named; in_order = h.named.in_order; once = h.named.once };
-    come = have_moved A content now before last first (chosen_of patterns h.names) fixed unread kept later h.come;
+    named = h.named;
+    are_named = record {
+      given = h.are_named.given;
+      result = h.are_named.result;
+      named = named_moved content now before first h.named words h.are_named.given kept later h.are_named.named;
+      in_order = h.are_named.in_order;
+      once = h.are_named.once;
+    };
+    come = have_moved A content now h.named last h.named (chosen_of patterns h.names) fixed unread kept (omega arith) h.come;
   }
 
   by : (b : Bool) (words : List Text) (fixed : List FixedFile) (unread : List Unread)

@@ -1,5 +1,5 @@
 -- What comes of a file.
-use Rattle.std.specs.Prelude.{◌≡◌, ◌<◌, ◌^◌, ◌⊎◌, ℕ, All, List, [], ◌∷◌, length, ⊤}
+use Rattle.std.specs.Prelude.{◌≡◌, ◌<◌, ◌≤◌, ◌^◌, ◌⊎◌, ℕ, All, List, [], ◌∷◌, length}
 use Rattle.std.specs.Str.{IsCharBoundary, IsUtf8}
 use Rattle.file_store.specs.Contents.{Content, IsBytes}
 use Rattle.file_store.specs.declared.store.FileError.{FileError}
@@ -118,13 +118,14 @@ IsSoundCame (outcome.Unread u) = IsSound u
 
 -- ---- files
 
--- what came of these names, one by one
+-- What came of these names, one by one. The count of failures goes on from name to name, so that for each file that could not be read a call
+-- of its own failed, and no other file pays for it.
 abbrev pub AreCome : Answers → (Text → Content) → ℕ → ℕ → List Text → List FileOutcome → Type 0
-AreCome answers content before now [] [] = ⊤
+AreCome answers content before now [] [] = before ≤ now
 AreCome answers content before now [] (c ∷ cs) = ⊥
 AreCome answers content before now (name ∷ names) [] = ⊥
 AreCome answers content before now (name ∷ names) (c ∷ cs) =
-    HasCome answers (content name) before now name c × AreCome answers content before now names cs
+    (mid : ℕ) × HasCome answers (content name) before mid name c × AreCome answers content mid now names cs
 
 -- those of which something is made
 abbrev pub fixed_of : List FileOutcome → List FixedFile

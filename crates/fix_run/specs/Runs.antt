@@ -24,11 +24,13 @@ use Rattle.squawk_words.specs.Words.{Text}
 abbrev pub InputCame : Answers → Option (List ℕ) → ℕ → ℕ → List FixedFile → List Unread → Type 0
 InputCame answers left before now fixed unread = HaveCome answers (λ name. input_content left) before now (input_name ∷ []) fixed unread
 
--- what came of the files that words stand for: of those that no pattern leaves out, each once
+-- What came of the files that words stand for: of those that no pattern leaves out, each once. The names come first; `named` is the count of
+-- failures then.
 pub record FilesCame (answers : Answers) (content : Text → Content) (before now : ℕ) (patterns words : List Text) (fixed : List FixedFile) (unread : List Unread) : Type 0 where
   pub names : List Text
-  pub named : AreFilesOf content Given words names
-  pub come : HaveCome answers content before now (chosen_of patterns names) fixed unread
+  pub named : ℕ
+  pub are_named : AreFilesOf content before named Given words names
+  pub come : HaveCome answers content named now (chosen_of patterns names) fixed unread
 
 -- what came of the input or of files
 abbrev pub AllCameBy : Bool → Answers → Devices → List Text → List Text → List FixedFile → List Unread → Type 0

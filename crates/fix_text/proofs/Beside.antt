@@ -1,8 +1,8 @@
 -- Fixes beside others.
-use Rattle.std.proofs.Common.{◌≡◌, ◌∙◌, ℕ, suc, ◌+◌, ◌<◌, Bool, true, false, cond, List, [], ◌∷◌, ◌++◌, length, get_or, drop, All, refl, sym, ap, subst, add-one, append_assoc, drop-cons, Option, Some, None}
+use Rattle.std.proofs.Common.{◌≡◌, ◌∙◌, ℕ, suc, ◌+◌, ◌<◌, Bool, true, false, cond, List, [], ◌∷◌, ◌++◌, length, get_or, drop, All, refl, sym, ap, subst, add-one, append_assoc, drop-cons, Option, Some, None, IfSome}
 use Rattle.std.proofs.lemmas.List.{reverse-append, take_more}
 use Rattle.std.proofs.lemmas.List.Elements.{All-append, All-cons, All-head, All-nil, All-tail}
-use Rattle.std.proofs.lemmas.Option.{slice_get-get_or}
+use Rattle.std.proofs.lemmas.Option.{slice_get-get_or, slice_get_read}
 use Rattle.std.specs.Prelude.{◌&&◌, reverse, slice_get, take}
 use Rattle.std.specs.List.{find}
 use Rattle.std.specs.Str.{IsCharBoundary}
@@ -12,7 +12,9 @@ use Rattle.lint_base.specs.declared.settings.LinterSettings.{LinterSettings}
 use Rattle.lint_base.specs.declared.violation.Violation.{Violation}
 use Rattle.other_fix.specs.declared.other.OtherFix.{OtherFix}
 use Rattle.squawk_linter.specs.Placed.{IsPlaced}
-use Rattle.fix_text.specs.Others.{is_beside, is_made, is_offered, is_same_part, other_by, other_for, others_back, others_of, replaces, with_other}
+use Rattle.statement_place.specs.Statements.{number_behind}
+use Rattle.fix_text.specs.declared.others.Numbered.{Numbered}
+use Rattle.fix_text.specs.Others.{IsNumbered, is_beside, is_made, is_offered, is_same_part, other_by, other_for, others_back, others_of, replaces, with_other}
 
 -- ---- lists from the last element back
 
@@ -25,13 +27,19 @@ all_back P (x ∷ xs) all =
 -- ---- one report more
 
 -- the nearest of the first reports that replaces bytes, by its number
-get_nearest : (reports : List Violation) (i last : ℕ) (v : Violation) (before : List Violation) → i < length reports → get_or reports i v ≡ v
-    → slice_get reports last ≡ find replaces before → slice_get reports (cond (replaces v) i last) ≡ find replaces (v ∷ before)
-get_nearest reports i last v before lt here so = by (replaces v)
+get_nearest : (reports : List Violation) (here last : Numbered) (v : Violation) (before : List Violation) → here.report < length reports → get_or reports here.report v ≡ v
+    → slice_get reports last.report ≡ find replaces before → slice_get reports (cond (replaces v) here last).report ≡ find replaces (v ∷ before)
+get_nearest reports here last v before lt is so = by (replaces v)
   where
-    by : (b : Bool) → slice_get reports (cond b i last) ≡ cond b (Some v) (find replaces before)
-    by true = slice_get-get_or reports i v lt ∙ ap (λ (x : Violation). Some x) here
+    by : (b : Bool) → slice_get reports (cond b here last).report ≡ cond b (Some v) (find replaces before)
+    by true = slice_get-get_or reports here.report v lt ∙ ap (λ (x : Violation). Some x) is
     by false = so
+
+-- the number of the statement of a report
+pub numbered_at : (tree : Tree) (reports : List Violation) (n : Numbered) (v : Violation) → n.report < length reports → v ≡ get_or reports n.report v → IsNumbered tree reports n
+    → n.statement ≡ number_behind tree v.text_range.start
+numbered_at tree reports n v lt is numbered =
+    subst (λ (o : Option Violation). IfSome o (λ w. n.statement ≡ number_behind tree w.text_range.start)) (slice_get_read reports (length reports) n.report v refl lt is) numbered
 
 -- the first reports from the last one back, with one more of them
 back_more : (reports : List Violation) (i : ℕ) (v : Violation) → i < length reports → v ≡ get_or reports i v → reverse (take (i + 1) reports) ≡ v ∷ reverse (take i reports)
@@ -51,11 +59,19 @@ module _ (wide : Bool) (settings : LinterSettings) (tree : Tree) where
       added ∙ ap (λ (os : List OtherFix). os ++ with_other o []) so ∙ ap (λ (x : Option OtherFix). Back before ++ with_other x []) known
       ∙ ap Back (sym (back_more reports i v lt here))
 
-  pub next_nearest : (reports : List Violation) (i last next : ℕ) (v : Violation) → i < length reports → v ≡ get_or reports i v → next ≡ cond (replaces v) i last
-      → slice_get reports last ≡ find replaces (reverse (take i reports)) → slice_get reports next ≡ find replaces (reverse (take (i + 1) reports))
-  next_nearest reports i last next v lt here kept nearest =
-      ap (slice_get reports) kept ∙ get_nearest reports i last v (reverse (take i reports)) lt (sym here) nearest
-      ∙ ap (find replaces) (sym (back_more reports i v lt here))
+  pub next_nearest : (reports : List Violation) (here last next : Numbered) (v : Violation) → here.report < length reports → v ≡ get_or reports here.report v → next ≡ cond (replaces v) here last
+      → slice_get reports last.report ≡ find replaces (reverse (take here.report reports)) → slice_get reports next.report ≡ find replaces (reverse (take (here.report + 1) reports))
+  next_nearest reports here last next v lt is kept nearest =
+      ap (λ (n : Numbered). slice_get reports n.report) kept ∙ get_nearest reports here last v (reverse (take here.report reports)) lt (sym is) nearest
+      ∙ ap (find replaces) (sym (back_more reports here.report v lt is))
+
+  pub next_numbered : (reports : List Violation) (here last next : Numbered) (v : Violation) → here.report < length reports → v ≡ get_or reports here.report v
+      → here.statement ≡ number_behind tree v.text_range.start → IsNumbered tree reports last → next ≡ cond (replaces v) here last → IsNumbered tree reports next
+  next_numbered reports here last next v lt is place before kept = subst (IsNumbered tree reports) (sym kept) (by (replaces v))
+    where
+      by : (b : Bool) → IsNumbered tree reports (cond b here last)
+      by true = subst (λ (o : Option Violation). IfSome o (λ w. here.statement ≡ number_behind tree w.text_range.start)) (sym (slice_get_read reports (length reports) here.report v refl lt is)) place
+      by false = before
 
   -- ---- two reports
 

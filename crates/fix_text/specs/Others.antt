@@ -1,5 +1,5 @@
 -- Fixes that are not made, since another one changes the same bytes and comes first.
-use Rattle.std.specs.Prelude.{◌==◌, ◌&&◌, ◌++◌, Bool, false, List, [], ◌∷◌, reverse, Option, Some, None, is_some, if◌then◌else◌}
+use Rattle.std.specs.Prelude.{◌≡◌, ◌==◌, ◌&&◌, ◌++◌, Bool, false, List, [], ◌∷◌, reverse, slice_get, Option, Some, None, IfSome, is_some, if◌then◌else◌}
 use Rattle.std.specs.List.{find}
 use Rattle.text_pos.specs.Range.{Range}
 use Rattle.sql_tree.specs.Statement.{Tree}
@@ -10,6 +10,8 @@ use Rattle.lint_base.specs.Fixes.{FixValue}
 use Rattle.law_fix_steps.specs.Listed.{is_listed}
 use Rattle.fix_class.specs.Classes.{class_of}
 use Rattle.other_fix.specs.declared.other.OtherFix.{OtherFix}
+use Rattle.statement_place.specs.Statements.{number_behind}
+use Rattle.fix_text.specs.declared.others.Numbered.{Numbered}
 use Rattle.fix_text.specs.Allowed.{is_allowed, made_if}
 
 -- ---- the bytes that a fix replaces
@@ -78,3 +80,9 @@ others_back wide settings tree (v ∷ before) =
 -- those of reports, in their order
 abbrev pub others_of : Bool → LinterSettings → Tree → List Violation → List OtherFix
 others_of wide settings tree vs = others_back wide settings tree (reverse vs)
+
+-- ---- how they are found
+
+-- the statement of this number is that of the report of this number, where there is one
+abbrev pub IsNumbered : Tree → List Violation → Numbered → Type 0
+IsNumbered tree vs n = IfSome (slice_get vs n.report) (λ v. n.statement ≡ number_behind tree v.text_range.start)

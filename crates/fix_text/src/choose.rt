@@ -3,6 +3,7 @@ ghost use Rattle.std.specs.Prelude.{◌≡◌, ◌<◌, ◌^◌, ℕ, All, IfOk,
 ghost use Rattle.lint_base.specs.declared.settings.LinterSettings.{LinterSettings};
 ghost use Rattle.fix_choice.specs.Fits.{ListedCanBeTried, next_text};
 ghost use Rattle.fix_class.specs.Known.{AreKnown};
+ghost use Rattle.statement_place.specs.Statements.{number_behind};
 ghost use Rattle.fix_text.specs.Allowed as spec;
 
 use fix_choice::{is_listed, made_by};
@@ -10,6 +11,7 @@ use fix_class::FixClasses;
 use lint_base::{LinterSettings, Violation};
 use lint_report::FixClass;
 use sql_tree::Parse;
+use statement_place::Cursor;
 use std::alloc::Global;
 use text_pos::NoMemory;
 
@@ -23,27 +25,37 @@ fn is_allowed_class(wide: bool, class: Option<FixClass>) -> bool
     }
 }
 
-// Whether the fix of a report is allowed.
-fn is_allowed(wide: bool, classes: &FixClasses, file: &Parse<'_>, report: &Violation) -> bool
+// Whether the fix of a report, whose statement has this number, is allowed.
+fn is_allowed(
+    wide: bool,
+    classes: &FixClasses,
+    file: &Parse<'_>,
+    report: &Violation,
+    number: usize,
+) -> bool
+    requires { number ≡ number_behind file.now report.now.text_range.start }
     ensures { (settings : LinterSettings) → AreKnown settings file.now classes.now → result ≡ spec.is_allowed wide settings file.now report.now }
 {
-    is_allowed_class(wide, classes.class_of(file, report))
+    is_allowed_class(wide, classes.class_of(file, report, number))
 }
 
-/// The text with the fix of a report made, if it is of a listed rule, allowed, and fits. The class of another rule's fix is not looked for.
+/// The text with the fix of a report made, whose statement has this number, if it is of a listed rule, allowed, and fits. The class of
+/// another rule's fix is not looked for.
 pub(crate) fn made_if(
     alloc: Global,
     wide: bool,
     classes: &FixClasses,
     file: &Parse<'_>,
     report: &Violation,
+    number: usize,
 ) -> Result<Option<String>, NoMemory>
     requires short { length file.now.text < 2 ^ 32 }
     requires tried { ListedCanBeTried file.now.text report.now }
+    requires place { number ≡ number_behind file.now report.now.text_range.start }
     ensures { (settings : LinterSettings) → AreKnown settings file.now classes.now
         → IfOk result (λ made. option_map string_bytes made ≡ spec.made_if (spec.is_allowed wide settings file.now report.now) file.now.text report.now) }
 {
-    if !is_listed(report.code) || !is_allowed(wide, classes, file, report) {
+    if !is_listed(report.code) || !is_allowed(wide, classes, file, report, number) {
         return Ok(None);
     }
     match &report.fix {
@@ -67,8 +79,10 @@ pub(crate) fn next_allowed(
         ≡ next_text file.now.text (spec.allowed wide settings.now file.now reports.now)) }
 {
     let classes = FixClasses::new(alloc, file, settings)?;
+    let mut cursor = Cursor::new();
     for report in reports {
-        let made = made_if(alloc, wide, &classes, file, report)?;
+        let number = cursor.number_behind(file, report.text_range.start());
+        let made = made_if(alloc, wide, &classes, file, report, number)?;
         if made.is_some() {
             return Ok(made);
         }

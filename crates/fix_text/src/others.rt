@@ -5,7 +5,9 @@ ghost use Rattle.lint_base.specs.declared.settings.LinterSettings.{LinterSetting
 ghost use Rattle.lint_pass.specs.Laws.{IsRead};
 ghost use Rattle.fix_choice.specs.Fits.{ListedCanBeTried};
 ghost use Rattle.fix_class.specs.Known.{AreKnown};
+ghost use Rattle.statement_place.specs.Statements.{number_behind};
 ghost use Rattle.fix_text.specs.Others as spec;
+ghost use Rattle.fix_text.specs.Others.{IsNumbered};
 ghost use Rattle.squawk_linter.specs.Answers.{reports};
 
 use crate::choose::made_if;
@@ -17,8 +19,18 @@ use other_fix::OtherFix;
 use sql_tree::Parse;
 use squawk_linter::Linter;
 use squawk_linter::laws::{answered_fixes_mend, answers_placed};
+use statement_place::Cursor;
 use std::alloc::Global;
 use text_pos::{NoMemory, TextRange};
+
+/// A report and the statement that it begins in, by their numbers.
+#[derive(Clone, Copy)]
+pub(crate) struct Numbered {
+    /// The number of the report.
+    pub(crate) report: usize,
+    /// The number of the statement.
+    pub(crate) statement: usize,
+}
 
 // A range, if it has any byte.
 fn some_bytes(range: TextRange) -> Option<TextRange>
@@ -76,30 +88,34 @@ fn replaces(v: &Violation) -> bool
     is_listed(v.code) && replaced_by(&v.fix).is_some()
 }
 
-// Whether the fix of a report is allowed, of a listed rule, and fits.
+// Whether the fix of a report, whose statement has this number, is allowed, of a listed rule, and fits.
 fn is_made(
     alloc: Global,
     wide: bool,
     classes: &FixClasses,
     file: &Parse<'_>,
     u: &Violation,
+    number: usize,
 ) -> Result<bool, NoMemory>
     requires short { length file.now.text < 2 ^ 32 }
     requires tried { ListedCanBeTried file.now.text u.now }
+    requires place { number ≡ number_behind file.now u.now.text_range.start }
     ensures { (settings : LinterSettings) → AreKnown settings file.now classes.now → IfOk result (λ is. is ≡ spec.is_made wide settings file.now u.now) }
 {
-    let made = made_if(alloc, wide, classes, file, u)?;
+    let made = made_if(alloc, wide, classes, file, u, number)?;
     Ok(made.is_some())
 }
 
-// Whether the fix of a report is offered.
-fn is_offered(classes: &FixClasses, file: &Parse<'_>, v: &Violation) -> bool
+// Whether the fix of a report, whose statement has this number, is offered.
+fn is_offered(classes: &FixClasses, file: &Parse<'_>, v: &Violation, number: usize) -> bool
+    requires { number ≡ number_behind file.now v.now.text_range.start }
     ensures { (settings : LinterSettings) → AreKnown settings file.now classes.now → result ≡ spec.is_offered settings file.now v.now }
 {
-    classes.class_of(file, v).is_some()
+    classes.class_of(file, v, number).is_some()
 }
 
-// Whether a report has a fix that is offered, and a fix that is made, of an earlier report, replaces the same bytes.
+// Whether a report has a fix that is offered, and a fix that is made, of an earlier report, replaces the same bytes. Their statements have
+// these numbers.
 fn is_beside(
     alloc: Global,
     wide: bool,
@@ -107,36 +123,43 @@ fn is_beside(
     file: &Parse<'_>,
     u: &Violation,
     v: &Violation,
+    first: usize,
+    second: usize,
 ) -> Result<bool, NoMemory>
     requires short { length file.now.text < 2 ^ 32 }
     requires tried { ListedCanBeTried file.now.text u.now }
+    requires first { first ≡ number_behind file.now u.now.text_range.start }
+    requires second { second ≡ number_behind file.now v.now.text_range.start }
     ensures { (settings : LinterSettings) → AreKnown settings file.now classes.now → IfOk result (λ is. is ≡ spec.is_beside wide settings file.now u.now v.now) }
 {
-    if !is_same_part(u, v) || !is_offered(classes, file, v) {
+    if !is_same_part(u, v) || !is_offered(classes, file, v, second) {
         return Ok(false);
     }
-    is_made(alloc, wide, classes, file, u)
+    is_made(alloc, wide, classes, file, u, first)
 }
 
-// The fix of a report, if it is such a one beside the earlier report of this number.
+// The fix of a report, whose statement has this number, if it is such a one beside this earlier report.
 fn other_by(
     alloc: Global,
     wide: bool,
     classes: &FixClasses,
     file: &Parse<'_>,
     reports: &[Violation],
-    last: usize,
+    last: Numbered,
     v: &Violation,
+    number: usize,
 ) -> Result<Option<OtherFix>, NoMemory>
     requires short { length file.now.text < 2 ^ 32 }
     requires tried { All (ListedCanBeTried file.now.text) reports.now }
-    ensures { (settings : LinterSettings) → AreKnown settings file.now classes.now → IfOk result (λ other. other ≡ spec.other_by wide settings file.now (slice_get reports.now last) v.now) }
+    requires last { IsNumbered file.now reports.now last }
+    requires place { number ≡ number_behind file.now v.now.text_range.start }
+    ensures { (settings : LinterSettings) → AreKnown settings file.now classes.now → IfOk result (λ other. other ≡ spec.other_by wide settings file.now (slice_get reports.now last.report) v.now) }
 {
-    if last >= reports.len() {
+    if last.report >= reports.len() {
         return Ok(None);
     }
-    let u = &reports[last];
-    if !is_beside(alloc, wide, classes, file, u, v)? {
+    let u = &reports[last.report];
+    if !is_beside(alloc, wide, classes, file, u, v, last.statement, number)? {
         return Ok(None);
     }
     Ok(Some(OtherFix {
@@ -156,11 +179,11 @@ fn keep(others: &mut Vec<OtherFix>, other: Option<OtherFix>) -> Result<(), NoMem
     Ok(())
 }
 
-// The number of this report, if it is of a listed rule and its fix replaces bytes, or else that of the last one before it.
-fn last_replacing(v: &Violation, i: usize, last: usize) -> usize
-    ensures { result ≡ (if spec.replaces v.now then i else last) }
+// The numbers of this report, if it is of a listed rule and its fix replaces bytes, or else those of the last one before it.
+fn last_replacing(v: &Violation, here: Numbered, last: Numbered) -> Numbered
+    ensures { result ≡ (if spec.replaces v.now then here else last) }
 {
-    if replaces(v) { i } else { last }
+    if replaces(v) { here } else { last }
 }
 
 // Those of these reports.
@@ -177,12 +200,21 @@ fn others_of(
 {
     let classes = FixClasses::new(alloc, file, settings)?;
     let mut others = Vec::new(alloc);
-    let mut last = reports.len();
+    let mut cursor = Cursor::new();
+    let mut last = Numbered {
+        report: reports.len(),
+        statement: 0,
+    };
     for i in 0..reports.len() {
         let v = &reports[i];
-        let other = other_by(alloc, wide, &classes, file, reports, last, v)?;
+        let number = cursor.number_behind(file, v.text_range.start());
+        let other = other_by(alloc, wide, &classes, file, reports, last, v, number)?;
         keep(&mut others, other)?;
-        last = last_replacing(v, i, last);
+        let here = Numbered {
+            report: i,
+            statement: number,
+        };
+        last = last_replacing(v, here, last);
     }
     Ok(others)
 }

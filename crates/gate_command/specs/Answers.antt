@@ -33,9 +33,11 @@ IsToldBy (Files files) request linter status bytes = IsToldOf request linter (ma
 IsToldBy (NotRead file) request linter status bytes = IsToldUnread file status bytes
 
 -- The files that the words name, in the order that they ask for, and what was read of them; this is the status and what is written of that.
+-- The names come first; `named` is the count of failures then.
 pub record IsAnswerOf (request : Request) (linter : Linter) (content : Text → Content) (before now : ℕ) (status : Status) (bytes : List ℕ) : Type 0 where
   pub names : List Text
   pub reading : Reading
-  pub named : AreFilesOf content request.order request.files names
-  pub read : IsReading content before now names reading
+  pub named : ℕ
+  pub are_named : AreFilesOf content before named request.order request.files names
+  pub read : IsReading content named now names reading
   pub told : IsToldBy reading request linter status bytes

@@ -15,8 +15,8 @@ pub enum Order {
     Name,
 }
 
-/// Adds names.
-pub(crate) fn push_all(names: &mut Words, more: &[String]) -> Result<(), NoMemory>
+// Adds names.
+fn push_all(names: &mut Words, more: &[String]) -> Result<(), NoMemory>
     ensures { OnOk result (names.new ≡ names.old ++ map string_bytes more.now) }
 {
     for name in more {

@@ -539,8 +539,8 @@ tables, composite types, domains, parameters and casts.
 pub(crate) const PREFER_BIGINT_OVER_INT: &str = "prefer-bigint-over-int
 
   default: on
-  fix:     safe or unsafe (safe in a new table; in `ALTER COLUMN .. TYPE` it
-           asks for another type)
+  fix:     safe or unsafe (safe in a new table that is attached to no other; in
+           `ALTER COLUMN .. TYPE` it asks for another type)
   lock:    none now; a wider type rewrites the table one day
   manual:  Numeric Types,
            https://www.postgresql.org/docs/current/datatype-numeric.html
@@ -589,8 +589,8 @@ Details
 pub(crate) const PREFER_BIGINT_OVER_SMALLINT: &str = "prefer-bigint-over-smallint
 
   default: on
-  fix:     safe or unsafe (safe in a new table; in `ALTER COLUMN .. TYPE` it
-           asks for another type)
+  fix:     safe or unsafe (safe in a new table that is attached to no other; in
+           `ALTER COLUMN .. TYPE` it asks for another type)
   lock:    none now; a wider type rewrites the table one day
   manual:  Numeric Types,
            https://www.postgresql.org/docs/current/datatype-numeric.html
@@ -637,8 +637,8 @@ Details
 pub(crate) const PREFER_IDENTITY: &str = "prefer-identity
 
   default: on
-  fix:     safe or unsafe (safe in a new table; in `ALTER COLUMN .. TYPE`
-           PostgreSQL refuses it)
+  fix:     safe or unsafe (safe in a new table that is attached to no other; in
+           `ALTER COLUMN .. TYPE` PostgreSQL refuses it)
   lock:    none in a new table; in `ADD COLUMN` ACCESS EXCLUSIVE, until the
            table is written anew
   manual:  Identity Columns,

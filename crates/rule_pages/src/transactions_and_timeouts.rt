@@ -180,8 +180,8 @@ Details
 pub(crate) const REQUIRE_LOCK_TIMEOUT: &str = "require-lock-timeout
 
   default: on
-  fix:     safe or unsafe (unsafe in a migration that builds or drops an index
-           or detaches a partition)
+  fix:     safe or unsafe (unsafe in a migration with a statement that may take
+           long)
   lock:    that of the statement, and the queue behind it
   manual:  lock_timeout,
            https://www.postgresql.org/docs/current/runtime-config-client.html#GUC-LOCK-TIMEOUT
@@ -245,8 +245,8 @@ Details
 pub(crate) const REQUIRE_STATEMENT_TIMEOUT: &str = "require-statement-timeout
 
   default: on
-  fix:     safe or unsafe (unsafe in a migration that builds or drops an index
-           or detaches a partition)
+  fix:     safe or unsafe (unsafe in a migration with a statement that may take
+           long)
   lock:    that of the statement
   manual:  statement_timeout,
            https://www.postgresql.org/docs/current/runtime-config-client.html#GUC-STATEMENT-TIMEOUT

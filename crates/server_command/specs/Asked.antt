@@ -1,5 +1,5 @@
 -- What words ask for.
-use Rattle.std.specs.Prelude.{Bool, false, List, [], ◌∷◌, Option, Some, None, codes, slice_get}
+use Rattle.std.specs.Prelude.{Bool, false, not, List, [], ◌∷◌, Option, Some, None, codes, drop, filter, slice_get}
 use Rattle.std.specs.Str.{bytes_eq}
 use Rattle.squawk_run.specs.ForeignWords.{has_foreign_word}
 use Rattle.squawk_words.specs.Words.{Text}
@@ -15,3 +15,11 @@ is_server words = is_server_word (slice_get words 0)
 -- `--help` counts wherever it is
 abbrev pub asks_for_help : List Text → Bool
 asks_for_help words = has_foreign_word (codes "help" ∷ []) words
+
+-- `--stdio`, which some editors add, says how the server talks anyway
+abbrev pub is_taken : Text → Bool
+is_taken word = not (bytes_eq word (codes "--stdio"))
+
+-- the words after the first that choose the linter
+abbrev pub linter_words : List Text → List Text
+linter_words words = filter is_taken (drop 1 words)

@@ -1,5 +1,5 @@
 //! What words ask for.
-ghost use Rattle.std.specs.Prelude.{◌≡◌, IfOk, drop};
+ghost use Rattle.std.specs.Prelude.{◌≡◌, ◌++◌, ◌∷◌, [], IfOk, OnOk, filter};
 ghost use Rattle.server_command.specs.Asked as spec;
 
 use squawk_run::has_foreign_word;
@@ -21,13 +21,23 @@ pub(crate) fn asks_for_help(words: &Words) -> bool
     has_foreign_word(words, &["help"])
 }
 
-// The words after the first.
-pub(crate) fn words_after_first(alloc: Global, words: &Words) -> Result<Words, NoMemory>
-    ensures { IfOk result (λ rest. rest ≡ drop 1 words.now) }
+// Adds a word, unless it is `--stdio`, which some editors add.
+fn push_taken(rest: &mut Words, word: &str) -> Result<(), NoMemory>
+    ensures { OnOk result (rest.new ≡ rest.old ++ filter spec.is_taken (word.now ∷ [])) }
+{
+    if word == "--stdio" {
+        return Ok(());
+    }
+    rest.push(word)
+}
+
+// The words after the first that choose the linter.
+pub(crate) fn linter_words(alloc: Global, words: &Words) -> Result<Words, NoMemory>
+    ensures { IfOk result (λ rest. rest ≡ spec.linter_words words.now) }
 {
     let mut rest = Words::new(alloc);
     for i in 1..words.len() {
-        rest.push(words.get(i))?;
+        push_taken(&mut rest, words.get(i))?;
     }
     Ok(rest)
 }

@@ -1,7 +1,7 @@
 //! The run of the program, over any files, source and sinks.
-ghost use Rattle.std.specs.Prelude.{◌≡◌, drop};
+ghost use Rattle.std.specs.Prelude.{◌≡◌};
 ghost use Rattle.std.specs.Io.KnownBytes.{Appends};
-ghost use Rattle.server_command.specs.Asked.{asks_for_help};
+ghost use Rattle.server_command.specs.Asked.{asks_for_help, linter_words};
 ghost use Rattle.server_command.specs.Command.{HasHelped, HasRun, HasRunFor};
 ghost use Rattle.server_command.specs.Outcomes.{line_of};
 ghost use Rattle.squawk_stream.specs.Faults.{Rose};
@@ -36,7 +36,7 @@ fn serve_words<F: FileStore + Drop, S: Source, K: Sink>(
     src: &mut S,
     out: &mut K,
 ) -> Outcome
-    ensures { HasRunFor F.content F.faults (drop 1 words.now)
+    ensures { HasRunFor F.content F.faults (linter_words words.now)
         (record {
           files = files;
           input = S.left src.old;
@@ -59,7 +59,7 @@ fn work<F: FileStore + Drop, S: Source, K: Sink>(
     src: &mut S,
     out: &mut K,
 ) -> Outcome
-    ensures { HasRun F.content F.faults (asks_for_help words.now) HELP.now (drop 1 words.now)
+    ensures { HasRun F.content F.faults (asks_for_help words.now) HELP.now (linter_words words.now)
         (record {
           files = files;
           input = S.left src.old;
@@ -84,7 +84,7 @@ pub fn run<F: FileStore + Drop, S: Source, K: Sink, E: Sink>(
     out: &mut K,
     err: &mut E,
 ) -> Outcome
-    ensures run { HasRun F.content F.faults (asks_for_help words.now) HELP.now (drop 1 words.now)
+    ensures run { HasRun F.content F.faults (asks_for_help words.now) HELP.now (linter_words words.now)
         (record {
           files = files;
           input = S.left src.old;

@@ -20,6 +20,7 @@ Where it is refused, the editor shows why, and no reports.
   --pg-minor N             its second part (default: 0)
   --pg-patch N             its third part (default: 0)
 
+  --stdio                  taken, and changes nothing: some editors add it
   --help                   this help
 
 Status: 0 the client asked to shut down, and then to exit; 1 it ended without asking; 2 the words are not accepted;

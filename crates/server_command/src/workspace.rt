@@ -1,11 +1,12 @@
 //! The linter of a workspace.
-ghost use Rattle.std.specs.Prelude.{◌≡◌, ◌≤◌, IfErr, IfOk, drop, string_bytes};
+ghost use Rattle.std.specs.Prelude.{◌≡◌, ◌≤◌, IfErr, IfOk, string_bytes};
 ghost use Rattle.file_store.specs.Contents.{KeepsContents};
 ghost use Rattle.server_command.specs.Workspace.{Enters, IsFirst, Refuses, WorkspaceShows};
 ghost use Rattle.server_command.specs.Settled.{IsRefusedFor, IsSaidOf, IsSettled, IsText, IsUnchosen, folder_of};
 ghost use Rattle.check_config.specs.Config.{empty};
+ghost use Rattle.server_command.specs.Asked.{linter_words};
 
-use crate::asked::words_after_first;
+use crate::asked::linter_words;
 use crate::outcome::Refusal;
 use crate::settled::{alone, settled_in};
 use file_store::FileStore;
@@ -96,16 +97,16 @@ impl<F: FileStore> Enter for Workspace<F> {
     }
 }
 
-/// The linter of a workspace that is not entered, by the words after the first.
+/// The linter of a workspace that is not entered, by the words after the first, but for `--stdio`.
 pub(crate) fn first_linter<F: FileStore + Drop>(
     alloc: Global,
     words: &Words,
     files: F,
 ) -> Result<Workspace<F>, Stop>
-    ensures first { IfOk result (IsFirst files (drop 1 words.now)) }
-    ensures unchosen { IfErr result (IsUnchosen empty (drop 1 words.now)) }
+    ensures first { IfOk result (IsFirst files (linter_words words.now)) }
+    ensures unchosen { IfErr result (IsUnchosen empty (linter_words words.now)) }
 {
-    let line = match words_after_first(alloc, words) {
+    let line = match linter_words(alloc, words) {
         Ok(line) => line,
         Err(NoMemory) => return Err(Stop::NoMemory),
     };

@@ -4,6 +4,7 @@ use Rattle.std.proofs.lemmas.Bool.{cases_Bool}
 use Rattle.std.proofs.lemmas.List.Elements.{All-append, All-filter, All-head, All-map, All-nil, All-tail, All-weaker}
 use Rattle.std.specs.Prelude.{◌&&◌, cond, flat_map, is_none, not, option_map}
 use Rattle.std.specs.Str.{IsUtf8}
+use Rattle.fix_class.specs.Classes.{class_of}
 use Rattle.hazard_base.specs.declared.finding.Finding.{Finding}
 use Rattle.hazard_base.specs.declared.hazard.Hazard.{Hazard}
 use Rattle.hazard_base.specs.declared.hazard_set.HazardSet.{HazardSet}
@@ -44,10 +45,10 @@ use Rattle.squawk_linter.proofs.Sorting.{by_key_all}
 use Rattle.squawk_linter.specs.Answers.{reports}
 use Rattle.squawk_linter.specs.ByStart.{by_key}
 use Rattle.squawk_linter.specs.Placed.{IsPlaced}
+use Rattle.statement_place.specs.Statements.{is_within, part_in, statement_behind, statement_of}
 use Rattle.text_pos.specs.Range.{Range}
 use Rattle.text_reports.specs.Placed.{IsReportPlaced}
-use Rattle.text_reports.specs.Reports.{all_reports, by_hazard, by_rule, class_in, offered, start_of, uncovered, unused, with_hazards}
-use Rattle.text_reports.specs.Statements.{is_within, part_in, statement_behind, statement_of}
+use Rattle.text_reports.specs.Reports.{all_reports, by_hazard, by_rule, offered, start_of, uncovered, unused, with_hazards}
 
 -- ---- lists
 
@@ -196,7 +197,7 @@ unfolding by_rule
 rule_placed settings tree read v placed = record {
   range = placed.range;
   statement = part_placed tree read (statement_behind tree v.text_range.start) v.text_range placed.range;
-  edits = edits_kept tree.text (class_in settings tree v) v.fix placed.edits;
+  edits = edits_kept tree.text (class_of settings tree v) v.fix placed.edits;
 }
 
 hazard_placed : (tree : Tree) → IsRead tree → (f : Finding) → OnPlace tree f → IsReportPlaced tree.text (by_hazard tree f)

@@ -1,3 +1,2 @@
-pub mod Statements
 pub mod Reports
 pub mod Placed

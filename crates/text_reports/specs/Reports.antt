@@ -1,6 +1,6 @@
 -- All that is reported of a text.
 use Rattle.std.specs.Prelude.{◌≡◌, ℕ, ◌+◌, List, [], ◌++◌, Option, None, filter, if◌then◌else◌, length, map, not, Some}
-use Rattle.fix_class.specs.Classes.{class_at}
+use Rattle.fix_class.specs.Classes.{class_of}
 use Rattle.hazard_base.specs.declared.finding.Finding.{Finding}
 use Rattle.hazard_base.specs.declared.hazard_set.HazardSet.{HazardSet}
 use Rattle.hazard_find.specs.Findings.{findings_of}
@@ -18,7 +18,7 @@ use Rattle.lint_report.specs.declared.report.ReportFix.{ReportFix}
 use Rattle.sql_tree.specs.Statement.{Tree}
 use Rattle.squawk_linter.specs.Answers.{reports}
 use Rattle.squawk_linter.specs.ByStart.{by_key}
-use Rattle.text_reports.specs.Statements.{number_behind, statement_of}
+use Rattle.statement_place.specs.Statements.{statement_of}
 
 -- ---- what is found
 
@@ -31,10 +31,6 @@ unfoldable pub unused : Tree → Rules → HazardSet → List Finding → List V
 unused tree rules hazards found = if has rules rule.UnusedIgnore then unused_names tree found hazards else []
 
 -- ---- as reports
-
--- the class of a fix, by the rule and the statement that the report begins in
-abbrev pub class_in : LinterSettings → Tree → Violation → Option FixClass
-class_in settings tree v = class_at settings tree v.code (number_behind tree v.text_range.start)
 
 -- a fix that is offered, with how far it can be trusted
 abbrev pub offered : Option FixClass → Option FixValue → Option ReportFix
@@ -50,7 +46,7 @@ by_rule settings tree v = record {
   statement = statement_of tree v.text_range;
   note = v.note;
   help = v.help;
-  fix = offered (class_in settings tree v) v.fix;
+  fix = offered (class_of settings tree v) v.fix;
 }
 
 unfoldable pub by_hazard : Tree → Finding → Report

@@ -2,15 +2,15 @@
 ghost use Rattle.std.specs.Prelude.{◌≡◌, ◌++◌, OnOk, map};
 ghost use Rattle.fix_class.specs.Known.{AreKnown};
 ghost use Rattle.lint_base.specs.declared.settings.LinterSettings.{LinterSettings};
+ghost use Rattle.statement_place.specs.Statements.{IsCursor};
 ghost use Rattle.text_reports.specs.Reports as spec;
-ghost use Rattle.text_reports.specs.Statements.{IsCursor};
 
-use crate::cursor::{Cursor, start, statement_of};
 use fix_class::FixClasses;
 use hazard_base::Finding;
 use lint_base::{Fix, Violation};
 use lint_report::{Code, FixClass, Report, ReportFix};
 use sql_tree::Parse;
+use statement_place::Cursor;
 use text_pos::NoMemory;
 
 fn offered(class: Option<FixClass>, fix: Option<Fix>) -> Option<ReportFix>
@@ -31,8 +31,9 @@ fn by_rule(file: &Parse<'_>, classes: &FixClasses, cursor: &mut Cursor, v: Viola
     ensures cursor { IsCursor file.now cursor.new }
     ensures value { (settings : LinterSettings) → AreKnown settings file.now classes.now → result ≡ spec.by_rule settings file.now v }
 {
-    let statement = statement_of(file, cursor, v.text_range);
-    let class = classes.class_at(file, v.code, cursor.number);
+    let number = cursor.number_behind(file, v.text_range.start());
+    let class = classes.class_of(file, &v, number);
+    let statement = cursor.statement_of(file, v.text_range);
     Report {
         code: Code::Rule(v.code),
         message: v.message,
@@ -50,7 +51,7 @@ fn by_hazard(file: &Parse<'_>, cursor: &mut Cursor, f: Finding) -> Report
     ensures cursor { IsCursor file.now cursor.new }
     ensures value { result ≡ spec.by_hazard file.now f }
 {
-    let statement = statement_of(file, cursor, f.range);
+    let statement = cursor.statement_of(file, f.range);
     Report {
         code: Code::Hazard(f.hazard),
         message: f.message,
@@ -71,7 +72,7 @@ pub(crate) fn push_by_rules(
 ) -> Result<(), NoMemory>
     ensures { OnOk result ((settings : LinterSettings) → AreKnown settings file.now classes.now → list.new.items ≡ list.old.items ++ map (spec.by_rule settings file.now) reports.items) }
 {
-    let mut cursor = start();
+    let mut cursor = Cursor::new();
     for v in reports {
         list.push(by_rule(file, classes, &mut cursor, v))?;
     }
@@ -86,7 +87,7 @@ pub(crate) fn push_by_hazards(
 ) -> Result<(), NoMemory>
     ensures { OnOk result (list.new.items ≡ list.old.items ++ map (spec.by_hazard file.now) findings.items) }
 {
-    let mut cursor = start();
+    let mut cursor = Cursor::new();
     for f in findings {
         list.push(by_hazard(file, &mut cursor, f))?;
     }

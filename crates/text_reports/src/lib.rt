@@ -1,10 +1,9 @@
 //! All that is reported of a text: what the rules of the linter find, and what hazards it has, in one list by place.
 //!
-//! `specs/Reports.antt` says which reports these are, and `specs/Statements.antt` which statement each is in.
+//! `specs/Reports.antt` says which reports these are.
 #![tactic(auto)]
 
 mod convert;
-mod cursor;
 mod find;
 
 pub use find::{TextLinter, find_reports};

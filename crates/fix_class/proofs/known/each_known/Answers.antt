@@ -1,7 +1,6 @@
-use Rattle.std.proofs.Common.{◌≡◌, ◌+◌, ◌∙◌, ap, length, length-append, arith, List}
-use Rattle.lint_transaction.specs.Transaction.{is_open}
-use Rattle.fix_class.specs.declared.known.Known.{Known}
-use Rattle.fix_class.specs.Known.{is_assumed, known_at}
+use Rattle.std.proofs.Common.{◌&&◌, ◌∙◌, Bool, ap, not}
+use Rattle.lint_transaction.specs.Transaction.{stmt_at}
+use Rattle.fix_class.specs.Known.{is_assumed, is_new_table, known_at}
 use Rattle.fix_class.proofs.Knowing.{known_is, more_count, more_known}
 use Rattle.fix_class.proofs.known.each_known.Goals as goal
 
@@ -14,7 +13,9 @@ loop-i-preserved c =
       count = more_count l.all.items _ _ l.i l.invariant.count c.in_ok-push.ensures.items;
       transaction = c.step-is_limited.ensures.transaction (is_assumed settings p) l.invariant.transaction;
       limited = c.step-is_limited.ensures.limited;
-      builds = l.invariant.builds;
+      long = l.invariant.long;
+      attaches = l.invariant.attaches;
       each = more_known (known_at settings p) l.all.items _ _ l.i l.invariant.count c.in_ok-push.ensures.items l.invariant.each
-          (known_is settings p l.i _ _ _ (c.inside.ensures ∙ l.invariant.transaction) l.invariant.limited l.invariant.builds);
+          (known_is settings p l.i _ _ _ _ (c.inside.ensures ∙ l.invariant.transaction) l.invariant.limited l.invariant.long
+          (c.has_own_types.ensures ∙ ap (λ (b : Bool). is_new_table p (stmt_at p l.i) && not b) l.invariant.attaches));
     }

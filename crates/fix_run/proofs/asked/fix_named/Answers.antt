@@ -1,4 +1,4 @@
-use Rattle.std.proofs.Common.{List, subst}
+use Rattle.std.proofs.Common.{List, arith, subst}
 use Rattle.std.proofs.lemmas.Result.{IfOk-weaker}
 use Rattle.squawk_words.specs.Words.{Text}
 use Rattle.fix_run.specs.Outcomes.{HaveCome}
@@ -10,14 +10,15 @@ returns-clause-come g c =
     let e = c.in_ok-named.ensures in
     let answers = g.M.Fixer.answers c.args.fixer.now in
     let content = g.F.FileStore.content c.args.files.now in
-    let first = g.F.FileStore.faults c.args.files.now in
+    let named = g.F.FileStore.faults c.named_files.new.files in
     let last = g.F.FileStore.faults c.fix_files.new.files in
     let names = c.in_ok-names.names in
     IfOk-weaker c.fix_files.result _ _
     (λ all h. record {
       names = c.in_ok-named.named;
-      named = e.named;
-      come = subst (λ (ns : List Text). HaveCome answers content first last ns all.fixed.items all.unread.items) c.in_ok-names.ensures
-          (have_moved answers content (g.F.FileStore.content c.named_files.new.files) first last (g.F.FileStore.faults c.named_files.new.files) names all.fixed.items all.unread.items e.kept e.later h);
+      named = named;
+      are_named = e.named;
+      come = subst (λ (ns : List Text). HaveCome answers content named last ns all.fixed.items all.unread.items) c.in_ok-names.ensures
+          (have_moved answers content (g.F.FileStore.content c.named_files.new.files) named last named names all.fixed.items all.unread.items e.kept (omega arith) h);
     })
     c.fix_files.ensures.come

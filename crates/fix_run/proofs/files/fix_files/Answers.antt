@@ -9,7 +9,7 @@ loop-i-preserved g c =
     record {
       come = have_next (g.M.Fixer.answers c.args.fixer.now) (g.F.FileStore.content c.args.files.now) (g.F.FileStore.content l.files) (g.F.FileStore.faults c.args.files.now)
           (g.F.FileStore.faults l.files) (g.F.FileStore.faults c.fix_file.new.files) c.args.names.now l.i c.get.result.now l.all.fixed.items c.keep.new.all.fixed.items
-          l.all.unread.items c.keep.new.all.unread.items c.in_ok-came.came c.get.ensures l.invariant.come l.invariant.kept l.invariant.later e.later e.came
+          l.all.unread.items c.keep.new.all.unread.items c.in_ok-came.came c.get.ensures l.invariant.come l.invariant.kept e.came
           c.in_ok-keep.ensures.fixed c.in_ok-keep.ensures.unread;
       sound = sound_more l.all.unread.items c.keep.new.all.unread.items c.in_ok-came.came c.in_ok-keep.ensures.unread l.invariant.sound e.sound;
       sound_files = files_more l.all.fixed.items c.keep.new.all.fixed.items c.in_ok-came.came c.in_ok-keep.ensures.fixed l.invariant.sound_files e.sound;

@@ -1,4 +1,4 @@
-use Rattle.std.proofs.Common.{subst}
+use Rattle.std.proofs.Common.{arith, subst}
 use Rattle.std.proofs.lemmas.Result.{IfOk-weaker}
 use Rattle.gate_files.specs.declared.read.Reading.{Reading}
 use Rattle.gate_files.specs.declared.read.Reading.TheVariants.{Files, Unread}
@@ -28,7 +28,6 @@ pub returns-in-Files : goal.returns-in-Files
 returns-in-Files g c =
     let content = g.F.FileStore.content c.args.files.now in
     let now = g.F.FileStore.content c.named_files.new.files in
-    let first = g.F.FileStore.faults c.args.files.now in
     let before = g.F.FileStore.faults c.named_files.new.files in
     let last = g.F.FileStore.faults c.read_files.new.files in
     let names = c.in_ok-names.names in
@@ -38,8 +37,9 @@ returns-in-Files g c =
     (λ a h. record {
       names = names;
       reading = Files c.in-Files.read;
-      named = e.named;
-      read = reading_moved content now first before last names (Files c.in-Files.read) e.kept e.later read;
+      named = before;
+      are_named = e.named;
+      read = reading_moved content now before before last names (Files c.in-Files.read) e.kept (omega arith) read;
       told = told_slice c.args.request.now c.args.linter.now c.as_slice.result.now c.in-Files.read.items a.status a.bytes.items c.as_slice.ensures.value h;
     })
     c.answer_read.ensures
@@ -48,7 +48,6 @@ pub returns : goal.returns
 returns g c =
     let content = g.F.FileStore.content c.args.files.now in
     let now = g.F.FileStore.content c.named_files.new.files in
-    let first = g.F.FileStore.faults c.args.files.now in
     let before = g.F.FileStore.faults c.named_files.new.files in
     let last = g.F.FileStore.faults c.read_files.new.files in
     let names = c.in_ok-names.names in
@@ -58,8 +57,9 @@ returns g c =
     (λ a h. record {
       names = names;
       reading = Unread c.in-Unread.file;
-      named = e.named;
-      read = reading_moved content now first before last names (Unread c.in-Unread.file) e.kept e.later read;
+      named = before;
+      are_named = e.named;
+      read = reading_moved content now before before last names (Unread c.in-Unread.file) e.kept (omega arith) read;
       told = h;
     })
     c.answer_unread.ensures

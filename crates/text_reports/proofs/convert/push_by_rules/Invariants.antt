@@ -3,7 +3,7 @@ use Rattle.std.specs.Vec.Iter.{into_iter_items}
 use Rattle.fix_class.specs.Known.{AreKnown}
 use Rattle.lint_base.specs.declared.settings.LinterSettings.{LinterSettings}
 use Rattle.text_reports.specs.Reports.{by_rule}
-use Rattle.text_reports.specs.Statements.{IsCursor}
+use Rattle.statement_place.specs.Statements.{IsCursor}
 use Rattle.text_reports.proofs.convert.push_by_rules.Given as goal
 
 -- what was yielded was added, and the others follow it

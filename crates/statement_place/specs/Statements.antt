@@ -5,7 +5,7 @@ use Rattle.sql_tree.specs.declared.nodes.Stmt.{Stmt}
 use Rattle.sql_tree.specs.Range.{stmt_range_of}
 use Rattle.sql_tree.specs.Statement.{Tree}
 use Rattle.text_pos.specs.Range.{Range}
-use Rattle.text_reports.specs.declared.cursor.Cursor.{Cursor}
+use Rattle.statement_place.specs.declared.cursor.Cursor.{Cursor}
 
 -- a statement ends behind a place
 unfoldable pub ends_behind : Tree → ℕ → Stmt → Bool
@@ -15,7 +15,7 @@ ends_behind tree place s = nat_lt place (stmt_range_of tree.toks s).end
 abbrev pub statement_behind : Tree → ℕ → Option Stmt
 statement_behind tree place = find (ends_behind tree place) tree.stmts
 
--- its number, from 0 on; the number of statements where there is none
+-- the number of the first statement that ends behind a place, from 0 on; the number of statements where there is none
 unfoldable pub number_behind : Tree → ℕ → ℕ
 number_behind tree place = position_or_len (ends_behind tree place) tree.stmts
 
@@ -33,7 +33,7 @@ statement_of tree range = part_in tree (statement_behind tree range.start) range
 
 -- ---- how they are found
 
--- so many statements end at or before the place
+-- as many statements as the cursor's number says end at or before its place
 pub record IsCursor (tree : Tree) (c : Cursor) : Type 0 where
   pub within : c.number ≤ length tree.stmts
   pub past : All (λ s. ends_behind tree c.place s ≡ false) (take c.number tree.stmts)

@@ -1,24 +1,24 @@
 //! The statements that parts of a text are in.
 ghost use Rattle.std.specs.Prelude.{◌≡◌, ◌≤◌, slice_get};
 ghost use Rattle.sql_tree.specs.Statement.{Tree};
-ghost use Rattle.text_reports.specs.Statements as spec;
-ghost use Rattle.text_reports.specs.Statements.{IsCursor};
+ghost use Rattle.statement_place.specs.Statements as spec;
+ghost use Rattle.statement_place.specs.Statements.{IsCursor};
 
 use sql_tree::{Parse, Stmt};
-use text_pos::TextRange;
+use text_pos::{TextRange, TextSize};
 
 /// How far the statements of a text were gone through. Places may come in any order; where each is at or behind the last one, each
 /// statement is looked at once.
 #[derive(Clone, Copy)]
-pub(crate) struct Cursor {
+pub struct Cursor {
     /// So many statements end at or before the place.
-    pub(crate) number: usize,
+    pub number: usize,
     /// The place.
-    pub(crate) place: u32,
+    pub place: u32,
 }
 
-/// A cursor before the first statement.
-pub(crate) fn start() -> Cursor
+// A cursor before the first statement.
+fn start() -> Cursor
     ensures cursor { (file : Tree) → IsCursor file result }
     ensures place { result.place ≡ 0 }
 {
@@ -88,16 +88,37 @@ fn part_in(file: &Parse<'_>, number: usize, range: TextRange) -> TextRange
     }
 }
 
-/// The statement that a part is in, from its first token to its last; the part itself where it is in none. The cursor goes to the part.
-#[tactic(auto, using(crate::proofs::Stops::found, crate::proofs::Stops::numbered))]
-pub(crate) fn statement_of(file: &Parse<'_>, cursor: &mut Cursor, range: TextRange) -> TextRange
-    requires { IsCursor file.now cursor.old }
-    ensures cursor { IsCursor file.now cursor.new }
-    ensures number { cursor.new.number ≡ spec.number_behind file.now range.start }
-    ensures value { result ≡ spec.statement_of file.now range }
-{
-    let place = range.start().raw();
-    let number = go_to(file, *cursor, place);
-    *cursor = Cursor { number, place };
-    part_in(file, number, range)
+impl Cursor {
+    /// A cursor before the first statement.
+    pub fn new() -> Cursor
+        ensures { (file : Tree) → IsCursor file result }
+    {
+        start()
+    }
+
+    /// Goes to a place: the number of the first statement that ends behind it, from 0 on, or the number of statements where there is none.
+    #[tactic(auto, using(crate::proofs::Stops::numbered))]
+    pub fn number_behind(&mut self, file: &Parse<'_>, place: TextSize) -> usize
+        requires { IsCursor file.now self.old }
+        ensures cursor { IsCursor file.now self.new }
+        ensures number { result ≡ spec.number_behind file.now place }
+    {
+        let place = place.raw();
+        let number = go_to(file, *self, place);
+        *self = Cursor { number, place };
+        number
+    }
+
+    /// Goes to a part: the statement that it is in, from its first token to its last, or the part itself where it is in none.
+    #[tactic(auto, using(crate::proofs::Stops::found))]
+    pub fn statement_of(&mut self, file: &Parse<'_>, range: TextRange) -> TextRange
+        requires { IsCursor file.now self.old }
+        ensures cursor { IsCursor file.now self.new }
+        ensures value { result ≡ spec.statement_of file.now range }
+    {
+        let place = range.start().raw();
+        let number = go_to(file, *self, place);
+        *self = Cursor { number, place };
+        part_in(file, number, range)
+    }
 }

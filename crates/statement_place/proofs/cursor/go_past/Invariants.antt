@@ -1,6 +1,6 @@
 use Rattle.std.proofs.Common.{length, ◌-◌}
-use Rattle.text_reports.specs.Statements.{IsCursor}
-use Rattle.text_reports.proofs.cursor.go_past.Given as goal
+use Rattle.statement_place.specs.Statements.{IsCursor}
+use Rattle.statement_place.proofs.cursor.go_past.Given as goal
 
 -- the statements so far end at or before the place
 abbrev pub invariant-loop-stmt : goal.invariant-loop-stmt

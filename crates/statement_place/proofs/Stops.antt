@@ -1,15 +1,14 @@
 -- The first statement that ends behind a place is the one at which the cursor stops.
-use Rattle.std.proofs.Common.{◌≡◌, ◌+◌, ◌++◌, ◌≤◌, ◌<◌, ℕ, zero, suc, ap, arith, refl, subst, sym, Bool, true, false, List, [], ◌∷◌, All, Some, None, IfSome, length, take}
+use Rattle.std.proofs.Common.{◌≡◌, ◌+◌, ◌++◌, ◌≤◌, ◌<◌, ℕ, zero, suc, ap, arith, refl, subst, sym, Bool, true, false, List, [], ◌∷◌, All, Some, IfSome, length, take}
 use Rattle.std.proofs.lemmas.Bool.Decides.{nat_tests}
-use Rattle.std.proofs.lemmas.List.Elements.{All-append, All-head, All-tail, All-weaker}
+use Rattle.std.proofs.lemmas.List.Elements.{All-append, All-cons, All-head, All-nil, All-tail, All-weaker}
 use Rattle.std.proofs.lemmas.Option.{slice_get_within}
 use Rattle.std.specs.List.{position_or_len}
 use Rattle.std.specs.Prelude.{find, slice_get}
 use Rattle.sql_tree.specs.declared.nodes.Stmt.{Stmt}
 use Rattle.sql_tree.specs.Statement.{Tree}
-use Rattle.lint_pass.specs.RuleLaws.{one_all}
-use Rattle.text_reports.specs.declared.cursor.Cursor.{Cursor}
-use Rattle.text_reports.specs.Statements.{IsCursor, IsStop, ends_behind, number_behind, statement_behind}
+use Rattle.statement_place.specs.declared.cursor.Cursor.{Cursor}
+use Rattle.statement_place.specs.Statements.{IsCursor, IsStop, ends_behind, number_behind, statement_behind}
 
 -- the first element that passes a test is the one of this number, where none before it passes and it does
 find_at : {X : Type 0} (p : X → Bool) (xs : List X) (n : ℕ) → All (λ x. p x ≡ false) (take n xs) → IfSome (slice_get xs n) (λ x. p x ≡ true) → find p xs ≡ slice_get xs n
@@ -55,5 +54,5 @@ pub passed : (tree : Tree) (number place : ℕ) (s : Stmt) → IsCursor tree (re
 passed tree number place s cursor at before = record {
   within = let within : number < length tree.stmts = slice_get_within tree.stmts number s at in omega arith;
   past = subst (λ xs. All (λ x. ends_behind tree place x ≡ false) xs) (sym (take_at tree.stmts number s at))
-      (All-append (λ x. ends_behind tree place x ≡ false) (take number tree.stmts) (s ∷ []) cursor.past (one_all (λ x. ends_behind tree place x ≡ false) s before));
+      (All-append (λ x. ends_behind tree place x ≡ false) (take number tree.stmts) (s ∷ []) cursor.past (All-cons (λ x. ends_behind tree place x ≡ false) s [] before (All-nil (λ x. ends_behind tree place x ≡ false))));
 }
