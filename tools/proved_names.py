@@ -4,9 +4,11 @@
     tools/proved_names.py --check    ends with 1 where a name is missing, or a crate has no row
 
 A row is about the crates in its first cell, or in the last one above it that is not empty. The names in its second cell must be defined
-or passed on by the src/ of one of them, or be a trait that it implements (a name with `..` stands for several, and is not looked at); the names that stand alone in round brackets in its third cell, as (`ok`, `err`), must be words of
-their src/ or specs/. Crates of tests and of cases need no row.
+or passed on by the src/ of one of them, or be traits that it implements; a name with `..` stands for several and is not looked at. The
+names that stand alone in round brackets in its third cell, as (`ok`, `err`), must be words of their src/ or specs/. Crates of tests and
+of cases need no row.
 """
+import functools
 import pathlib
 import re
 import sys
@@ -29,11 +31,13 @@ def texts(crate, folder, ending):
     return "\n".join(path.read_text(encoding="utf-8") for path in sorted((TOP / "crates" / crate / folder).rglob("*" + ending)))
 
 
+@functools.lru_cache(maxsize=None)
 def defined_in(crate):
     """The names that a crate's sources define or pass on."""
     return {word for found in DEFINED.finditer(texts(crate, "src", ".rt")) for word in WORD.findall(found[1] or found[2] or found[3])}
 
 
+@functools.lru_cache(maxsize=None)
 def words_of(crate):
     return set(WORD.findall(texts(crate, "src", ".rt") + texts(crate, "specs", ".antt")))
 
