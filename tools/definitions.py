@@ -8,7 +8,7 @@ A name is cited where a clause (requires, ensures) of a public function or of a 
 reports (its ghost `rows`, `reports` or `table`), and a `ghost use` of its file takes it from the specs/ of a crate of this repository.
 A table has it where the first cell of a row has `Module.name`, or `name` after a name with that module, or `Module.*`; each
 `Module.name` in such a cell must be defined. What the last section says of a name is the comment above its definition. Types that
-the code declares are not asked for. Crates whose names end in _rows, _cases or _runner are tests.
+the code declares are not asked for. Crates whose names begin with test_ or case_ are tests.
 """
 import pathlib
 import re
@@ -33,7 +33,7 @@ DEFINED = r"^(?: *(?=pub data )| +(?=[A-Z]\w* : )| *unfoldable | *abbrev )?(?:pu
 def crates():
     lines = (TOP / "crates.txt").read_text().splitlines()
     names = [line.split(":")[0].split()[0] for line in lines if line.strip() and not line.startswith("#")]
-    return [name for name in names if not name.endswith(("_rows", "_cases", "_runner"))]
+    return [name for name in names if not name.startswith(("test_", "case_"))]
 
 
 def uses_of(text, own):
