@@ -1,5 +1,5 @@
 //! A run: what comes of the files or of the input, and what is written of it.
-ghost use Rattle.std.specs.Prelude.{◌≡◌, All, IfErr, IfOk, OnOk};
+ghost use Rattle.std.specs.Prelude.{All, IfErr, IfOk, OnOk};
 ghost use Rattle.std.specs.Io.KnownBytes.{Appends};
 ghost use Rattle.checked_file.specs.Sound.{IsSound};
 ghost use Rattle.check_run.specs.Runs.{AreAnswers, AreFileAnswers, AreLeft, HasRun, HasStopped, IsInputAnswer, StopsWriting};

@@ -1,6 +1,5 @@
 //! The run of the command, over any files and streams.
-ghost use Rattle.std.specs.Prelude.{◌≡◌, IfErr, IfOk, OnOk};
-ghost use Rattle.std.specs.Io.KnownBytes.{Appends};
+ghost use Rattle.std.specs.Prelude.{IfErr, IfOk};
 ghost use Rattle.fix_asked.specs.Command as spec;
 ghost use Rattle.fix_asked.specs.Failures.{line_of};
 ghost use Rattle.fix_words.specs.Asked.{asked_of};

@@ -1,5 +1,5 @@
 //! The next fix that is allowed.
-ghost use Rattle.std.specs.Prelude.{◌≡◌, ◌<◌, ◌^◌, ℕ, All, IfOk, length, option_map, string_bytes};
+ghost use Rattle.std.specs.Prelude.{◌≡◌, ◌<◌, ◌^◌, All, IfOk, length, option_map, string_bytes};
 ghost use Rattle.lint_base.specs.declared.settings.LinterSettings.{LinterSettings};
 ghost use Rattle.fix_choice.specs.Fits.{ListedCanBeTried, next_text};
 ghost use Rattle.fix_class.specs.Known.{AreKnown};

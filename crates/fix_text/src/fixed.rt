@@ -1,10 +1,10 @@
 //! Fixing a text until no fix is left that is allowed and fits.
-ghost use Rattle.std.specs.Prelude.{◌≡◌, ◌↔◌, ◌≤◌, ◌<◌, ◌^◌, ℕ, All, length, Err, IfErr, IfOk, OnOk, string_bytes};
+ghost use Rattle.std.specs.Prelude.{◌≡◌, ◌↔◌, ◌≤◌, ◌<◌, ◌^◌, ℕ, All, length, Err, IfErr, IfOk, string_bytes};
 ghost use Rattle.std.specs.Str.{IsCharBoundary};
 ghost use Rattle.sql_token.specs.Token.{OpenAt};
-ghost use Rattle.sql_tree.specs.Statement.{IsSyntaxAt, IsValid, Tree};
+ghost use Rattle.sql_tree.specs.Statement.{IsSyntaxAt};
 ghost use Rattle.sql_read.specs.declared.error.LintError.TheVariants as LintError;
-ghost use Rattle.sql_read.specs.Cause.{ErrOrNoMemory, IsCause, IsTreeOf, OkOrNoMemory};
+ghost use Rattle.sql_read.specs.Cause.{ErrOrNoMemory, IsCause};
 ghost use Rattle.squawk_linter.specs.Reports.{cleared};
 ghost use Rattle.fix_text.specs.Fixing.{IsFixed, IsFixedText};
 

@@ -1,5 +1,5 @@
 //! One word after another.
-ghost use Rattle.std.specs.Prelude.{◌≡◌, [], IfOk, codes, option_map};
+ghost use Rattle.std.specs.Prelude.{◌≡◌, IfOk, option_map};
 ghost use Rattle.gate_command.specs.Steps as spec;
 
 use crate::request::Request;

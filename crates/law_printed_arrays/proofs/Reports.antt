@@ -1,9 +1,9 @@
 -- From the findings of files back to their reports.
-use Rattle.std.proofs.Common.{◌≡◌, ◌∙◌, ◌⊎◌, inl, inr, ℕ, List, [], ◌∷◌, ◌++◌, Option, Some, None, ap, if◌then◌else◌, map, refl, sym}
+use Rattle.std.proofs.Common.{◌≡◌, ◌∙◌, ◌⊎◌, inl, inr, ℕ, List, [], ◌∷◌, ◌++◌, ap, if◌then◌else◌, map, refl, sym}
 use Rattle.std.proofs.lemmas.List.{map-append}
 use Rattle.std.specs.Prelude.{codes, unwrap_or}
 use Rattle.std.specs.Str.{bytes_eq}
-use Rattle.check_print.specs.Found.{all_found, found_by, found_in, found_refusal, found_report}
+use Rattle.check_print.specs.Found.{all_found, found_by, found_in, found_report}
 use Rattle.check_print.specs.Printed.{source_of}
 use Rattle.checked_file.specs.declared.answer.Answer.{Answer}
 use Rattle.checked_file.specs.declared.answer.Answer.TheVariants.{Reports, Refused}
@@ -18,7 +18,7 @@ use Rattle.lint_base.specs.Rules.{all_rules, facts_of}
 use Rattle.lint_report.specs.declared.code.Code.{Code}
 use Rattle.lint_report.specs.declared.code.Code.TheVariants as code
 use Rattle.lint_report.specs.declared.report.Report.{Report}
-use Rattle.lint_report.specs.Codes.{code_by, code_named, name_of}
+use Rattle.lint_report.specs.Codes.{code_named, name_of}
 use Rattle.source_file.specs.declared.level.Level.{Level}
 use Rattle.source_file.specs.declared.level.Level.TheVariants.{Warning, Error}
 use Rattle.source_file.specs.declared.refusal.Refusal.{Refusal}

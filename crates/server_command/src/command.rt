@@ -1,5 +1,4 @@
 //! The run of the program, over any files, source and sinks.
-ghost use Rattle.std.specs.Prelude.{◌≡◌};
 ghost use Rattle.std.specs.Io.KnownBytes.{Appends};
 ghost use Rattle.server_command.specs.Asked.{asks_for_help, linter_words};
 ghost use Rattle.server_command.specs.Command.{HasHelped, HasRun, HasRunFor};

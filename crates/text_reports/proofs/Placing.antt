@@ -1,9 +1,8 @@
 -- Reports, their statements and their edits are at places of the text.
-use Rattle.std.proofs.Common.{◌≡◌, ◌∙◌, ◌+◌, ◌≤◌, ◌<◌, ℕ, ap, arith, refl, subst, sym, Bool, true, false, List, [], ◌∷◌, ◌++◌, All, Option, Some, None, IfSome, filter, length, map, inl, inr}
+use Rattle.std.proofs.Common.{◌≡◌, ◌∙◌, ◌+◌, ◌<◌, ℕ, ap, arith, subst, sym, Bool, true, false, List, [], ◌∷◌, All, Option, Some, None, IfSome, length, map, inl, inr}
 use Rattle.std.proofs.lemmas.Bool.{cases_Bool}
 use Rattle.std.proofs.lemmas.List.Elements.{All-append, All-filter, All-head, All-map, All-nil, All-tail, All-weaker}
 use Rattle.std.specs.Prelude.{◌&&◌, cond, flat_map, is_none, not, option_map}
-use Rattle.std.specs.Str.{IsUtf8}
 use Rattle.fix_class.specs.Classes.{class_of}
 use Rattle.hazard_base.specs.declared.finding.Finding.{Finding}
 use Rattle.hazard_base.specs.declared.hazard.Hazard.{Hazard}
@@ -40,12 +39,12 @@ use Rattle.sql_tree.specs.declared.nodes.Action.{Action}
 use Rattle.sql_tree.specs.declared.nodes.Constraint.{Constraint}
 use Rattle.sql_tree.specs.declared.nodes.Stmt.{Stmt}
 use Rattle.sql_tree.specs.Range.{stmt_range_of}
-use Rattle.sql_tree.specs.Statement.{IsTree, Tree}
+use Rattle.sql_tree.specs.Statement.{Tree}
 use Rattle.squawk_linter.proofs.Sorting.{by_key_all}
 use Rattle.squawk_linter.specs.Answers.{reports}
 use Rattle.squawk_linter.specs.ByStart.{by_key}
 use Rattle.squawk_linter.specs.Placed.{IsPlaced}
-use Rattle.statement_place.specs.Statements.{is_within, part_in, statement_behind, statement_of}
+use Rattle.statement_place.specs.Statements.{is_within, part_in, statement_behind}
 use Rattle.text_pos.specs.Range.{Range}
 use Rattle.text_reports.specs.Placed.{IsReportPlaced}
 use Rattle.text_reports.specs.Reports.{all_reports, by_hazard, by_rule, offered, start_of, uncovered, unused, with_hazards}
