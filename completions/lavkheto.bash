@@ -85,7 +85,7 @@ _lavkheto() {
     gate:*) _lavkheto_files '*.sql' ;;
     explain:-*) _lavkheto_words '--help' ;;
     explain:*) _lavkheto_codes ;;
-    server:-*) _lavkheto_words '--only --include --exclude --no-hazards --non-volatile --assume-in-transaction --pg-major --pg-minor --pg-patch --help' ;;
+    server:-*) _lavkheto_words '--only --include --exclude --no-hazards --non-volatile --assume-in-transaction --pg-major --pg-minor --pg-patch --stdio --help' ;;
     server:*) : ;;
     esac
 }

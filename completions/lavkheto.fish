@@ -70,4 +70,5 @@ complete -c lavkheto -n '__fish_seen_subcommand_from server' -l assume-in-transa
 complete -c lavkheto -n '__fish_seen_subcommand_from server' -l pg-major -x -d 'the version of PostgreSQL (default: 15)'
 complete -c lavkheto -n '__fish_seen_subcommand_from server' -l pg-minor -x -d 'its second part (default: 0)'
 complete -c lavkheto -n '__fish_seen_subcommand_from server' -l pg-patch -x -d 'its third part (default: 0)'
+complete -c lavkheto -n '__fish_seen_subcommand_from server' -l stdio -d 'taken, and changes nothing: some editors add it'
 complete -c lavkheto -n '__fish_seen_subcommand_from server' -l help -d 'this help'
