@@ -99,7 +99,8 @@ def is_long_action(said):
     """An ALTER with an action that may read or write all rows, or wait for other transactions."""
     pairs = list(zip(said[2:], said[3:]))
     long = any(one in (("DETACH", "PARTITION"), ("VALIDATE", "CONSTRAINT"), ("SET", "NOT")) or one[0] == "ADD" and one[1] in CONSTRAINTS for one in pairs)
-    return long or "ALTER" in said[2:] and said[1:2] == ["TABLE"]
+    columns = said[1] in ("FOREIGN", "INDEX", "MATERIALIZED", "TABLE", "VIEW") and any(one == "ALTER" and other != "CONSTRAINT" for one, other in pairs)
+    return long or columns
 
 
 def makes_from_rows(said):
