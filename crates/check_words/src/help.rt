@@ -4,7 +4,8 @@
 pub const VERSION: &str = "lavkheto 0.1.0\n";
 
 /// What is printed for `--help`.
-pub const HELP: &str = "Lints migrations of PostgreSQL. What is reported is proved to be what the rules define.
+pub const HELP: &str =
+    "Lints migrations of PostgreSQL. What is reported is proved to be what the rules define.
 
 Usage: lavkheto check [OPTIONS] [FILES]..
        lavkheto fix [OPTIONS] [FILES]..  what the safe fixes change, as a diff; with --write the files are written

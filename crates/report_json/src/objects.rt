@@ -138,7 +138,16 @@ fn finding_value(
 {
     let first = file.place(range.start());
     let last = file.place(range.end());
-    placed_value(alloc, file.name(), first, last, level, name, message, details)
+    placed_value(
+        alloc,
+        file.name(),
+        first,
+        last,
+        level,
+        name,
+        message,
+        details,
+    )
 }
 
 /// A report as a value. The error comes when memory runs out.
@@ -192,13 +201,5 @@ pub fn refusal_value(
     let level = Level::Error.word();
     let name = refusal.name();
     let message = refusal.message();
-    finding_value(
-        alloc,
-        file,
-        range,
-        level,
-        name,
-        message,
-        details,
-    )
+    finding_value(alloc, file, range, level, name, message, details)
 }

@@ -9,7 +9,7 @@ stand_wider : (content : Content) (before first last : ℕ) (word : Text) (front
 stand_wider Unknown before first last word front later h = h
 stand_wider Missing before first last word front later h = h
 stand_wider (File all) before first last word front later h = h
-stand_wider (Folder inner) before first last word front later h = elim h [ | inl are ↦ inl are | inr alone ↦ inr (alone.0, omega (arith, later, alone.1)) ]
+stand_wider (Folder inner) before first last word front later h = elim h [ inl are ↦ inl are | inr alone ↦ inr (alone.0, omega (arith, later, alone.1)) ]
 
 pub named_moved : (content now : Text → Content) (before first last : ℕ) (words names : List Text) → KeepsContents content now → before ≤ first → AreNamed now first last words names
     → AreNamed content before last words names
