@@ -65,17 +65,18 @@ object_back f g p q e =
     let text = f.file.text in
     let other = g.file.text in
     let part = λ (n : ℕ). ap (λ j. text_in (at n j)) e in
+    let bytes = λ (n : ℕ). ap (λ j. text_in (at n (at 10 j))) e in
     same_finding a b (
     record {
-      name = part 3;
-      range = range_back text other p.short q.short f.range g.range p.range q.range (part 12) (part 2);
-      first = place_back text other f.range.start g.range.start p.short q.short (part 7) (part 0);
-      last = place_back text other f.range.end g.range.end p.short q.short (part 8) (part 1);
-      level = level_back a.level b.level (part 6);
+      name = part 2;
+      range = range_back text other p.short q.short f.range g.range p.range q.range (bytes 1) (bytes 0);
+      first = place_back text other f.range.start g.range.start p.short q.short (part 6) (part 0);
+      last = place_back text other f.range.end g.range.end p.short q.short (part 7) (part 1);
+      level = level_back a.level b.level (part 5);
       rule = part 11;
-      message = part 9;
-      note = text_back a.note b.note (ap (λ j. at 10 j) e);
-      help = text_back a.help b.help (ap (λ j. at 5 j) e);
-      fix = fix_back text other p.short q.short f.fix g.fix p.edits q.edits (ap (λ j. at 4 j) e);
-      statement = statement_back text other p.short q.short f.statement g.statement p.statement q.statement (ap (λ j. at 13 j) e);
+      message = part 8;
+      note = text_back a.note b.note (ap (λ j. at 9 j) e);
+      help = text_back a.help b.help (ap (λ j. at 4 j) e);
+      fix = fix_back text other p.short q.short f.fix g.fix p.edits q.edits (ap (λ j. at 3 j) e);
+      statement = statement_back text other p.short q.short f.statement g.statement p.statement q.statement (ap (λ j. at 12 j) e);
     })

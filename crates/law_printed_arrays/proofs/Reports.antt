@@ -1,5 +1,5 @@
 -- From the findings of files back to their reports.
-use Rattle.std.proofs.Common.{◌≡◌, ◌∙◌, ◌⊎◌, inl, inr, ℕ, List, [], ◌∷◌, ◌++◌, ap, if◌then◌else◌, map, refl, sym}
+use Rattle.std.proofs.Common.{◌≡◌, ◌∙◌, Result, Ok, Err, ℕ, List, [], ◌∷◌, ◌++◌, ap, if◌then◌else◌, map, refl, sym}
 use Rattle.std.proofs.lemmas.List.{map-append}
 use Rattle.std.specs.Prelude.{codes, unwrap_or}
 use Rattle.std.specs.Str.{bytes_eq}
@@ -81,24 +81,24 @@ report_of k = record {
   fix = k.fix;
 }
 
-abbrev by_level : Level → KeptFinding → Report ⊎ Refusal
-by_level Warning k = inl (report_of k)
-by_level Error k = inr (refusal_of k.rule k.range.start)
+abbrev by_level : Level → KeptFinding → Result Report Refusal
+by_level Warning k = Ok (report_of k)
+by_level Error k = Err (refusal_of k.rule k.range.start)
 
-abbrev reported_of : KeptFinding → List ℕ × (Report ⊎ Refusal)
+abbrev reported_of : KeptFinding → List ℕ × Result Report Refusal
 reported_of k = (k.name, by_level k.level k)
 
-report_back : (file : FileValue) (r : Report) → reported_of (kept_finding (found_report file r)) ≡ (file.name, inl r)
-report_back file r = ap (λ c. (file.name, inl (record r { code = c }))) (code_back r.code)
+report_back : (file : FileValue) (r : Report) → reported_of (kept_finding (found_report file r)) ≡ (file.name, Ok r)
+report_back file r = ap (λ c. (file.name, Ok (record r { code = c }))) (code_back r.code)
 
-reports_back : (file : FileValue) (rs : List Report) → map reported_of (map kept_finding (map (found_report file) rs)) ≡ map (λ r. (file.name, r)) (map inl rs)
+reports_back : (file : FileValue) (rs : List Report) → map reported_of (map kept_finding (map (found_report file) rs)) ≡ map (λ r. (file.name, r)) (map (λ r. Ok r) rs)
 reports_back file [] = refl
 reports_back file (r ∷ rs) =
-    ap (λ x. x ∷ map reported_of (map kept_finding (map (found_report file) rs))) (report_back file r) ∙ ap (λ xs. (file.name, inl r) ∷ xs) (reports_back file rs)
+    ap (λ x. x ∷ map reported_of (map kept_finding (map (found_report file) rs))) (report_back file r) ∙ ap (λ xs. (file.name, Ok r) ∷ xs) (reports_back file rs)
 
 answer_back : (file : FileValue) (answer : Answer) → map reported_of (map kept_finding (found_by file answer)) ≡ map (λ r. (file.name, r)) (reported_by answer)
 answer_back file (Reports reports) = reports_back file reports.items
-answer_back file (Refused r) = ap (λ x. (file.name, inr x) ∷ []) (refusal_back r)
+answer_back file (Refused r) = ap (λ x. (file.name, Err x) ∷ []) (refusal_back r)
 
 -- ---- from those of files
 

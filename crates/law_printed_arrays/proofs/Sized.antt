@@ -48,11 +48,39 @@ object_short f p =
     let fix = fix_short text f.fix p.short p.edits in
     let help = text_short f.help in
     let note = text_short f.note in
-    let statement = statement_short text f.statement p.short p.statement in
-    let from_note = (note, (tt, (at_short text start p.short p.range.start, (statement, tt)))) in
-    let from_line = (line_short text start p.short, (line_short text end p.short, (tt, from_note))) in (
+    let statement = statement_short text f.statement p.short p.statement in (
       column_short text start p.short,
-      (column_short text end p.short, (at_short text end p.short p.range.end, (tt, (fix, (help, (tt, from_line)))))),
+      (
+        column_short text end p.short,
+        (
+          tt,
+          (
+            fix,
+            (
+              help,
+              (
+                tt,
+                (
+                  line_short text start p.short,
+                  (
+                    line_short text end p.short,
+                    (
+                      tt,
+                      (
+                        note,
+                        (
+                          (at_short text end p.short p.range.end, (at_short text start p.short p.range.start, tt)),
+                          (tt, (statement, tt)),
+                        ),
+                      ),
+                    ),
+                  ),
+                ),
+              ),
+            ),
+          ),
+        ),
+      ),
     )
 
 -- ---- SARIF

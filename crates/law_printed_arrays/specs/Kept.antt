@@ -1,5 +1,5 @@
 -- What the formats for programs keep of a finding.
-use Rattle.std.specs.Prelude.{◌⊎◌, inl, inr, ℕ, List, [], ◌∷◌, Option, flat_map, map}
+use Rattle.std.specs.Prelude.{ℕ, List, [], ◌∷◌, Option, flat_map, map, Result, Ok, Err}
 use Rattle.check_print.specs.Found.{Found}
 use Rattle.checked_file.specs.declared.answer.Answer.{Answer}
 use Rattle.checked_file.specs.declared.answer.Answer.TheVariants.{Reports, Refused}
@@ -16,16 +16,16 @@ use Rattle.text_pos.specs.Range.{Range}
 -- ---- reports
 
 -- a report, or why a file could not be linted
-abbrev pub reported_by : Answer → List (Report ⊎ Refusal)
-reported_by (Reports reports) = map inl reports.items
-reported_by (Refused r) = inr r ∷ []
+abbrev pub reported_by : Answer → List (Result Report Refusal)
+reported_by (Reports reports) = map (λ r. Ok r) reports.items
+reported_by (Refused r) = Err r ∷ []
 
 -- those of a file, each with the file's name
-abbrev pub reported_in : Checked → List (List ℕ × (Report ⊎ Refusal))
+abbrev pub reported_in : Checked → List (List ℕ × Result Report Refusal)
 reported_in file = map (λ r. (file.name, r)) (reported_by file.answer)
 
 -- those of files, in order
-abbrev pub all_reported : List Checked → List (List ℕ × (Report ⊎ Refusal))
+abbrev pub all_reported : List Checked → List (List ℕ × Result Report Refusal)
 all_reported files = flat_map reported_in files
 
 -- ---- JSON and SARIF
