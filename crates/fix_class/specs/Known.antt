@@ -96,7 +96,7 @@ abbrev pub is_alter_by : Body → Bool
 is_alter_by (body.Alter path actions) = true
 is_alter_by _ = false
 
--- the statement may make a table the partition or the child of another one, with the types of whose columns its own must then agree
+-- The statement may make a table the partition or the child of another one. PostgreSQL then compares the types of their columns.
 abbrev pub attaches : Tree → Stmt → Bool
 attaches tree s = is_alter_by s.body && (says tree (codes "attach") s || says tree (codes "inherit") s)
 
