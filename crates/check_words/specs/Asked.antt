@@ -1,7 +1,7 @@
 -- What the words after the program's name ask for.
 use Rattle.std.specs.Prelude.{◌&&◌, Bool, false, List, [], ◌∷◌, Option, Some, None, Result, Ok, Err, codes, drop, slice_get, if◌then◌else◌}
 use Rattle.std.specs.Str.{bytes_eq}
-use Rattle.squawk_run.specs.ForeignWords.{has_foreign_word}
+use Rattle.help_words.specs.Help.{asks_for_help, asks_for_version}
 use Rattle.squawk_words.specs.Words.{Text}
 use Rattle.check_words.specs.declared.asked.Asked.{Asked}
 use Rattle.check_words.specs.declared.asked.Asked.TheVariants.{Check, Help, Version, Refused}
@@ -71,9 +71,19 @@ abbrev pub by_command : Option Text → List Text → Asked
 by_command None words = Refused fault.NoCommand
 by_command (Some word) words = if bytes_eq word (codes "check") then by_request (request_of words) else Refused (fault.UnknownCommand word)
 
--- `--help` and `--version` count wherever they are
+-- the words that ask for help and for the version count wherever they are
 abbrev pub asked_of : List Text → Asked
 asked_of words =
-    if has_foreign_word (codes "help" ∷ []) words then Help
-    else if has_foreign_word (codes "version" ∷ []) words then Version
+    if asks_for_help words then Help
+    else if asks_for_version words then Version
     else by_command (slice_get words 0) (drop 1 words)
+
+-- ---- what is wrong
+
+abbrev pub fault_of : Result Request WordFault → Option WordFault
+fault_of (Err f) = Some f
+fault_of (Ok r) = None
+
+-- what is wrong with words that come after `check`
+abbrev pub fault_in : List Text → Option WordFault
+fault_in words = fault_of (request_of words)

@@ -1,12 +1,12 @@
 //! What words ask for.
 ghost use Rattle.std.specs.Prelude.{◌≡◌, IfOk};
-ghost use Rattle.check_words.specs.Asked.{asked_of, by_request};
+ghost use Rattle.check_words.specs.Asked.{asked_of, by_request, fault_in};
 
 use crate::fault::WordFault;
 use crate::read::read_request;
 use crate::request::Request;
+use help_words::{asks_for_help, asks_for_version};
 use lint_base::Text;
-use squawk_run::has_foreign_word;
 use squawk_words::Words;
 use std::alloc::Global;
 use text_pos::NoMemory;
@@ -46,10 +46,10 @@ fn unknown_command(alloc: Global, word: &str) -> Result<Asked, NoMemory>
 pub fn read_asked(alloc: Global, words: &Words) -> Result<Asked, NoMemory>
     ensures { IfOk result (λ asked. asked ≡ asked_of words.now) }
 {
-    if has_foreign_word(words, &["help"]) {
+    if asks_for_help(words) {
         return Ok(Asked::Help);
     }
-    if has_foreign_word(words, &["version"]) {
+    if asks_for_version(words) {
         return Ok(Asked::Version);
     }
     if words.is_empty() {
@@ -58,5 +58,16 @@ pub fn read_asked(alloc: Global, words: &Words) -> Result<Asked, NoMemory>
     if words.get(0) != "check" {
         return unknown_command(alloc, words.get(0));
     }
-    Ok(by_request(read_request(alloc, words)?))
+    Ok(by_request(read_request(alloc, words, 1)?))
+}
+
+/// What `check` finds wrong with words that come after it: with the first one that it refuses, or with all of them. The error comes when
+/// memory runs out.
+pub fn fault_in(alloc: Global, words: &Words) -> Result<Option<WordFault>, NoMemory>
+    ensures { IfOk result (λ fault. fault ≡ fault_in words.now) }
+{
+    match read_request(alloc, words, 0)? {
+        Ok(_) => Ok(None),
+        Err(fault) => Ok(Some(fault)),
+    }
 }

@@ -14,7 +14,7 @@ mod request;
 mod set;
 mod step;
 
-pub use asked::{Asked, read_asked};
+pub use asked::{Asked, fault_in, read_asked};
 pub use fault::WordFault;
 pub use help::{HELP, VERSION};
 pub use names::{Choice, Flag};

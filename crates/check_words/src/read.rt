@@ -64,16 +64,17 @@ fn ended(reader: Reader) -> Result<Request, WordFault>
     }
 }
 
-/// What the words after the first ask for, or what is wrong with the first of them that is refused. The other error comes when memory
+/// What the words from a number on ask for, or what is wrong with the first of them that is refused. The other error comes when memory
 /// runs out.
 pub(crate) fn read_request(
     alloc: Global,
     words: &Words,
+    from: usize,
 ) -> Result<Result<Request, WordFault>, NoMemory>
-    ensures { IfOk result (λ r. r ≡ request_of (drop 1 words.now)) }
+    ensures { IfOk result (λ r. r ≡ request_of (drop from words.now)) }
 {
     let mut reader = start(alloc);
-    for i in 1..words.len() {
+    for i in from..words.len() {
         if let Some(fault) = step(alloc, &mut reader, words.get(i))? {
             return Ok(Err(fault));
         }

@@ -5,10 +5,12 @@ use Rattle.check_words.specs.declared.fault.WordFault.{WordFault}
 use Rattle.check_words.specs.declared.fault.WordFault.TheVariants.{NoCommand, UnknownCommand, UnknownWord, MissingValue, TakesNoValue, UnknownValue, UnknownRule, EmptyName, NotNumber, Twice, OnlyBesideLists}
 use Rattle.check_words.specs.declared.names.Choice.{Choice}
 use Rattle.check_words.specs.declared.names.Choice.TheVariants as choice
+use Rattle.check_words.specs.Asked.{fault_in}
 use Rattle.check_words.specs.Names.{flag_name, name_of}
 use Rattle.lint_report.specs.declared.code.Code.{Code}
 use Rattle.lint_report.specs.Codes as reports
 use Rattle.nearest_code.specs.Nearest.{near_code}
+use Rattle.shown_words.specs.Shown.{words_part}
 use Rattle.source_file.specs.Escaped.{escaped}
 use Rattle.squawk_words.specs.Words.{Text}
 
@@ -57,3 +59,17 @@ message_of OnlyBesideLists = of_choice choice.Only (codes "not beside --include 
 -- the line, as it is shown
 abbrev pub line_of : WordFault → List ℕ
 line_of fault = codes "error: " ++ escaped (message_of fault) ++ codes "\n"
+
+-- ---- of words that a command other than `check` refuses
+
+-- words that `check` takes
+abbrev pub not_taken_line : List Text → List ℕ
+not_taken_line words = codes "error: not taken here:" ++ words_part words ++ codes "\n"
+
+abbrev pub line_about : List Text → Option WordFault → List ℕ
+line_about words None = not_taken_line words
+line_about words (Some fault) = line_of fault
+
+-- what `check` finds wrong with them, or else that they are not taken here
+abbrev pub words_line : List Text → List ℕ
+words_line words = line_about words (fault_in words)

@@ -1,4 +1,4 @@
-//! The line that says which word of `lavkheto check` is refused, and what was expected.
+//! The line that says which word of `lavkheto` is refused, and what was expected.
 //!
 //! `specs/Messages.antt` has the message of each fault.
 #![tactic(auto)]
@@ -6,4 +6,4 @@
 mod line;
 mod message;
 
-pub use line::fault_line;
+pub use line::{fault_line, words_line};
