@@ -39,13 +39,13 @@ module _ {X : Type 0} where
   in_filter_by p y ys x true is = later ys y x is
   in_filter_by p y ys x false is = is
 
-  in_filter : (p : X → Bool) (xs : List X) (x : X) → Contains xs x → p x ≡ true → Contains (filter p xs) x
+  pub in_filter : (p : X → Bool) (xs : List X) (x : X) → Contains xs x → p x ≡ true → Contains (filter p xs) x
   in_filter p [] x (k, l, e) h = absurd (omega (arith, l))
   in_filter p (y ∷ ys) x (zero, l, e) h =
       subst (λ b. Contains (cond b (y ∷ filter p ys) (filter p ys)) x) (sym (ap p e ∙ h)) (0, (omega arith), e)
   in_filter p (y ∷ ys) x (suc k, l, e) h = in_filter_by p y (filter p ys) x (p y) (in_filter p ys x (k, (omega (arith, l)), e) h)
 
-  in_order : (key : X → ℕ) (n : ℕ) (xs : List X) (x : X) → Contains xs x → key x < n → Contains (by_key key n xs) x
+  pub in_order : (key : X → ℕ) (n : ℕ) (xs : List X) (x : X) → Contains xs x → key x < n → Contains (by_key key n xs) x
   in_order key zero xs x is l = absurd (omega (arith, l))
   in_order key (suc n) xs x is l =
       elim (eq-or-lt_of_le (le_here l)) [
@@ -57,7 +57,7 @@ module _ {X : Type 0} where
       le_here : key x < suc n → key x ≤ n
       le_here l = omega (arith, l)
 
-in_map : {X Y : Type 0} (f : X → Y) (xs : List X) (x : X) → Contains xs x → Contains (map f xs) (f x)
+pub in_map : {X Y : Type 0} (f : X → Y) (xs : List X) (x : X) → Contains xs x → Contains (map f xs) (f x)
 in_map f [] x (k, l, e) = absurd (omega (arith, l))
 in_map f (y ∷ ys) x (zero, l, e) = (0, (omega arith), ap f e)
 in_map f (y ∷ ys) x (suc k, l, e) = later (map f ys) (f y) (f x) (in_map f ys x (k, (omega (arith, l)), e))

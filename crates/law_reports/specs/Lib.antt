@@ -1,2 +1,3 @@
+pub mod CleanTexts
 pub mod NotReported
 pub mod Order

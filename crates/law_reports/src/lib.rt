@@ -1,6 +1,8 @@
-//! What the list of all reports of a text tells: in which order it is, and what it means that a hazard is not in it.
+//! What the list of all reports of a text tells: in which order it is, what it means that a hazard is not in it, and what it means
+//! that nothing is.
 //!
-//! `specs/Order.antt` says what the order is, and `specs/NotReported.antt` what it means that a hazard is not reported.
+//! `specs/Order.antt` says what the order is, `specs/NotReported.antt` what it means that a hazard is not reported, and
+//! `specs/CleanTexts.antt` what it means that nothing is.
 #![tactic(auto)]
 
 mod laws;

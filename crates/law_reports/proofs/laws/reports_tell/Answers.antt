@@ -1,8 +1,11 @@
-use Rattle.std.proofs.Common.{◌+◌, length}
+use Rattle.std.proofs.Common.{◌+◌, length, refl}
+use Rattle.lint_base.specs.Rules.{number_of}
+use Rattle.lint_base.specs.RuleSets.{both_rules, has, with_rule}
 use Rattle.squawk_linter.specs.Answers.{reports}
 use Rattle.hazard_find.specs.Findings.{findings_of}
 use Rattle.text_reports.specs.Reports.{start_of, with_hazards}
 use Rattle.law_reports.proofs.Ascending.{by_key_rises}
+use Rattle.law_reports.proofs.Clean.{clean_texts_work_alone}
 use Rattle.law_reports.proofs.Silence.{not_reported_is_not_found}
 use Rattle.law_reports.proofs.laws.reports_tell.Goals as goal
 
@@ -12,3 +15,7 @@ returns-clause-order c tree rules hazards settings =
 
 pub returns-clause-silence : goal.returns-clause-silence
 returns-clause-silence c = not_reported_is_not_found
+
+pub returns-clause-clean : goal.returns-clause-clean
+unfolding has with_rule both_rules number_of
+returns-clause-clean c = clean_texts_work_alone _ refl c.coded.ensures c.answers_placed.ensures.placed c.clean_answers.ensures
