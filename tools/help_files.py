@@ -8,7 +8,7 @@ PROGRAM is a built `lavkheto`; without it the one of `tools/program` is run. Wha
 command that it names. The rules' names are those of docs/RULES.md. What the manual page says besides is in man/lavkheto.1.in.
 
 What a help text must look like: usage lines `lavkheto COMMAND [OPTIONS] [FILES]..`, the first one after `Usage: `; or, under a line
-`Commands:`, a line for each command. Each option has a line `  --option VALUE   what it means`, indented by two blanks, and more lines
+`Commands:`, a line for each command. Each option has a line `  --option VALUE   what it means` or `  -o, --option  ..`, indented by two blanks, and more lines
 indented by more. An option whose text has `(default)` takes one of the values that its text names; RULES are names of rules, a FILE is a
 file. A VALUE in small letters is itself the value, and the option has a line for each. A paragraph that begins with `Status: ` says the
 statuses, the lines under `Examples:` are commands; all others are prose.
@@ -98,7 +98,7 @@ def read_paragraph(lines, parts):
         parts.examples = [line.strip() for line in lines[1:]]
     elif lines[0].startswith('Commands:'):
         parts.commands.update((head.split()[0], text) for head, text in entries(lines[1:]))
-    elif lines[0].startswith('  --'):
+    elif lines[0].startswith('  -'):
         parts.options += [option(head, text) for head, text in entries(lines)]
     else:
         parts.prose.append(' '.join(lines))
@@ -241,7 +241,8 @@ def fish_option(command, one):
              'codes': f" -x -a '(__{NAME}_list $__{NAME}_rules $__{NAME}_hazards)'",
              'file': ' -r -F', 'other': ' -x', '': ''}[kind(one)]
     seen = f"complete -c {NAME} -n '__fish_seen_subcommand_from {command}'"
-    return [f'{seen} -l {name[2:]}{value} -d {fish_quoted(one.text)}' for name in one.names if name != '--']
+    flags = [f'-l {name[2:]}' if name.startswith('--') else f'-s {name[1:]}' for name in one.names if name != '--']
+    return [f'{seen} {flag}{value} -d {fish_quoted(one.text)}' for flag in flags]
 
 
 def fish(whole, own):

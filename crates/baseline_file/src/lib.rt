@@ -3,8 +3,8 @@
 //! `specs/Loaded.antt` says what is taken of a file, and `specs/Leaving.antt` what is left of answers.
 #![tactic(auto)]
 
+mod filter;
 mod load;
-mod sieve;
 
-pub use load::load_sieve;
-pub use sieve::BaselineSieve;
+pub use filter::BaselineFilter;
+pub use load::load_filter;

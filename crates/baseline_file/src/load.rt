@@ -3,7 +3,7 @@ ghost use Rattle.std.specs.Prelude.{◌≡◌, ◌<◌, ◌≤◌, ◌^◌, IfEr
 ghost use Rattle.file_store.specs.Contents.{KeepsContents};
 ghost use Rattle.baseline_file.specs.Loaded.{AreRefused, AreTaken, IsBadLine, IsLoaded, IsRefusedFile, IsRefusedLoad, IsRefusedText, IsTaken, IsTextTaken};
 
-use crate::sieve::BaselineSieve;
+use crate::filter::BaselineFilter;
 use check_baseline::{Baseline, BaselineError};
 use config_file::{LoadError, file_line, line_at, refused};
 use file_store::{FileError, FileStore};
@@ -23,13 +23,13 @@ fn bad_line(alloc: Global, name: &str, number: usize) -> Result<Vec<u8>, NoMemor
     line_at(alloc, name, place, "not a line of a baseline")
 }
 
-// The sieve of a text.
-fn text_sieve(alloc: Global, name: &str, text: &str) -> Result<BaselineSieve, LoadError>
-    ensures taken { IfOk result (λ sieve. IsTextTaken text.now sieve.baseline) }
+// The filter of a text.
+fn text_filter(alloc: Global, name: &str, text: &str) -> Result<BaselineFilter, LoadError>
+    ensures taken { IfOk result (λ filter. IsTextTaken text.now filter.baseline) }
     ensures refused { IfErr result (IsRefusedText name.now text.now) }
 {
     match Baseline::read(alloc, text) {
-        Ok(baseline) => Ok(BaselineSieve {
+        Ok(baseline) => Ok(BaselineFilter {
             baseline: Some(baseline),
         }),
         Err(BaselineError::Line(number)) => Err(refused(bad_line(alloc, name, number))),
@@ -37,30 +37,30 @@ fn text_sieve(alloc: Global, name: &str, text: &str) -> Result<BaselineSieve, Lo
     }
 }
 
-// The sieve of the bytes of a file.
-fn bytes_sieve(alloc: Global, name: &str, bytes: &[u8]) -> Result<BaselineSieve, LoadError>
-    ensures taken { IfOk result (λ sieve. AreTaken bytes.now sieve.baseline) }
+// The filter of the bytes of a file.
+fn bytes_filter(alloc: Global, name: &str, bytes: &[u8]) -> Result<BaselineFilter, LoadError>
+    ensures taken { IfOk result (λ filter. AreTaken bytes.now filter.baseline) }
     ensures refused { IfErr result (AreRefused name.now bytes.now) }
 {
     match text_in(bytes) {
-        Ok(text) => text_sieve(alloc, name, text),
+        Ok(text) => text_filter(alloc, name, text),
         Err(_) => Err(refused(file_line(alloc, name, " not UTF-8\n"))),
     }
 }
 
-// The sieve of a file.
-fn file_sieve<F: FileStore>(
+// The filter of a file.
+fn file_filter<F: FileStore>(
     alloc: Global,
     files: &mut F,
     name: &str,
-) -> Result<BaselineSieve, LoadError>
-    ensures taken { IfOk result (λ sieve. IsTaken (F.content files.old name.now) sieve.baseline) }
+) -> Result<BaselineFilter, LoadError>
+    ensures taken { IfOk result (λ filter. IsTaken (F.content files.old name.now) filter.baseline) }
     ensures refused { IfErr result (IsRefusedFile (F.content files.old name.now) (F.faults files.old) (F.faults files.new) name.now) }
     ensures kept { KeepsContents (F.content files.old) (F.content files.new) }
     ensures later { F.faults files.old ≤ F.faults files.new }
 {
     match files.read(alloc, name) {
-        Ok(bytes) => bytes_sieve(alloc, name, bytes.as_slice()),
+        Ok(bytes) => bytes_filter(alloc, name, bytes.as_slice()),
         Err(FileError::NoMemory) => Err(LoadError::NoMemory),
         Err(FileError::Missing | FileError::Fault | FileError::TooLong) => {
             Err(refused(file_line(alloc, name, " can't be read\n")))
@@ -69,18 +69,18 @@ fn file_sieve<F: FileStore>(
 }
 
 /// What leaves the reports out that the baseline in a file knows, or none where no file is given.
-pub fn load_sieve<F: FileStore>(
+pub fn load_filter<F: FileStore>(
     alloc: Global,
     files: &mut F,
     given: Option<&str>,
-) -> Result<BaselineSieve, LoadError>
-    ensures loaded { IfOk result (λ sieve. IsLoaded (F.content files.old) (option_map (λ s. s.now) given.entry) sieve.baseline) }
+) -> Result<BaselineFilter, LoadError>
+    ensures loaded { IfOk result (λ filter. IsLoaded (F.content files.old) (option_map (λ s. s.now) given.entry) filter.baseline) }
     ensures refused { IfErr result (IsRefusedLoad (F.content files.old) (F.faults files.old) (F.faults files.new) (option_map (λ s. s.now) given.entry)) }
     ensures kept { KeepsContents (F.content files.old) (F.content files.new) }
     ensures later { F.faults files.old ≤ F.faults files.new }
 {
     match given {
-        Some(name) => file_sieve(alloc, files, name),
-        None => Ok(BaselineSieve { baseline: None }),
+        Some(name) => file_filter(alloc, files, name),
+        None => Ok(BaselineFilter { baseline: None }),
     }
 }

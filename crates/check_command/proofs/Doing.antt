@@ -4,7 +4,7 @@ use Rattle.baseline_file.specs.Leaving.{Leaves}
 use Rattle.check_command.specs.declared.failure.Failure.{Failure}
 use Rattle.check_command.specs.declared.failure.Failure.TheVariants as failure
 use Rattle.check_command.specs.Choosing.{IsChosenBy, IsUnchosen}
-use Rattle.check_command.specs.Command.{AreLeftAnswers, DoneFor, HasChecked, StoppedFor, answers_by, ended_by, fails_on, judge_by, printed_by, printed_for, status_by, style_of}
+use Rattle.check_command.specs.Command.{AreLeftAnswers, DoneFor, HasChecked, StoppedFor, answers_by, ended_by, fails_on, linter_by, printed_by, printed_for, status_by, style_of}
 use Rattle.check_command.specs.Failures.{IsWordFailure, failure_of}
 use Rattle.check_print.specs.declared.style.Style.{Style}
 use Rattle.check_run.specs.Checks.{Answers}
@@ -22,7 +22,7 @@ use Rattle.checked_file.specs.declared.status.Status.{Status}
 use Rattle.config_file.specs.declared.error.LoadError.{LoadError}
 use Rattle.config_file.specs.declared.error.LoadError.TheVariants as load
 use Rattle.file_answer.specs.declared.linter.FileLinter.{FileLinter}
-use Rattle.file_answer.specs.Answers.{IsJudgedAs}
+use Rattle.file_answer.specs.Answers.{IsLintedAs}
 use Rattle.file_store.specs.Contents.{Content, KeepsContents}
 use Rattle.squawk_run.specs.declared.stop.Stop.{Stop}
 use Rattle.squawk_run.specs.declared.stop.Stop.TheVariants.{BadArguments, NotUtf8, TooLong, ReadFault, WriteFault, NoMemory}
@@ -32,7 +32,7 @@ use Rattle.std.specs.Io.KnownBytes.{Keeps}
 
 -- the answers of a linter
 abbrev pub answers_of : FileLinter → Answers
-answers_of judge bytes judged = IsJudgedAs judge.is_strict judge.linter bytes judged
+answers_of linter bytes linted = IsLintedAs linter.is_strict linter.linter bytes linted
 
 -- what a run reads
 abbrev pub devices : (Text → Content) → ℕ → ℕ → Option (List ℕ) → ℕ → ℕ → Devices
@@ -55,7 +55,7 @@ part_weaker Are Be printed old new before now f h = record { files = h.files; ar
 
 left_weaker : (Are Be : List Checked → Type 0) (leaves : List Checked → List Checked → Type 0) (left : List Checked) → ((files : List Checked) → Are files → Be files) → AreLeft Are leaves left
     → AreLeft Be leaves left
-left_weaker Are Be leaves left f h = record { files = h.files; are = f h.files h.are; sifted = h.sifted }
+left_weaker Are Be leaves left f h = record { files = h.files; are = f h.files h.are; filtered = h.filtered }
 
 -- what is left of answers over files that hold what they held earlier
 left_moved : (choices : CodeChoices) (setup : Setup) (content now : Text → Content) (before first last : ℕ) (left : Option (List ℕ)) (input input_now : ℕ) (request : Request) (files : List Checked)
@@ -64,20 +64,20 @@ left_moved : (choices : CodeChoices) (setup : Setup) (content now : Text → Con
 left_moved choices setup content now before first last left input input_now request files kept later h =
     let patterns = setup.config.excluded_paths in
     left_weaker (AreAnswers (answers_by choices request.strict) (devices now first last left input input_now) patterns request)
-    (AreAnswers (answers_by choices request.strict) (devices content before last left input input_now) patterns request) (Leaves setup.sieve.baseline) files
+    (AreAnswers (answers_by choices request.strict) (devices content before last left input input_now) patterns request) (Leaves setup.filter.baseline) files
     (λ fs are. answers_moved (answers_by choices request.strict) content now before first last left input input_now patterns request fs kept later are) h
 
 -- A run over files, after the configuration and the baseline were read from them.
 pub has_checked : (request : Request) (painted : Bool) (content now : Text → Content) (before first last : ℕ) (left : Option (List ℕ)) (input input_now : ℕ) (old new : Option (List ℕ)) (greatest : Status)
-    (setup : Setup) (choices : CodeChoices) (judge : FileLinter) (style : Style) (fails : FailOn) → IsSetUp content request setup → KeepsContents content now → before ≤ first
-    → IsChosenBy setup.config request.linter choices → judge ≡ judge_by choices request.strict → style ≡ style_of request painted → fails ≡ fails_on request
-    → HasRun (AreLeft (AreAnswers (answers_of judge) (devices now first last left input input_now) setup.config.excluded_paths request) (Leaves setup.sieve.baseline))
+    (setup : Setup) (choices : CodeChoices) (linter : FileLinter) (style : Style) (fails : FailOn) → IsSetUp content request setup → KeepsContents content now → before ≤ first
+    → IsChosenBy setup.config request.linter choices → linter ≡ linter_by choices request.strict → style ≡ style_of request painted → fails ≡ fails_on request
+    → HasRun (AreLeft (AreAnswers (answers_of linter) (devices now first last left input input_now) setup.config.excluded_paths request) (Leaves setup.filter.baseline))
     (printed_by request.write_baseline style) old new greatest
     → HasChecked request painted (devices content before last left input input_now) old new (status_by fails greatest)
-has_checked request painted content now before first last left input input_now old new greatest setup choices judge style fails set_up kept later chosen by in_style in_fails ran =
+has_checked request painted content now before first last left input input_now old new greatest setup choices linter style fails set_up kept later chosen by in_style in_fails ran =
     let d = devices now first last left input input_now in
     let patterns = setup.config.excluded_paths in
-    let leaves = Leaves setup.sieve.baseline in
+    let leaves = Leaves setup.filter.baseline in
     let run = subst (λ (s : Style). HasRun (AreLeft (AreAnswers (answers_by choices request.strict) d patterns request) leaves) (printed_by request.write_baseline s) old new greatest) in_style
     (subst (λ (j : FileLinter). HasRun (AreLeft (AreAnswers (answers_of j) d patterns request) leaves) (printed_by request.write_baseline style) old new greatest) by ran) in
     record {
@@ -103,20 +103,20 @@ ended_err fails (Ok s) result P Q e f h = rw e h
 ended_err fails (Err stop) result P Q e f h = rw e (f stop h)
 
 pub has_stopped : (request : Request) (help version : List ℕ) (painted : Bool) (content now : Text → Content) (before first last : ℕ) (left : Option (List ℕ)) (input input_now : ℕ) (old new : Option (List ℕ))
-    (out_before out_now : ℕ) (stop : Stop) (setup : Setup) (choices : CodeChoices) (judge : FileLinter) (style : Style) → IsSetUp content request setup → KeepsContents content now → before ≤ first
-    → IsChosenBy setup.config request.linter choices → judge ≡ judge_by choices request.strict → style ≡ style_of request painted
-    → HasStopped (AreLeft (AreAnswers (answers_of judge) (devices now first last left input input_now) setup.config.excluded_paths request) (Leaves setup.sieve.baseline))
+    (out_before out_now : ℕ) (stop : Stop) (setup : Setup) (choices : CodeChoices) (linter : FileLinter) (style : Style) → IsSetUp content request setup → KeepsContents content now → before ≤ first
+    → IsChosenBy setup.config request.linter choices → linter ≡ linter_by choices request.strict → style ≡ style_of request painted
+    → HasStopped (AreLeft (AreAnswers (answers_of linter) (devices now first last left input input_now) setup.config.excluded_paths request) (Leaves setup.filter.baseline))
     (printed_by request.write_baseline style) old new out_before out_now stop
     → StoppedFor (Check request) help version painted (devices content before last left input input_now) old new out_before out_now (failure.Stop stop)
-has_stopped request help version painted content now before first last left input input_now old new out_before out_now BadArguments setup choices judge style set_up kept later chosen by in_style h = absurd h
-has_stopped request help version painted content now before first last left input input_now old new out_before out_now NotUtf8 setup choices judge style set_up kept later chosen by in_style h = h
-has_stopped request help version painted content now before first last left input input_now old new out_before out_now TooLong setup choices judge style set_up kept later chosen by in_style h = h
-has_stopped request help version painted content now before first last left input input_now old new out_before out_now ReadFault setup choices judge style set_up kept later chosen by in_style h = h
-has_stopped request help version painted content now before first last left input input_now old new out_before out_now NoMemory setup choices judge style set_up kept later chosen by in_style h = h
-has_stopped request help version painted content now before first last left input input_now old new out_before out_now WriteFault setup choices judge style set_up kept later chosen by in_style h =
+has_stopped request help version painted content now before first last left input input_now old new out_before out_now BadArguments setup choices linter style set_up kept later chosen by in_style h = absurd h
+has_stopped request help version painted content now before first last left input input_now old new out_before out_now NotUtf8 setup choices linter style set_up kept later chosen by in_style h = h
+has_stopped request help version painted content now before first last left input input_now old new out_before out_now TooLong setup choices linter style set_up kept later chosen by in_style h = h
+has_stopped request help version painted content now before first last left input input_now old new out_before out_now ReadFault setup choices linter style set_up kept later chosen by in_style h = h
+has_stopped request help version painted content now before first last left input input_now old new out_before out_now NoMemory setup choices linter style set_up kept later chosen by in_style h = h
+has_stopped request help version painted content now before first last left input input_now old new out_before out_now WriteFault setup choices linter style set_up kept later chosen by in_style h =
     let d = devices now first last left input input_now in
     let patterns = setup.config.excluded_paths in
-    let leaves = Leaves setup.sieve.baseline in
+    let leaves = Leaves setup.filter.baseline in
     let part = subst (λ (s : Style). HasStopped (AreLeft (AreAnswers (answers_by choices request.strict) d patterns request) leaves) (printed_by request.write_baseline s) old new out_before out_now WriteFault) in_style
     (subst (λ (j : FileLinter). HasStopped (AreLeft (AreAnswers (answers_of j) d patterns request) leaves) (printed_by request.write_baseline style) old new out_before out_now WriteFault) by h) in
     record {

@@ -32,7 +32,7 @@ use Rattle.squawk_run.specs.declared.stop.Stop.TheVariants.{BadArguments, NotUtf
 use Rattle.squawk_stream.specs.Faults.{Rose}
 use Rattle.squawk_stream.specs.Parts.{AppendsPart}
 use Rattle.file_answer.specs.declared.linter.FileLinter.{FileLinter}
-use Rattle.file_answer.specs.Answers.{IsJudgedAs}
+use Rattle.file_answer.specs.Answers.{IsLintedAs}
 
 abbrev pub is_painted_by : Color → Bool → Bool
 is_painted_by Auto painted = painted
@@ -57,15 +57,15 @@ abbrev pub printed_for : Request → Bool → List Checked → List ℕ
 printed_for request painted files = printed_by request.write_baseline (style_of request painted) files
 
 -- the linter with what is chosen, by whether each line is read as SQL
-abbrev pub judge_by : CodeChoices → Bool → FileLinter
-judge_by chosen is_strict = record {
+abbrev pub linter_by : CodeChoices → Bool → FileLinter
+linter_by chosen is_strict = record {
   linter = record { linter = record { rules = chosen.choices.rules; settings = chosen.choices.settings }; hazards = chosen.hazards };
   is_strict = is_strict;
 }
 
 -- the answers that it has
 abbrev pub answers_by : CodeChoices → Bool → Answers
-answers_by chosen is_strict bytes judged = IsJudgedAs is_strict (judge_by chosen is_strict).linter bytes judged
+answers_by chosen is_strict bytes linted = IsLintedAs is_strict (linter_by chosen is_strict).linter bytes linted
 
 -- which reports make a run fail: none where they are written to a baseline
 abbrev pub fails_on : Request → FailOn
@@ -84,7 +84,7 @@ ended_by fails (Err stop) = Err (failure.Stop stop)
 -- what is left of the answers of a run, under these choices and after this setup
 abbrev pub AreLeftAnswers : CodeChoices → Setup → Devices → Request → List Checked → Type 0
 AreLeftAnswers choices setup d request files =
-    AreLeft (AreAnswers (answers_by choices request.strict) d setup.config.excluded_paths request) (Leaves setup.sieve.baseline) files
+    AreLeft (AreAnswers (answers_by choices request.strict) d setup.config.excluded_paths request) (Leaves setup.filter.baseline) files
 
 -- The configuration and the words for the linter choose rules, hazards and settings. Under these each file has its answer that the configuration
 -- does not leave out; without the reports that the baseline knows all of them were written, and the status is by the greatest of theirs.

@@ -7,7 +7,7 @@ ghost use Rattle.squawk_run.specs.declared.stop.Stop.TheVariants as stop;
 ghost use Rattle.squawk_stream.specs.Faults.{HasCause, Rose};
 ghost use Rattle.squawk_stream.specs.Parts.{AppendsPart};
 ghost use Rattle.check_command.specs.Choosing.{IsChosenBy, IsUnchosen};
-ghost use Rattle.check_command.specs.Command.{DoneFor, HasChecked, StoppedFor, ended_by, fails_on, judge_by, status_by, style_of};
+ghost use Rattle.check_command.specs.Command.{DoneFor, HasChecked, StoppedFor, ended_by, fails_on, linter_by, status_by, style_of};
 ghost use Rattle.check_command.specs.Failures.{IsStop, failure_of, line_of};
 
 use crate::failure::{Failure, failure_of, say, word_failure};
@@ -47,8 +47,8 @@ fn style_of(request: &Request, is_painted: bool) -> Style
 }
 
 // The linter with what is chosen, by whether each line is read as SQL.
-fn judge_by(chosen: CodeChoices, is_strict: bool) -> FileLinter
-    ensures { result ≡ judge_by chosen is_strict }
+fn linter_by(chosen: CodeChoices, is_strict: bool) -> FileLinter
+    ensures { result ≡ linter_by chosen is_strict }
 {
     let linter = Linter {
         rules: chosen.choices.rules,
@@ -162,15 +162,24 @@ fn check_request<F: FileStore, S: Source, K: Sink, G: Progress>(
         Ok(choices) => choices,
         Err(stop) => return Err(Failure::Stop(stop)),
     };
-    let mut judge = judge_by(choices, request.strict);
+    let mut linter = linter_by(choices, request.strict);
     let printer = RunPrinter {
         style: style_of(request, is_painted),
         writes_baseline: request.write_baseline,
     };
     let patterns = &setup.config.excluded_paths;
-    let sieve = &setup.sieve;
+    let filter = &setup.filter;
     let done = check(
-        alloc, request, patterns, &mut judge, sieve, &printer, files, src, out, progress,
+        alloc,
+        request,
+        patterns,
+        &mut linter,
+        filter,
+        &printer,
+        files,
+        src,
+        out,
+        progress,
     );
     ended_by(fails_on(request), done)
 }

@@ -6,8 +6,8 @@ use Rattle.std.specs.Prelude.{slice_get}
 use Rattle.checked_file.specs.declared.answer.Answer.{Answer}
 use Rattle.checked_file.specs.declared.answer.Answer.TheVariants.{Reports, Refused}
 use Rattle.checked_file.specs.declared.checked.Checked.{Checked}
-use Rattle.checked_file.specs.declared.checked.Judged.{Judged}
-use Rattle.checked_file.specs.Files.{judged_of}
+use Rattle.checked_file.specs.declared.checked.Linted.{Linted}
+use Rattle.checked_file.specs.Files.{linted_of}
 use Rattle.file_store.specs.Contents.{Content, KeepsContents}
 use Rattle.source_file.specs.declared.refusal.Refusal.TheVariants as refusal
 use Rattle.squawk_stream.specs.Faults.{Rose}
@@ -28,14 +28,14 @@ unread_wider content f g h k (Refused (refusal.NotUtf8 at)) a b u = u
 unread_wider content f g h k (Refused (refusal.Unterminated at)) a b u = u
 unread_wider content f g h k (Refused (refusal.Syntax at)) a b u = u
 
--- the same of a judge from which these answers come, and over a longer time
-checked_wider : (A B : Answers) (content : Content) (f g h k : ℕ) (name : Text) (file : Checked) → ((bytes : List ℕ) (judged : Judged) → B bytes judged → A bytes judged)
+-- the same of a linter from which these answers come, and over a longer time
+checked_wider : (A B : Answers) (content : Content) (f g h k : ℕ) (name : Text) (file : Checked) → ((bytes : List ℕ) (linted : Linted) → B bytes linted → A bytes linted)
     → f ≤ h → k ≤ g → IsChecked B content h k name file → IsChecked A content f g name file
 checked_wider A B content f g h k name file same a b c =
     record {
       named = c.named;
       came = elim c.came [
-        | inl r ↦ inl (record { bytes = r.bytes; held = r.held; answer = same r.bytes (judged_of file) r.answer })
+        | inl r ↦ inl (record { bytes = r.bytes; held = r.held; answer = same r.bytes (linted_of file) r.answer })
         | inr u ↦ inr (record { why = unread_wider content f g h k file.answer a b u.why; empty = u.empty })
       ];
     }
@@ -68,7 +68,7 @@ take_at (first ∷ names) (suc k) name e =
     rw next (ap (λ ns. first ∷ ns) (take_at names k name e))
 
 pub next_checked : (A B : Answers) (content now : Text → Content) (f h k : ℕ) (names : List Text) (i : ℕ) (name : Text) (files : List Checked) (file : Checked) → slice_get names i ≡ Some name
-    → AreChecked A content f h (take i names) files → KeepsContents content now → ((bytes : List ℕ) (judged : Judged) → B bytes judged → A bytes judged)
+    → AreChecked A content f h (take i names) files → KeepsContents content now → ((bytes : List ℕ) (linted : Linted) → B bytes linted → A bytes linted)
     → IsChecked B (now name) h k name file → AreChecked A content f k (take (i + 1) names) (files ++ file ∷ [])
 next_checked A B content now f h k names i name files file at so kept same c =
     let here : IsChecked B (content name) h k name file = subst (λ (x : Content). IsChecked B x h k name file) (kept name) c in

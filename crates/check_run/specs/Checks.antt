@@ -7,15 +7,15 @@ use Rattle.file_store.specs.declared.store.FileError.TheVariants as error
 use Rattle.checked_file.specs.declared.answer.Answer.{Answer}
 use Rattle.checked_file.specs.declared.answer.Answer.TheVariants.{Reports, Refused}
 use Rattle.checked_file.specs.declared.checked.Checked.{Checked}
-use Rattle.checked_file.specs.declared.checked.Judged.{Judged}
-use Rattle.checked_file.specs.Files.{judged_of}
+use Rattle.checked_file.specs.declared.checked.Linted.{Linted}
+use Rattle.checked_file.specs.Files.{linted_of}
 use Rattle.source_file.specs.declared.refusal.Refusal.TheVariants as refusal
 use Rattle.squawk_stream.specs.Faults.{Rose}
 use Rattle.squawk_words.specs.Words.{Text}
 
 -- which answers there are for which bytes
 abbrev pub Answers : Type 1
-Answers = List ℕ → Judged → Type 0
+Answers = List ℕ → Linted → Type 0
 
 -- why a file was not read: it is not there; or a call failed, which shows in the count of failures; or it has 2^32 bytes or more
 abbrev pub IsUnread : Content → ℕ → ℕ → Answer → Type 0
@@ -38,7 +38,7 @@ IsUnreadBy error.NoMemory answer = ⊥
 pub record IsAnswered (answers : Answers) (content : Content) (file : Checked) : Type 0 where
   pub bytes : List ℕ
   pub held : IsBytes content bytes
-  pub answer : answers bytes (judged_of file)
+  pub answer : answers bytes (linted_of file)
 
 -- the file has no bytes, and nothing in it was passed over
 pub record IsEmpty (file : Checked) : Type 0 where

@@ -53,11 +53,11 @@ AreAnswersBy false answers d patterns request files = AreFileAnswers answers d.c
 abbrev pub AreAnswers : Answers → Devices → List Text → Request → List Checked → Type 0
 AreAnswers answers d patterns request files = AreAnswersBy (reads_input request.files) answers d patterns request files
 
--- what a sieve leaves of such files
+-- what a filter leaves of such files
 pub record AreLeft (Are : List Checked → Type 0) (leaves : List Checked → List Checked → Type 0) (left : List Checked) : Type 0 where
   pub files : List Checked
   pub are : Are files
-  pub sifted : leaves files left
+  pub filtered : leaves files left
 
 -- ---- what was written
 

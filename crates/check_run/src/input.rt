@@ -6,7 +6,7 @@ ghost use Rattle.squawk_run.specs.Stops.{IsReadStop};
 ghost use Rattle.check_run.specs.Inputs.{IsStoppedBy, input_content, reads_input};
 
 use crate::files::{answered, named, unread_by};
-use crate::judge::Judge;
+use crate::lint::Lint;
 use checked_file::Checked;
 use source_file::Refusal;
 use squawk_run::{Stop, read_input};
@@ -45,18 +45,18 @@ fn stopped(alloc: Global, name: &str, stop: Stop) -> Result<Checked, NoMemory>
 }
 
 /// What comes of the input, under a name. The error comes when memory runs out.
-pub fn check_input<S: Source, J: Judge>(
+pub fn check_input<S: Source, L: Lint>(
     alloc: Global,
-    judge: &mut J,
+    linter: &mut L,
     src: &mut S,
     name: &str,
 ) -> Result<Checked, NoMemory>
-    ensures checked { IfOk result (IsChecked (J.answers judge.old) (input_content (S.left src.old)) (S.faults src.old) (S.faults src.new) name.now) }
+    ensures checked { IfOk result (IsChecked (L.answers linter.old) (input_content (S.left src.old)) (S.faults src.old) (S.faults src.new) name.now) }
     ensures sound { IfOk result IsSound }
 {
     match read_input(alloc, src) {
         Ok(bytes) => {
-            let file = answered(alloc, judge, name, bytes)?;
+            let file = answered(alloc, linter, name, bytes)?;
             Ok(file)
         }
         Err(stop) => {

@@ -16,7 +16,7 @@ baseline_name request = if request.write_baseline then None else request.baselin
 -- the configuration and the baseline are those of the request
 pub record IsSetUp (content : Text → Content) (request : Request) (setup : Setup) : Type 0 where
   pub config : configs.IsLoaded content request.config setup.config
-  pub baseline : baselines.IsLoaded content (baseline_name request) setup.sieve.baseline
+  pub baseline : baselines.IsLoaded content (baseline_name request) setup.filter.baseline
 
 -- the configuration is refused or the baseline
 abbrev pub IsRefusedFor : (Text → Content) → ℕ → ℕ → Request → List ℕ → Type 0

@@ -3,7 +3,7 @@ ghost use Rattle.std.specs.Prelude.{◌≡◌, ◌≤◌, IfErr, IfOk, option_ma
 ghost use Rattle.check_setup.specs.SetUp.{IsRefusedSetup, IsSetUp, baseline_name};
 ghost use Rattle.file_store.specs.Contents.{KeepsContents};
 
-use baseline_file::{BaselineSieve, load_sieve};
+use baseline_file::{BaselineFilter, load_filter};
 use check_config::Config;
 use check_words::Request;
 use config_file::{LoadError, load_config};
@@ -16,7 +16,7 @@ pub struct Setup {
     /// The configuration.
     pub config: Config,
     /// What leaves the reports out that the baseline knows.
-    pub sieve: BaselineSieve,
+    pub filter: BaselineFilter,
 }
 
 // The name of the baseline that is read.
@@ -46,9 +46,9 @@ pub fn load_setup<F: FileStore>(
 {
     match load_config(alloc, files, &request.config) {
         Err(error) => Err(error),
-        Ok(config) => match load_sieve(alloc, files, baseline_name(request)) {
+        Ok(config) => match load_filter(alloc, files, baseline_name(request)) {
             Err(error) => Err(error),
-            Ok(sieve) => Ok(Setup { config, sieve }),
+            Ok(filter) => Ok(Setup { config, filter }),
         },
     }
 }

@@ -37,7 +37,8 @@ FILES are files, and folders for all *.sql files in them. Without FILES, or with
   --pg-minor N             its second part (default: 0)
   --pg-patch N             its third part (default: 0)
 
-  --help, --version        this help, and the version
+  -h, --help               this help
+  -V, --version            the version
 
 Status: 0 nothing is found; 1 something is found; 2 a word, the configuration or the baseline is refused; 3 a file is not UTF-8; 4 a file
 can't be parsed; 5 a file can't be read; 6 a write failed; 7 out of memory. The greatest of those that apply.

@@ -2,7 +2,7 @@
 use Rattle.std.specs.Prelude.{ℕ, List, fold, take}
 use Rattle.std.specs.Str.Lossy.{utf8_valid_len}
 use Rattle.checked_file.specs.declared.checked.Checked.{Checked}
-use Rattle.checked_file.specs.declared.checked.Judged.{Judged}
+use Rattle.checked_file.specs.declared.checked.Linted.{Linted}
 use Rattle.checked_file.specs.declared.status.Status.{Status}
 use Rattle.checked_file.specs.declared.status.Status.TheVariants.{Clean}
 use Rattle.checked_file.specs.Answers.{status_of}
@@ -17,5 +17,5 @@ abbrev pub worst : List Checked → Status
 worst files = fold (λ s file. worse s (status_of file.answer)) Clean files
 
 -- what came of the bytes of a file
-abbrev pub judged_of : Checked → Judged
-judged_of file = record { bytes = file.bytes; passed = file.passed; answer = file.answer }
+abbrev pub linted_of : Checked → Linted
+linted_of file = record { bytes = file.bytes; passed = file.passed; answer = file.answer }

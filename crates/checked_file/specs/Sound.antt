@@ -8,7 +8,7 @@ use Rattle.source_file.specs.Refusals.{place_of}
 use Rattle.checked_file.specs.declared.answer.Answer.{Answer}
 use Rattle.checked_file.specs.declared.answer.Answer.TheVariants.{Reports, Refused}
 use Rattle.checked_file.specs.declared.checked.Checked.{Checked}
-use Rattle.checked_file.specs.declared.checked.Judged.{Judged}
+use Rattle.checked_file.specs.declared.checked.Linted.{Linted}
 use Rattle.checked_file.specs.Files.{readable_of}
 
 -- edits begin and end between characters of a text
@@ -27,7 +27,7 @@ IsIn text (Reports reports) = All (IsReportIn text) reports.items
 IsIn text (Refused r) = IsCharBoundary text (place_of r)
 
 -- the text that can be read is short, and the findings are in it
-pub record IsSoundAnswer (j : Judged) : Type 0 where
+pub record IsSoundAnswer (j : Linted) : Type 0 where
   pub short : length (readable_of j.bytes.items) < 2 ^ 32
   pub placed : IsIn (readable_of j.bytes.items) j.answer
 

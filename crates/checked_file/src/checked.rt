@@ -21,7 +21,7 @@ pub struct Passed {
 
 /// What came of the bytes of a file.
 #[derive(Drop)]
-pub struct Judged {
+pub struct Linted {
     /// The bytes as they were read: those of the file, in which the lines that were passed over are blank.
     pub bytes: Vec<u8>,
     /// What was passed over, if anything was.

@@ -6,5 +6,5 @@ mod checked;
 mod status;
 
 pub use answer::Answer;
-pub use checked::{Checked, Judged, Passed, readable, worst};
+pub use checked::{Checked, Linted, Passed, readable, worst};
 pub use status::Status;

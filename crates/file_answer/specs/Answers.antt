@@ -4,7 +4,7 @@ use Rattle.std.specs.Str.{IsUtf8}
 use Rattle.std.specs.Str.Lossy.{utf8_valid_len}
 use Rattle.checked_file.specs.declared.answer.Answer.{Answer}
 use Rattle.checked_file.specs.declared.answer.Answer.TheVariants.{Reports, Refused}
-use Rattle.checked_file.specs.declared.checked.Judged.{Judged}
+use Rattle.checked_file.specs.declared.checked.Linted.{Linted}
 use Rattle.lint_report.specs.declared.report.Report.{Report}
 use Rattle.source_file.specs.declared.refusal.Refusal.TheVariants as refusal
 use Rattle.sql_token.specs.Token.{Text, OpenAt}
@@ -31,6 +31,6 @@ IsAnswerOf l t (Refused (refusal.Unterminated at)) = IsUtf8 t × OpenAt t at
 IsAnswerOf l t (Refused (refusal.Syntax at)) = IsUtf8 t × IsSyntaxAt t at
 
 -- this comes of the bytes of a file: what is read of them, and what comes of that
-pub record IsJudgedAs (is_strict : Bool) (l : TextLinter) (t : Text) (j : Judged) : Type 0 where
+pub record IsLintedAs (is_strict : Bool) (l : TextLinter) (t : Text) (j : Linted) : Type 0 where
   pub read : IsReadBy is_strict t j.bytes.items j.passed
   pub answer : IsAnswerOf l j.bytes.items j.answer

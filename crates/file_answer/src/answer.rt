@@ -4,10 +4,10 @@ ghost use Rattle.checked_file.specs.Files.{readable_of};
 ghost use Rattle.checked_file.specs.Sound.{IsIn, IsSoundAnswer};
 ghost use Rattle.sql_read.specs.Cause.{IsCause};
 ghost use Rattle.text_reports.specs.declared.find.TextLinter.{TextLinter};
-ghost use Rattle.file_answer.specs.Answers.{IsAnswerOf, IsJudgedAs};
+ghost use Rattle.file_answer.specs.Answers.{IsAnswerOf, IsLintedAs};
 
 use crate::read::read_bytes;
-use checked_file::{Answer, Judged};
+use checked_file::{Answer, Linted};
 use simdutf8::compat::from_utf8;
 use source_file::Refusal;
 use sql_read::{LintError, parse};
@@ -79,15 +79,15 @@ pub fn lint_bytes(
     linter: &mut TextLinter,
     is_strict: bool,
     bytes: Vec<u8>,
-) -> Result<Judged, NoMemory>
+) -> Result<Linted, NoMemory>
     requires { length bytes.items < 2 ^ 32 }
-    ensures judged { IfOk result (IsJudgedAs is_strict linter.old bytes.items) }
+    ensures linted { IfOk result (IsLintedAs is_strict linter.old bytes.items) }
     ensures sound { IfOk result IsSoundAnswer }
     ensures same { linter.new ≡ linter.old }
 {
     let read = read_bytes(alloc, is_strict, bytes)?;
     let answer = lint_read(alloc, linter, read.bytes.as_slice())?;
-    Ok(Judged {
+    Ok(Linted {
         bytes: read.bytes,
         passed: read.passed,
         answer,

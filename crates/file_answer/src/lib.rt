@@ -1,4 +1,4 @@
-//! The linter as what judges the bytes of a file.
+//! The linter, for the bytes of a file.
 //!
 //! `specs/Answers.antt` says what comes of bytes: what is read of them, and what is reported of that.
 #![tactic(auto)]

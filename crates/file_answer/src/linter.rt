@@ -1,15 +1,15 @@
-//! The linter as what judges files.
+//! The linter, for files.
 ghost use Rattle.std.specs.Prelude.{◌≡◌};
-ghost use Rattle.file_answer.specs.Answers.{IsJudgedAs};
+ghost use Rattle.file_answer.specs.Answers.{IsLintedAs};
 
 use crate::answer::lint_bytes;
-use check_run::Judge;
-use checked_file::Judged;
+use check_run::Lint;
+use checked_file::Linted;
 use std::alloc::Global;
 use text_pos::NoMemory;
 use text_reports::TextLinter;
 
-/// A linter that judges files.
+/// A linter that lints files.
 #[derive(Drop)]
 pub struct FileLinter {
     /// The linter, and the hazards that are looked for. No file changes them.
@@ -18,10 +18,10 @@ pub struct FileLinter {
     pub is_strict: bool,
 }
 
-impl Judge for FileLinter {
-    ghost answers = { λ judge bytes judged. IsJudgedAs judge.is_strict judge.linter bytes judged };
+impl Lint for FileLinter {
+    ghost answers = { λ linter bytes linted. IsLintedAs linter.is_strict linter.linter bytes linted };
 
-    fn judge(&mut self, alloc: Global, bytes: Vec<u8>) -> Result<Judged, NoMemory> {
+    fn lint(&mut self, alloc: Global, bytes: Vec<u8>) -> Result<Linted, NoMemory> {
         lint_bytes(alloc, &mut self.linter, self.is_strict, bytes)
     }
 }

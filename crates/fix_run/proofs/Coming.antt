@@ -9,7 +9,7 @@ use Rattle.fix_run.specs.declared.outcome.FileOutcome.{FileOutcome}
 use Rattle.fix_run.specs.declared.outcome.FileOutcome.TheVariants as outcome
 use Rattle.fix_run.specs.declared.fixer.TextOutcome.TheVariants.{Fixed, Refused}
 use Rattle.fix_run.specs.Inputs.{input_content}
-use Rattle.fix_run.specs.Outcomes.{Answers, HasCome, IsNoText, IsOfBytes, IsOfError, IsOfStop, IsOfText, IsStoppedBy}
+use Rattle.fix_run.specs.Outcomes.{Answers, IsOutcome, IsNoText, IsOfBytes, IsOfError, IsOfStop, IsOfText, IsStoppedBy}
 use Rattle.gate_files.specs.Read.{IsUnread, IsUnreadBy}
 use Rattle.source_file.specs.declared.refusal.Refusal.{Refusal}
 use Rattle.squawk_run.proofs.Runs.{took_fits}
@@ -22,7 +22,7 @@ use Rattle.squawk_words.specs.Words.{Text}
 module _ (answers : Answers) (content : Content) (before now : ℕ) (name : Text) where
   -- ---- a text
 
-  text_came : (bytes : List ℕ) (c : FileOutcome) → IsBytes content bytes → IsUtf8 bytes → IsOfText answers name bytes c → HasCome answers content before now name c
+  text_came : (bytes : List ℕ) (c : FileOutcome) → IsBytes content bytes → IsUtf8 bytes → IsOfText answers name bytes c → IsOutcome answers content before now name c
   text_came bytes (outcome.Fixed file) held u (n, o, m) = record {
     named = n;
     held = subst (IsBytes content) (sym o) held;
@@ -38,12 +38,12 @@ module _ (answers : Answers) (content : Content) (before now : ℕ) (name : Text
     }),
   )
 
-  no_text : (bytes : List ℕ) (c : FileOutcome) → IsBytes content bytes → IsNoText name bytes c → HasCome answers content before now name c
+  no_text : (bytes : List ℕ) (c : FileOutcome) → IsBytes content bytes → IsNoText name bytes c → IsOutcome answers content before now name c
   no_text bytes (outcome.Fixed file) held bad = absurd bad
   no_text bytes (outcome.Unread v) held (at, n, r, bad) =
       (n, inl (subst (λ (x : Refusal). IsUnread content before now v.front x) (sym r) (record { bytes = bytes; held = held; no_text = bad })))
 
-  pub read_came : (bytes : List ℕ) (c : FileOutcome) → IsBytes content bytes → IsOfBytes answers name bytes c → HasCome answers content before now name c
+  pub read_came : (bytes : List ℕ) (c : FileOutcome) → IsBytes content bytes → IsOfBytes answers name bytes c → IsOutcome answers content before now name c
   read_came bytes c held of = elim of [
     | inl t ↦ text_came bytes c held t.0 t.1
     | inr bad ↦ no_text bytes c held bad
@@ -57,7 +57,7 @@ module _ (answers : Answers) (content : Content) (before now : ℕ) (name : Text
   unread_by error.TooLong front r fits f by = subst (λ (x : Refusal). IsUnread content before now front x) (sym by) (fits, f)
   unread_by error.NoMemory front r fits f by = absurd by
 
-  pub error_came : (e : FileError) (c : FileOutcome) → RefusedFits e content before now → IsOfError name e c → HasCome answers content before now name c
+  pub error_came : (e : FileError) (c : FileOutcome) → RefusedFits e content before now → IsOfError name e c → IsOutcome answers content before now name c
   error_came e (outcome.Fixed file) fits of = absurd of
   error_came e (outcome.Unread u) fits (n, f, by) = (n, inl (unread_by e u.front u.refusal fits f by))
 
@@ -77,6 +77,6 @@ stopped_by left new before now NotUtf8 front r read cause f by = absurd by
 stopped_by left new before now WriteFault front r read cause f by = absurd by
 
 pub stop_came : (answers : Answers) (left new : Option (List ℕ)) (before now : ℕ) (name : Text) (stop : Stop) (c : FileOutcome) → ReadFor (Stopped stop) left new → SourceCause (Stopped stop) before now
-    → IsOfStop name stop c → HasCome answers (input_content left) before now name c
+    → IsOfStop name stop c → IsOutcome answers (input_content left) before now name c
 stop_came answers left new before now name stop (outcome.Fixed file) read cause of = absurd of
 stop_came answers left new before now name stop (outcome.Unread u) read cause (n, f, by) = (n, inl (stopped_by left new before now stop u.front u.refusal read cause f by))

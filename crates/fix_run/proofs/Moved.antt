@@ -8,7 +8,7 @@ use Rattle.fix_run.specs.declared.stop.FixStop.{FixStop}
 use Rattle.fix_run.specs.Giving.{Sinks}
 use Rattle.fix_run.specs.Inputs.{reads_input}
 use Rattle.fix_run.specs.Outcomes.{Answers}
-use Rattle.fix_run.specs.Runs.{AllCame, AllCameBy, Early, FilesCame, HasFixed, HasStopped, Late}
+use Rattle.fix_run.specs.Runs.{AllOutcomes, AllOutcomesBy, Early, FilesOutcomes, HasFixed, HasStopped, Late}
 use Rattle.fix_run.proofs.Lists.{have_moved}
 use Rattle.fix_words.specs.declared.request.Request.{Request}
 use Rattle.gate_files.specs.declared.read.Unread.{Unread}
@@ -17,8 +17,8 @@ use Rattle.squawk_words.specs.Words.{Text}
 
 module _ (A : Answers) (content now : Text → Content) (before first last : ℕ) (left : Option (List ℕ)) (input input_now : ℕ) (patterns : List Text)
     (kept : KeepsContents content now) (later : before ≤ first) where
-  files_moved : (words : List Text) (fixed : List FixedFile) (unread : List Unread) → FilesCame A now first last patterns words fixed unread
-      → FilesCame A content before last patterns words fixed unread
+  files_moved : (words : List Text) (fixed : List FixedFile) (unread : List Unread) → FilesOutcomes A now first last patterns words fixed unread
+      → FilesOutcomes A content before last patterns words fixed unread
   files_moved words fixed unread h = record {
     names = h.names;
     named = h.named;
@@ -33,14 +33,14 @@ module _ (A : Answers) (content now : Text → Content) (before first last : ℕ
   }
 
   by : (b : Bool) (words : List Text) (fixed : List FixedFile) (unread : List Unread)
-      → AllCameBy b A (record { content = now; files_before = first; files_now = last; left = left; input_before = input; input_now = input_now }) patterns words fixed unread
-      → AllCameBy b A (record { content = content; files_before = before; files_now = last; left = left; input_before = input; input_now = input_now }) patterns words fixed unread
+      → AllOutcomesBy b A (record { content = now; files_before = first; files_now = last; left = left; input_before = input; input_now = input_now }) patterns words fixed unread
+      → AllOutcomesBy b A (record { content = content; files_before = before; files_now = last; left = left; input_before = input; input_now = input_now }) patterns words fixed unread
   by true words fixed unread h = h
   by false words fixed unread h = files_moved words fixed unread h
 
   came_moved : (words : List Text) (fixed : List FixedFile) (unread : List Unread)
-      → AllCame A (record { content = now; files_before = first; files_now = last; left = left; input_before = input; input_now = input_now }) patterns words fixed unread
-      → AllCame A (record { content = content; files_before = before; files_now = last; left = left; input_before = input; input_now = input_now }) patterns words fixed unread
+      → AllOutcomes A (record { content = now; files_before = first; files_now = last; left = left; input_before = input; input_now = input_now }) patterns words fixed unread
+      → AllOutcomes A (record { content = content; files_before = before; files_now = last; left = left; input_before = input; input_now = input_now }) patterns words fixed unread
   came_moved words fixed unread h = by (reads_input words) words fixed unread h
 
   -- what a run did that began later is what one did that began before

@@ -11,8 +11,8 @@ use Rattle.file_store.specs.Contents.{Content, KeepsContents}
 use Rattle.fix_output.specs.declared.file.FixedFile.{FixedFile}
 use Rattle.fix_output.specs.Differences.{HasDiffs, is_changed}
 use Rattle.fix_output.specs.Writing.{AreWritten, IsWrittenUpTo, SomeAreWritten}
-use Rattle.fix_run.specs.declared.give.Way.{Way}
-use Rattle.fix_run.specs.declared.give.Way.TheVariants.{Print, Input, Files}
+use Rattle.fix_run.specs.declared.give.Delivery.{Delivery}
+use Rattle.fix_run.specs.declared.give.Delivery.TheVariants.{Print, Input, Files}
 use Rattle.fix_run.specs.declared.stop.FixStop.{FixStop}
 use Rattle.fix_run.specs.declared.stop.FixStop.TheVariants.{Any, File}
 use Rattle.fix_run.specs.Inputs.{reads_input}
@@ -76,8 +76,8 @@ status_of is_written files all = worse (fixed_status is_written files) (unread_s
 -- ---- what is given
 
 -- with `--write` the text that is made of the input is printed, and files are written
-abbrev pub way_of : Request → Way
-way_of request = if not request.write then Print else if reads_input request.files then Input else Files
+abbrev pub delivery_of : Request → Delivery
+delivery_of request = if not request.write then Print else if reads_input request.files then Input else Files
 
 -- the text that is made of the first of these, which the input is
 abbrev pub first_text : List FixedFile → Text
@@ -141,13 +141,13 @@ StopsFiles (Any NoMemory) files old new before now = SomeAreWritten files old ne
 -- ---- both
 
 -- What became of these files. Where something is printed no file is written, and the other way round.
-abbrev pub IsGiven : Way → List FixedFile → Sinks → Sinks → Type 0
+abbrev pub IsGiven : Delivery → List FixedFile → Sinks → Sinks → Type 0
 IsGiven Print files old new = HasDiffsThat files (Appends old.held new.held) × KeepsContents old.written new.written
 IsGiven Input files old new = Appends old.held new.held (first_text files) × KeepsContents old.written new.written
 IsGiven Files files old new = AreWritten files old.written new.written × Keeps old.held new.held
 
 -- the same where it stopped
-abbrev pub IsCut : Way → List FixedFile → Sinks → Sinks → FixStop → Type 0
+abbrev pub IsCut : Delivery → List FixedFile → Sinks → Sinks → FixStop → Type 0
 IsCut Print files old new stop = IsAny (λ s. StopsDiffs s files old.held new.held old.faults new.faults) stop × KeepsContents old.written new.written
 IsCut Input files old new stop = IsAny (λ s. StopsWriting s (first_text files) old.held new.held old.faults new.faults) stop × KeepsContents old.written new.written
 IsCut Files files old new stop = StopsFiles stop files old.written new.written old.write_faults new.write_faults × Keeps old.held new.held

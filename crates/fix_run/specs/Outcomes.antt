@@ -51,9 +51,9 @@ abbrev pub IsUnfixed : Answers → Content → ℕ → ℕ → Text → Refusal 
 IsUnfixed answers content before now front r = IsUnread content before now front r ⊎ IsRefused answers content front r
 
 -- what came of a name that holds this content
-abbrev pub HasCome : Answers → Content → ℕ → ℕ → Text → FileOutcome → Type 0
-HasCome answers content before now name (outcome.Fixed file) = IsFixedFile answers content name file
-HasCome answers content before now name (outcome.Unread u) = (u.name ≡ name) × IsUnfixed answers content before now u.front u.refusal
+abbrev pub IsOutcome : Answers → Content → ℕ → ℕ → Text → FileOutcome → Type 0
+IsOutcome answers content before now name (outcome.Fixed file) = IsFixedFile answers content name file
+IsOutcome answers content before now name (outcome.Unread u) = (u.name ≡ name) × IsUnfixed answers content before now u.front u.refusal
 
 -- ---- how it came
 
@@ -76,9 +76,9 @@ abbrev pub IsUnplaced : Refusal → Type 0
 IsUnplaced r = place_of r ≡ 0
 
 -- a file of which no byte was read, for this reason
-abbrev pub IsUnreadCame : Text → Refusal → FileOutcome → Type 0
-IsUnreadCame name r (outcome.Fixed file) = ⊥
-IsUnreadCame name r (outcome.Unread u) = (u.name ≡ name) × (u.front ≡ []) × (u.refusal ≡ r)
+abbrev pub IsUnreadOutcome : Text → Refusal → FileOutcome → Type 0
+IsUnreadOutcome name r (outcome.Fixed file) = ⊥
+IsUnreadOutcome name r (outcome.Unread u) = (u.name ≡ name) × (u.front ≡ []) × (u.refusal ≡ r)
 
 -- the same, by the error of the store
 abbrev pub IsOfError : Text → FileError → FileOutcome → Type 0
@@ -112,20 +112,20 @@ pub record IsSoundFile (file : FixedFile) : Type 0 where
   pub placed : ArePlacedIn file.old file.others.items
 
 -- the same of what came of a file
-abbrev pub IsSoundCame : FileOutcome → Type 0
-IsSoundCame (outcome.Fixed file) = IsSoundFile file
-IsSoundCame (outcome.Unread u) = IsSound u
+abbrev pub IsSoundOutcome : FileOutcome → Type 0
+IsSoundOutcome (outcome.Fixed file) = IsSoundFile file
+IsSoundOutcome (outcome.Unread u) = IsSound u
 
 -- ---- files
 
 -- What came of these names, one by one. The count of failures goes on from name to name, so that for each file that could not be read a call
 -- of its own failed, and no other file pays for it.
-abbrev pub AreCome : Answers → (Text → Content) → ℕ → ℕ → List Text → List FileOutcome → Type 0
-AreCome answers content before now [] [] = before ≤ now
-AreCome answers content before now [] (c ∷ cs) = ⊥
-AreCome answers content before now (name ∷ names) [] = ⊥
-AreCome answers content before now (name ∷ names) (c ∷ cs) =
-    (mid : ℕ) × HasCome answers (content name) before mid name c × AreCome answers content mid now names cs
+abbrev pub AreOutcomes : Answers → (Text → Content) → ℕ → ℕ → List Text → List FileOutcome → Type 0
+AreOutcomes answers content before now [] [] = before ≤ now
+AreOutcomes answers content before now [] (c ∷ cs) = ⊥
+AreOutcomes answers content before now (name ∷ names) [] = ⊥
+AreOutcomes answers content before now (name ∷ names) (c ∷ cs) =
+    (mid : ℕ) × IsOutcome answers (content name) before mid name c × AreOutcomes answers content mid now names cs
 
 -- those of which something is made
 abbrev pub fixed_of : List FileOutcome → List FixedFile
@@ -140,8 +140,8 @@ unread_of (outcome.Fixed file ∷ cs) = unread_of cs
 unread_of (outcome.Unread u ∷ cs) = u ∷ unread_of cs
 
 -- Each of these names has its outcome: these are the files that were fixed, and these the others, both in order.
-pub record HaveCome (answers : Answers) (content : Text → Content) (before now : ℕ) (names : List Text) (fixed : List FixedFile) (unread : List Unread) : Type 0 where
+pub record HaveOutcomes (answers : Answers) (content : Text → Content) (before now : ℕ) (names : List Text) (fixed : List FixedFile) (unread : List Unread) : Type 0 where
   pub all : List FileOutcome
-  pub are : AreCome answers content before now names all
+  pub are : AreOutcomes answers content before now names all
   pub fixed_are : fixed ≡ fixed_of all
   pub unread_are : unread ≡ unread_of all

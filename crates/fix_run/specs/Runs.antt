@@ -8,9 +8,9 @@ use Rattle.file_store.specs.Contents.{Content, KeepsContents}
 use Rattle.fix_output.specs.declared.file.FixedFile.{FixedFile}
 use Rattle.fix_run.specs.declared.stop.FixStop.{FixStop}
 use Rattle.fix_run.specs.declared.stop.FixStop.TheVariants.{Any}
-use Rattle.fix_run.specs.Giving.{IsCut, IsGiven, Sinks, lines_of, status_of, way_of}
+use Rattle.fix_run.specs.Giving.{IsCut, IsGiven, Sinks, lines_of, status_of, delivery_of}
 use Rattle.fix_run.specs.Inputs.{Devices, input_content, input_name, reads_input}
-use Rattle.fix_run.specs.Outcomes.{Answers, HaveCome}
+use Rattle.fix_run.specs.Outcomes.{Answers, HaveOutcomes}
 use Rattle.fix_words.specs.declared.request.Request.{Request}
 use Rattle.gate_files.specs.declared.order.Order.TheVariants.{Given}
 use Rattle.gate_files.specs.declared.read.Unread.{Unread}
@@ -21,25 +21,25 @@ use Rattle.squawk_words.specs.Words.{Text}
 -- ---- what comes of the files
 
 -- what came of the input
-abbrev pub InputCame : Answers → Option (List ℕ) → ℕ → ℕ → List FixedFile → List Unread → Type 0
-InputCame answers left before now fixed unread = HaveCome answers (λ name. input_content left) before now (input_name ∷ []) fixed unread
+abbrev pub InputOutcomes : Answers → Option (List ℕ) → ℕ → ℕ → List FixedFile → List Unread → Type 0
+InputOutcomes answers left before now fixed unread = HaveOutcomes answers (λ name. input_content left) before now (input_name ∷ []) fixed unread
 
 -- What came of the files that words stand for: of those that no pattern leaves out, each once. The names come first; `named` is the count of
 -- failures then.
-pub record FilesCame (answers : Answers) (content : Text → Content) (before now : ℕ) (patterns words : List Text) (fixed : List FixedFile) (unread : List Unread) : Type 0 where
+pub record FilesOutcomes (answers : Answers) (content : Text → Content) (before now : ℕ) (patterns words : List Text) (fixed : List FixedFile) (unread : List Unread) : Type 0 where
   pub names : List Text
   pub named : ℕ
   pub are_named : AreFilesOf content before named Given words names
-  pub come : HaveCome answers content named now (chosen_of patterns names) fixed unread
+  pub come : HaveOutcomes answers content named now (chosen_of patterns names) fixed unread
 
 -- what came of the input or of files
-abbrev pub AllCameBy : Bool → Answers → Devices → List Text → List Text → List FixedFile → List Unread → Type 0
-AllCameBy true answers d patterns words fixed unread = InputCame answers d.left d.input_before d.input_now fixed unread
-AllCameBy false answers d patterns words fixed unread = FilesCame answers d.content d.files_before d.files_now patterns words fixed unread
+abbrev pub AllOutcomesBy : Bool → Answers → Devices → List Text → List Text → List FixedFile → List Unread → Type 0
+AllOutcomesBy true answers d patterns words fixed unread = InputOutcomes answers d.left d.input_before d.input_now fixed unread
+AllOutcomesBy false answers d patterns words fixed unread = FilesOutcomes answers d.content d.files_before d.files_now patterns words fixed unread
 
 -- what came of what these words name
-abbrev pub AllCame : Answers → Devices → List Text → List Text → List FixedFile → List Unread → Type 0
-AllCame answers d patterns words fixed unread = AllCameBy (reads_input words) answers d patterns words fixed unread
+abbrev pub AllOutcomes : Answers → Devices → List Text → List Text → List FixedFile → List Unread → Type 0
+AllOutcomes answers d patterns words fixed unread = AllOutcomesBy (reads_input words) answers d patterns words fixed unread
 
 -- ---- the run
 
@@ -48,13 +48,13 @@ AllCame answers d patterns words fixed unread = AllCameBy (reads_input words) an
 pub record HasFixed (answers : Answers) (patterns : List Text) (request : Request) (d : Devices) (old new : Sinks) (status : Status) (lines : List ℕ) : Type 0 where
   pub fixed : List FixedFile
   pub unread : List Unread
-  pub came : AllCame answers d patterns request.files fixed unread
-  pub given : IsGiven (way_of request) fixed old new
+  pub came : AllOutcomes answers d patterns request.files fixed unread
+  pub given : IsGiven (delivery_of request) fixed old new
   pub status_is : status ≡ status_of request.write fixed unread
   pub lines_are : lines ≡ lines_of fixed unread
 
 -- Why a run stopped: memory ran out, and nothing was printed or written; or it stopped while something was.
 pub data HasStopped (answers : Answers) (patterns : List Text) (request : Request) (d : Devices) (old new : Sinks) (stop : FixStop) : Type 0 where
   Early : stop ≡ Any NoMemory → Keeps old.held new.held → KeepsContents old.written new.written → HasStopped answers patterns request d old new stop
-  Late : (fixed : List FixedFile) → (unread : List Unread) → AllCame answers d patterns request.files fixed unread → IsCut (way_of request) fixed old new stop
+  Late : (fixed : List FixedFile) → (unread : List Unread) → AllOutcomes answers d patterns request.files fixed unread → IsCut (delivery_of request) fixed old new stop
       → HasStopped answers patterns request d old new stop

@@ -2,7 +2,7 @@
 ghost use Rattle.std.specs.Prelude.{◌≡◌, All, IfOk};
 ghost use Rattle.fix_run.specs.Outcomes as spec;
 ghost use Rattle.fix_run.specs.Inputs.{input_content, input_name, reads_input};
-ghost use Rattle.fix_run.specs.Runs.{AllCame, FilesCame, InputCame};
+ghost use Rattle.fix_run.specs.Runs.{AllOutcomes, FilesOutcomes, InputOutcomes};
 ghost use Rattle.squawk_run.specs.Stops.{IsReadStop};
 
 use crate::files::{Files, fix_files, keep, no_files};
@@ -50,7 +50,7 @@ fn refusal_of(stop: Stop) -> Result<Refusal, NoMemory>
 fn of_stop(alloc: Global, stop: Stop) -> Result<FileOutcome, NoMemory>
     requires { IsReadStop stop }
     ensures came { IfOk result (spec.IsOfStop input_name stop) }
-    ensures sound { IfOk result spec.IsSoundCame }
+    ensures sound { IfOk result spec.IsSoundOutcome }
 {
     let refusal = refusal_of(stop)?;
     unread(alloc, NAME, refusal)
@@ -62,8 +62,8 @@ fn input_came<S: Source, M: Fixer>(
     fixer: &M,
     src: &mut S,
 ) -> Result<FileOutcome, NoMemory>
-    ensures came { IfOk result (spec.HasCome (M.answers fixer.now) (input_content (S.left src.old)) (S.faults src.old) (S.faults src.new) input_name) }
-    ensures sound { IfOk result spec.IsSoundCame }
+    ensures came { IfOk result (spec.IsOutcome (M.answers fixer.now) (input_content (S.left src.old)) (S.faults src.old) (S.faults src.new) input_name) }
+    ensures sound { IfOk result spec.IsSoundOutcome }
 {
     match read_input(alloc, src) {
         Ok(bytes) => of_bytes(alloc, fixer, NAME, bytes.as_slice()),
@@ -73,7 +73,7 @@ fn input_came<S: Source, M: Fixer>(
 
 // What comes of the input alone.
 fn fix_input<S: Source, M: Fixer>(alloc: Global, fixer: &M, src: &mut S) -> Result<Files, NoMemory>
-    ensures come { IfOk result (λ all. InputCame (M.answers fixer.now) (S.left src.old) (S.faults src.old) (S.faults src.new) all.fixed.items all.unread.items) }
+    ensures come { IfOk result (λ all. InputOutcomes (M.answers fixer.now) (S.left src.old) (S.faults src.old) (S.faults src.new) all.fixed.items all.unread.items) }
     ensures sound { IfOk result (λ all. All spec.IsSound all.unread.items) }
     ensures sound_files { IfOk result (λ all. All spec.IsSoundFile all.fixed.items) }
 {
@@ -91,7 +91,7 @@ fn fix_named<F: FileStore, M: Fixer>(
     patterns: &Words,
     words: &Words,
 ) -> Result<Files, NoMemory>
-    ensures come { IfOk result (λ all. FilesCame (M.answers fixer.now) (F.content files.old) (F.faults files.old) (F.faults files.new) patterns.now words.now all.fixed.items all.unread.items) }
+    ensures come { IfOk result (λ all. FilesOutcomes (M.answers fixer.now) (F.content files.old) (F.faults files.old) (F.faults files.new) patterns.now words.now all.fixed.items all.unread.items) }
     ensures sound { IfOk result (λ all. All spec.IsSound all.unread.items) }
     ensures sound_files { IfOk result (λ all. All spec.IsSoundFile all.fixed.items) }
 {
@@ -109,7 +109,7 @@ pub(crate) fn fix_requested<F: FileStore, S: Source, M: Fixer>(
     files: &mut F,
     src: &mut S,
 ) -> Result<Files, NoMemory>
-    ensures come { IfOk result (λ all. AllCame (M.answers fixer.now)
+    ensures come { IfOk result (λ all. AllOutcomes (M.answers fixer.now)
         (record {
           content = F.content files.old;
           files_before = F.faults files.old;

@@ -49,7 +49,7 @@ pub(crate) fn fix_files<M: Fixer, F: FileStore>(
     files: &mut F,
     names: &Words,
 ) -> Result<Files, NoMemory>
-    ensures come { IfOk result (λ all. spec.HaveCome (M.answers fixer.now) (F.content files.old) (F.faults files.old) (F.faults files.new) names.now all.fixed.items all.unread.items) }
+    ensures come { IfOk result (λ all. spec.HaveOutcomes (M.answers fixer.now) (F.content files.old) (F.faults files.old) (F.faults files.new) names.now all.fixed.items all.unread.items) }
     ensures sound { IfOk result (λ all. All spec.IsSound all.unread.items) }
     ensures sound_files { IfOk result (λ all. All spec.IsSoundFile all.fixed.items) }
 {

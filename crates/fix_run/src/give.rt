@@ -17,7 +17,7 @@ use text_pos::NoMemory;
 
 /// What becomes of what is made.
 #[derive(Clone, Copy, Debug, PartialEq, Eq)]
-pub(crate) enum Way {
+pub(crate) enum Delivery {
     /// The differences are printed.
     Print,
     /// The text that is made of the input is printed.
@@ -27,15 +27,15 @@ pub(crate) enum Way {
 }
 
 /// What becomes of what is made for a request.
-pub(crate) fn way_of(request: &Request) -> Way
-    ensures { result ≡ spec.way_of request.now }
+pub(crate) fn delivery_of(request: &Request) -> Delivery
+    ensures { result ≡ spec.delivery_of request.now }
 {
     if !request.write {
-        Way::Print
+        Delivery::Print
     } else if reads_input(&request.files) {
-        Way::Input
+        Delivery::Input
     } else {
-        Way::Files
+        Delivery::Files
     }
 }
 
@@ -99,21 +99,21 @@ fn write_files<W: FileWriter>(
 /// Prints or writes what is made of files.
 pub(crate) fn give<W: FileWriter, K: Sink>(
     alloc: Global,
-    way: Way,
+    delivery: Delivery,
     files: &[FixedFile],
     writer: &mut W,
     out: &mut K,
 ) -> Result<(), FixStop>
-    ensures given { OnOk result (spec.IsGiven way files.now
+    ensures given { OnOk result (spec.IsGiven delivery files.now
         (record { held = K.held out.old; faults = K.faults out.old; written = W.content writer.old; write_faults = W.faults writer.old })
         (record { held = K.held out.new; faults = K.faults out.new; written = W.content writer.new; write_faults = W.faults writer.new })) }
-    ensures cut { IfErr result (spec.IsCut way files.now
+    ensures cut { IfErr result (spec.IsCut delivery files.now
         (record { held = K.held out.old; faults = K.faults out.old; written = W.content writer.old; write_faults = W.faults writer.old })
         (record { held = K.held out.new; faults = K.faults out.new; written = W.content writer.new; write_faults = W.faults writer.new })) }
 {
-    match way {
-        Way::Print => print_diffs(alloc, files, out),
-        Way::Input => print_bytes(first_text(files).as_bytes(), out),
-        Way::Files => write_files(alloc, files, writer),
+    match delivery {
+        Delivery::Print => print_diffs(alloc, files, out),
+        Delivery::Input => print_bytes(first_text(files).as_bytes(), out),
+        Delivery::Files => write_files(alloc, files, writer),
     }
 }

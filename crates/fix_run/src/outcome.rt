@@ -74,7 +74,7 @@ fn of_text<M: Fixer>(
 ) -> Result<FileOutcome, NoMemory>
     requires { length text.now < 2 ^ 32 }
     ensures came { IfOk result (spec.IsOfText (M.answers fixer.now) name.now text.now) }
-    ensures sound { IfOk result spec.IsSoundCame }
+    ensures sound { IfOk result spec.IsSoundOutcome }
 {
     match fixer.fix(alloc, text)? {
         TextOutcome::Fixed { text: new, others } => Ok(FileOutcome::Fixed(fixed_file(
@@ -96,7 +96,7 @@ pub(crate) fn of_bytes<M: Fixer>(
 ) -> Result<FileOutcome, NoMemory>
     requires { length bytes.now < 2 ^ 32 }
     ensures came { IfOk result (spec.IsOfBytes (M.answers fixer.now) name.now bytes.now) }
-    ensures sound { IfOk result spec.IsSoundCame }
+    ensures sound { IfOk result spec.IsSoundOutcome }
 {
     match from_utf8(bytes) {
         Ok(text) => of_text(alloc, fixer, name, text),
@@ -111,8 +111,8 @@ pub(crate) fn of_bytes<M: Fixer>(
 /// What comes of a file of which no byte was read. The error comes when memory runs out.
 pub(crate) fn unread(alloc: Global, name: &str, refusal: Refusal) -> Result<FileOutcome, NoMemory>
     requires { spec.IsUnplaced refusal }
-    ensures came { IfOk result (spec.IsUnreadCame name.now refusal) }
-    ensures sound { IfOk result spec.IsSoundCame }
+    ensures came { IfOk result (spec.IsUnreadOutcome name.now refusal) }
+    ensures sound { IfOk result spec.IsSoundOutcome }
 {
     Ok(FileOutcome::Unread(unread_file(alloc, name, "", refusal)?))
 }
@@ -133,7 +133,7 @@ fn refusal_of(error: FileError) -> Result<Refusal, NoMemory>
 // What comes of a file that could not be read.
 fn of_error(alloc: Global, name: &str, error: FileError) -> Result<FileOutcome, NoMemory>
     ensures came { IfOk result (spec.IsOfError name.now error) }
-    ensures sound { IfOk result spec.IsSoundCame }
+    ensures sound { IfOk result spec.IsSoundOutcome }
 {
     let refusal = refusal_of(error)?;
     unread(alloc, name, refusal)
@@ -147,8 +147,8 @@ pub(crate) fn fix_file<M: Fixer, F: FileStore>(
     files: &mut F,
     name: &str,
 ) -> Result<FileOutcome, NoMemory>
-    ensures came { IfOk result (spec.HasCome (M.answers fixer.now) (F.content files.old name.now) (F.faults files.old) (F.faults files.new) name.now) }
-    ensures sound { IfOk result spec.IsSoundCame }
+    ensures came { IfOk result (spec.IsOutcome (M.answers fixer.now) (F.content files.old name.now) (F.faults files.old) (F.faults files.new) name.now) }
+    ensures sound { IfOk result spec.IsSoundOutcome }
     ensures kept { KeepsContents (F.content files.old) (F.content files.new) }
     ensures later { F.faults files.old ≤ F.faults files.new }
 {

@@ -2,12 +2,12 @@
 ghost use Rattle.std.specs.Prelude.{◌≡◌, All, IfErr, IfOk};
 ghost use Rattle.fix_run.specs.Giving.{lines_of};
 ghost use Rattle.fix_run.specs.Outcomes.{IsSound};
-ghost use Rattle.fix_run.specs.Runs.{AllCame, HasFixed, HasStopped};
+ghost use Rattle.fix_run.specs.Runs.{AllOutcomes, HasFixed, HasStopped};
 
 use crate::asked::fix_requested;
 use crate::files::Files;
 use crate::fixer::Fixer;
-use crate::give::{give, way_of};
+use crate::give::{delivery_of, give};
 use crate::lines::lines_of;
 use crate::status::status_of;
 use crate::stop::FixStop;
@@ -46,7 +46,7 @@ fn planned<F: FileStore, S: Source, M: Fixer>(
     files: &mut F,
     src: &mut S,
 ) -> Result<Plan, NoMemory>
-    ensures come { IfOk result (λ plan. AllCame (M.answers fixer.now)
+    ensures come { IfOk result (λ plan. AllOutcomes (M.answers fixer.now)
         (record {
           content = F.content files.old;
           files_before = F.faults files.old;
@@ -108,7 +108,7 @@ pub fn fix<F: FileStore, W: FileWriter, S: Source, K: Sink, M: Fixer>(
     };
     let fixed = plan.files.fixed.as_slice();
     let status = status_of(request.write, fixed, plan.files.unread.as_slice());
-    match give(alloc, way_of(request), fixed, writer, out) {
+    match give(alloc, delivery_of(request), fixed, writer, out) {
         Ok(()) => Ok(Done {
             status,
             lines: plan.lines,

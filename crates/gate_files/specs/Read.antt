@@ -11,8 +11,8 @@ use Rattle.source_file.specs.declared.refusal.Refusal.{Refusal}
 use Rattle.source_file.specs.declared.refusal.Refusal.TheVariants as refusal
 use Rattle.squawk_stream.specs.Faults.{Rose}
 use Rattle.squawk_words.specs.Words.{Text}
-use Rattle.gate_files.specs.declared.read.Came.{Came}
-use Rattle.gate_files.specs.declared.read.Came.TheVariants as came
+use Rattle.gate_files.specs.declared.read.Outcome.{Outcome}
+use Rattle.gate_files.specs.declared.read.Outcome.TheVariants as came
 use Rattle.gate_files.specs.declared.read.MigrationFile.{MigrationFile}
 use Rattle.gate_files.specs.declared.read.Reading.{Reading}
 use Rattle.gate_files.specs.declared.read.Reading.TheVariants.{Files, Unread as NotRead}
@@ -73,15 +73,15 @@ IsUnread content before now front (refusal.Syntax at) = ⊥
 -- ---- one file
 
 -- what comes of these bytes
-abbrev pub IsTextOf : Text → Text → Came → Type 0
+abbrev pub IsTextOf : Text → Text → Outcome → Type 0
 IsTextOf name bytes (came.Read file) = IsFile name bytes file × IsUtf8 bytes
 IsTextOf name bytes (came.Unread unread) =
     (at : ℕ) × (unread.name ≡ name) × (unread.refusal ≡ refusal.NotUtf8 at) × IsNotUtf8 bytes unread.front at × (length unread.front < 2 ^ 32)
 
 -- what came of a name that holds this content
-abbrev pub HasCome : Content → ℕ → ℕ → Text → Came → Type 0
-HasCome content before now name (came.Read file) = IsRead content name file
-HasCome content before now name (came.Unread unread) =
+abbrev pub IsOutcome : Content → ℕ → ℕ → Text → Outcome → Type 0
+IsOutcome content before now name (came.Read file) = IsRead content name file
+IsOutcome content before now name (came.Unread unread) =
     (unread.name ≡ name) × IsUnread content before now unread.front unread.refusal × (length unread.front < 2 ^ 32)
 
 -- ---- files

@@ -1,7 +1,7 @@
 //! The texts of files.
 ghost use Rattle.std.specs.Prelude.{◌≡◌, ◌<◌, ◌≤◌, ◌^◌, IfOk, length};
 ghost use Rattle.file_store.specs.Contents.{KeepsContents};
-ghost use Rattle.gate_files.specs.Read.{HasCome, IsFile, IsReading, IsTextOf, IsUnreadAs, IsUnreadBy};
+ghost use Rattle.gate_files.specs.Read.{IsOutcome, IsFile, IsReading, IsTextOf, IsUnreadAs, IsUnreadBy};
 
 use checked_file::readable;
 use file_store::{FileError, FileStore};
@@ -43,7 +43,7 @@ pub enum Reading {
 
 // What came of reading one file.
 #[derive(Drop)]
-enum Came {
+enum Outcome {
     Read(MigrationFile),
     Unread(Unread),
 }
@@ -90,23 +90,23 @@ fn file(alloc: Global, name: &str, text: &str) -> Result<MigrationFile, NoMemory
 }
 
 // What comes of a file of these bytes.
-fn of_bytes(alloc: Global, name: &str, bytes: &[u8]) -> Result<Came, NoMemory>
+fn of_bytes(alloc: Global, name: &str, bytes: &[u8]) -> Result<Outcome, NoMemory>
     requires { length bytes.now < 2 ^ 32 }
     ensures { IfOk result (IsTextOf name.now bytes.now) }
 {
     match from_utf8(bytes) {
-        Ok(text) => Ok(Came::Read(file(alloc, name, text)?)),
+        Ok(text) => Ok(Outcome::Read(file(alloc, name, text)?)),
         Err(error) => {
             let at = TextSize::new(error.valid_up_to() as u32);
             let refusal = Refusal::NotUtf8 { at };
-            Ok(Came::Unread(unread_file(alloc, name, readable(bytes), refusal)?))
+            Ok(Outcome::Unread(unread_file(alloc, name, readable(bytes), refusal)?))
         }
     }
 }
 
 // What comes of a file.
-fn read_one<F: FileStore>(alloc: Global, files: &mut F, name: &str) -> Result<Came, NoMemory>
-    ensures came { IfOk result (HasCome (F.content files.old name.now) (F.faults files.old) (F.faults files.new) name.now) }
+fn read_one<F: FileStore>(alloc: Global, files: &mut F, name: &str) -> Result<Outcome, NoMemory>
+    ensures came { IfOk result (IsOutcome (F.content files.old name.now) (F.faults files.old) (F.faults files.new) name.now) }
     ensures kept { KeepsContents (F.content files.old) (F.content files.new) }
     ensures later { F.faults files.old ≤ F.faults files.new }
 {
@@ -114,7 +114,7 @@ fn read_one<F: FileStore>(alloc: Global, files: &mut F, name: &str) -> Result<Ca
         Ok(bytes) => of_bytes(alloc, name, bytes.as_slice()),
         Err(error) => {
             let refusal = refusal_of(error)?;
-            Ok(Came::Unread(unread_file(alloc, name, "", refusal)?))
+            Ok(Outcome::Unread(unread_file(alloc, name, "", refusal)?))
         }
     }
 }
@@ -133,8 +133,8 @@ pub fn read_files<F: FileStore>(
     for i in 0..names.len() {
         let came = read_one(alloc, files, names.get(i))?;
         match came {
-            Came::Read(file) => all.push(file)?,
-            Came::Unread(file) => return Ok(Reading::Unread(file)),
+            Outcome::Read(file) => all.push(file)?,
+            Outcome::Unread(file) => return Ok(Reading::Unread(file)),
         }
     }
     Ok(Reading::Files(all))

@@ -10,7 +10,7 @@ returns-clause-done g c =
     ended_ok c.fails_on.result c.check-done.result _ _ _ c.ended_by.ensures
     (λ s h. has_checked c.args.request.now c.args.is_painted (content c.args.files.now) (content c.load_setup.new.files) (faults c.args.files.now) (faults c.load_setup.new.files) (faults c.check-done.new.files)
     (g.S.Source.left c.args.src.now) (g.S.Source.faults c.args.src.now) (g.S.Source.faults c.check-done.new.src) (g.K.Sink.held c.args.out.now) (g.K.Sink.held c.check-done.new.out) s
-    c.in-Ok.setup c.in-Ok-chosen.choices c.judge_by-judge.result c.style_of.result c.fails_on.result c.in-Ok.ensures.loaded load.kept load.later c.in-Ok-chosen.ensures.chosen c.judge_by-judge.ensures
+    c.in-Ok.setup c.in-Ok-chosen.choices c.linter_by-linter.result c.style_of.result c.fails_on.result c.in-Ok.ensures.loaded load.kept load.later c.in-Ok-chosen.ensures.chosen c.linter_by-linter.ensures
     c.style_of.ensures c.fails_on.ensures h)
     c.check-done.ensures.done
 
@@ -23,5 +23,5 @@ returns-clause-stopped g c =
     (λ s h. has_stopped c.args.request.now HELP.now VERSION.now c.args.is_painted (content c.args.files.now) (content c.load_setup.new.files) (faults c.args.files.now) (faults c.load_setup.new.files)
     (faults c.check-done.new.files) (g.S.Source.left c.args.src.now) (g.S.Source.faults c.args.src.now) (g.S.Source.faults c.check-done.new.src) (g.K.Sink.held c.args.out.now) (g.K.Sink.held c.check-done.new.out)
     (g.K.Sink.faults c.args.out.now) (g.K.Sink.faults c.check-done.new.out) s
-    c.in-Ok.setup c.in-Ok-chosen.choices c.judge_by-judge.result c.style_of.result c.in-Ok.ensures.loaded load.kept load.later c.in-Ok-chosen.ensures.chosen c.judge_by-judge.ensures c.style_of.ensures h)
+    c.in-Ok.setup c.in-Ok-chosen.choices c.linter_by-linter.result c.style_of.result c.in-Ok.ensures.loaded load.kept load.later c.in-Ok-chosen.ensures.chosen c.linter_by-linter.ensures c.style_of.ensures h)
     c.check-done.ensures.stopped

@@ -3,4 +3,4 @@ use Rattle.check_run.proofs.run.check_left.Goals as goal
 
 pub returns-clause-left : goal.returns-clause-left
 returns-clause-left g c =
-    IfOk-weaker c.sift.result _ _ (λ all h. record { files = c.in_ok-checked.checked.items; are = c.in_ok-checked.ensures.checked; sifted = h }) c.sift.ensures.left
+    IfOk-weaker c.apply.result _ _ (λ all h. record { files = c.in_ok-checked.checked.items; are = c.in_ok-checked.ensures.checked; filtered = h }) c.apply.ensures.left

@@ -8,7 +8,7 @@ use Rattle.check_run.proofs.run.check_named.Goals as goal
 pub returns-clause-checked : goal.returns-clause-checked
 returns-clause-checked g c =
     let e = c.in_ok-named.ensures in
-    let answers = g.J.Judge.answers c.args.judge.now in
+    let answers = g.L.Lint.answers c.args.linter.now in
     let content = g.F.FileStore.content c.args.files.now in
     let named = g.F.FileStore.faults c.expanded.new.files in
     let last = g.F.FileStore.faults c.check_files-checked.new.files in

@@ -1,7 +1,7 @@
 use Rattle.std.proofs.Common.{List, arith, subst}
 use Rattle.std.proofs.lemmas.Result.{IfOk-weaker}
 use Rattle.squawk_words.specs.Words.{Text}
-use Rattle.fix_run.specs.Outcomes.{HaveCome}
+use Rattle.fix_run.specs.Outcomes.{HaveOutcomes}
 use Rattle.fix_run.proofs.Lists.{have_moved}
 use Rattle.fix_run.proofs.asked.fix_named.Goals as goal
 
@@ -18,7 +18,7 @@ returns-clause-come g c =
       names = c.in_ok-named.named;
       named = named;
       are_named = e.named;
-      come = subst (λ (ns : List Text). HaveCome answers content named last ns all.fixed.items all.unread.items) c.in_ok-names.ensures
+      come = subst (λ (ns : List Text). HaveOutcomes answers content named last ns all.fixed.items all.unread.items) c.in_ok-names.ensures
           (have_moved answers content (g.F.FileStore.content c.named_files.new.files) named last named names all.fixed.items all.unread.items e.kept (omega arith) h);
     })
     c.fix_files.ensures.come

@@ -1,6 +1,6 @@
 use Rattle.std.proofs.Common.{List, subst}
 use Rattle.fix_output.specs.declared.file.FixedFile.{FixedFile}
-use Rattle.fix_run.specs.declared.give.Way.{Way}
+use Rattle.fix_run.specs.declared.give.Delivery.{Delivery}
 use Rattle.fix_run.specs.Giving.{IsCut, Sinks}
 use Rattle.fix_run.specs.Runs.{Late}
 use Rattle.fix_run.proofs.run.fix.Goals as goal
@@ -20,5 +20,5 @@ returns-in-Err-give-clause-stopped g c =
       written = g.W.FileWriter.content c.give.new.writer;
       write_faults = g.W.FileWriter.faults c.give.new.writer;
     } in
-    let cut = subst (λ (fs : List FixedFile). IsCut c.way_of.result fs old new c.in-Err-give.stop) c.as_slice-fixed.ensures.value c.in-Err-give.ensures.cut in
-    Late files.fixed.items files.unread.items c.in-Ok.ensures.come (subst (λ (w : Way). IsCut w files.fixed.items old new c.in-Err-give.stop) c.way_of.ensures cut)
+    let cut = subst (λ (fs : List FixedFile). IsCut c.delivery_of.result fs old new c.in-Err-give.stop) c.as_slice-fixed.ensures.value c.in-Err-give.ensures.cut in
+    Late files.fixed.items files.unread.items c.in-Ok.ensures.come (subst (λ (w : Delivery). IsCut w files.fixed.items old new c.in-Err-give.stop) c.delivery_of.ensures cut)

@@ -2,16 +2,16 @@ use Rattle.std.proofs.Common.{List, ℕ, subst}
 use Rattle.std.proofs.lemmas.Result.{IfErr-weaker}
 use Rattle.baseline_file.specs.Loaded.{AreRefused}
 use Rattle.baseline_file.proofs.Refusals.{read_faulty, unread}
-use Rattle.baseline_file.proofs.load.file_sieve.Goals as goal
+use Rattle.baseline_file.proofs.load.file_filter.Goals as goal
 
 pub returns-in-Ok-clause-refused : goal.returns-in-Ok-clause-refused
 returns-in-Ok-clause-refused g c =
     let content = g.F.FileStore.content c.args.files.now c.args.name.now in
     let name = c.args.name.now in
-    IfErr-weaker c.bytes_sieve.result (AreRefused name c.as_slice.result.now) _
+    IfErr-weaker c.bytes_filter.result (AreRefused name c.as_slice.result.now) _
     (λ e h. read_faulty content (g.F.FileStore.faults c.args.files.now) (g.F.FileStore.faults c.read.new.self) name c.in-Ok.bytes.items e c.in-Ok.ensures.bytes
     (subst (λ (bytes : List ℕ). AreRefused name bytes e) c.as_slice.ensures.value h))
-    c.bytes_sieve.ensures.refused
+    c.bytes_filter.ensures.refused
 
 pub returns-in-Err-Missing : goal.returns-in-Err-Missing
 returns-in-Err-Missing g c =

@@ -2,7 +2,7 @@ use Rattle.std.proofs.Common.{◌≡◌, Some, subst}
 use Rattle.check_baseline.specs.declared.baseline.BaselineError.{BaselineError}
 use Rattle.check_baseline.specs.Known.{IsNoBaseline, bad_line}
 use Rattle.baseline_file.proofs.Refusals.{text_refused}
-use Rattle.baseline_file.proofs.load.text_sieve.Goals as goal
+use Rattle.baseline_file.proofs.load.text_filter.Goals as goal
 
 pub returns-in-Err-Line-clause-refused : goal.returns-in-Err-Line-clause-refused
 returns-in-Err-Line-clause-refused c =

@@ -8,11 +8,11 @@ use std::alloc::Global;
 use text_pos::NoMemory;
 
 /// What leaves reports out of the files of a run. `leaves` says what is left of them.
-pub trait Sieve {
+pub trait Filter {
     ghost leaves: { Self → List Checked → List Checked → Type 0 };
 
     /// What is left of the files of a run. The error comes when memory runs out.
-    fn sift(&self, alloc: Global, files: Vec<Checked>) -> Result<Vec<Checked>, NoMemory>
+    fn apply(&self, alloc: Global, files: Vec<Checked>) -> Result<Vec<Checked>, NoMemory>
         requires { All IsSound files.items }
         ensures left { IfOk result (λ all. leaves self.now files.items all.items) }
         ensures sound { IfOk result (λ all. All IsSound all.items) };
