@@ -52,6 +52,9 @@ HINTS = {
     "psql": "a line that begins with a backslash is a command of psql, not SQL: leave it out",
     "atomic": "a body in BEGIN ATOMIC .. END can't be read: write it as a string, as in AS $$ .. $$",
     "escaped": "a name with U& before its quotes can't be read: write its characters themselves",
+    "syntax-error": "expected: a statement as PostgreSQL reads it, up to its semicolon",
+    "unterminated": "expected: its end, a closing quote or */, before the file ends",
+    "not-utf8": "expected: text in UTF-8, as iconv -f LATIN1 -t UTF-8 makes it of Latin-1",
 }
 
 
@@ -121,8 +124,8 @@ def line_end(text, at):
 
 # What a file has.
 
-def hint(text, at):
-    """What may help with a text that can't be read at a place."""
+def hint(text, at, kind):
+    """What may help with a text that can't be read at a place, for this kind of fault: its usual cause, or what was expected."""
     start = line_start(text, at)
     before = text[line_start(text, start - 1):start - 1].lower() if start else b""
     statement = text[at:].split(b";")[0].lower()
@@ -132,13 +135,13 @@ def hint(text, at):
         return HINTS["psql"]
     if b"begin atomic" in statement:
         return HINTS["atomic"]
-    return HINTS["escaped"] if b'u&"' in statement else None
+    return HINTS["escaped"] if b'u&"' in statement else HINTS[kind]
 
 
 def refused(name, data, kind, at=0, readable=b""):
     status, message = REFUSALS[kind]
     has_place = kind in ("not-utf8", "unterminated", "syntax-error")
-    found = hint(readable, at) if kind in ("unterminated", "syntax-error") else None
+    found = hint(readable, at, kind) if kind in ("unterminated", "syntax-error") else HINTS.get(kind)
     return Checked(name, readable, [Finding("error", kind, message, at, at, None, found, None, (), has_place, None)], status)
 
 

@@ -1,10 +1,10 @@
--- What may help with a text that can't be read, by what it has at the place of the fault.
+-- What may help with a text that can't be read, by what it has at the place of the fault: what is mostly the cause, or else what was expected.
 use Rattle.std.specs.Prelude.{ℕ, ◌-◌, ◌==◌, Bool, true, false, ◌&&◌, ◌||◌, if◌then◌else◌, List, [], ◌∷◌, ◌++◌, codes, drop, take, slice_range, Option, Some, None}
 use Rattle.std.specs.Char.{to_ascii_lowercase}
 use Rattle.std.specs.List.{position}
 use Rattle.source_file.specs.Line.{Text, line_start_of}
 use Rattle.source_file.specs.declared.hints.Hint.{Hint}
-use Rattle.source_file.specs.declared.hints.Hint.TheVariants.{CopiedRows, PsqlCommand, AtomicBody, EscapedName}
+use Rattle.source_file.specs.declared.hints.Hint.TheVariants.{CopiedRows, PsqlCommand, AtomicBody, EscapedName, Statement, End, Utf8}
 use Rattle.source_file.specs.declared.refusal.Refusal.{Refusal}
 use Rattle.source_file.specs.declared.refusal.Refusal.TheVariants.{Missing, Unreadable, NotUtf8, TooLong, Unterminated, Syntax}
 
@@ -37,21 +37,21 @@ line_before text at =
     let start = line_start_of text at in
     if start == 0 then [] else slice_range text (line_start_of text (start - 1)) (start - 1)
 
--- the hint for what can't be read from a place on
-unfoldable pub hint_at : Text → ℕ → Option Hint
-hint_at text at =
-    if has_word (line_before text at) (codes "from stdin") then Some CopiedRows
-    else if begins_with (drop at text) (92 ∷ []) then Some PsqlCommand
-    else if has_word (first_statement (drop at text)) (codes "begin atomic") then Some AtomicBody
-    else if has_word (first_statement (drop at text)) (codes "u&" ++ 34 ∷ []) then Some EscapedName
-    else None
+-- the hint for what can't be read from a place on, where something else is expected
+unfoldable pub hint_at : Text → ℕ → Hint → Hint
+hint_at text at expected =
+    if has_word (line_before text at) (codes "from stdin") then CopiedRows
+    else if begins_with (drop at text) (92 ∷ []) then PsqlCommand
+    else if has_word (first_statement (drop at text)) (codes "begin atomic") then AtomicBody
+    else if has_word (first_statement (drop at text)) (codes "u&" ++ 34 ∷ []) then EscapedName
+    else expected
 
 abbrev pub hint_of : Text → Refusal → Option Hint
-hint_of text (Unterminated at) = hint_at text at
-hint_of text (Syntax at) = hint_at text at
+hint_of text (Unterminated at) = Some (hint_at text at End)
+hint_of text (Syntax at) = Some (hint_at text at Statement)
+hint_of text (NotUtf8 at) = Some Utf8
 hint_of text Missing = None
 hint_of text Unreadable = None
-hint_of text (NotUtf8 at) = None
 hint_of text TooLong = None
 
 abbrev pub text_of : Hint → List ℕ
@@ -59,3 +59,6 @@ text_of CopiedRows = codes "the lines after COPY .. FROM STDIN are data, not SQL
 text_of PsqlCommand = codes "a line that begins with a backslash is a command of psql, not SQL: leave it out"
 text_of AtomicBody = codes "a body in BEGIN ATOMIC .. END can't be read: write it as a string, as in AS $$ .. $$"
 text_of EscapedName = codes "a name with U& before its quotes can't be read: write its characters themselves"
+text_of Statement = codes "expected: a statement as PostgreSQL reads it, up to its semicolon"
+text_of End = codes "expected: its end, a closing quote or */, before the file ends"
+text_of Utf8 = codes "expected: text in UTF-8, as iconv -f LATIN1 -t UTF-8 makes it of Latin-1"

@@ -6,7 +6,7 @@ ghost use Rattle.source_file.specs.Refusals as refusals;
 use crate::line::line_start;
 use crate::refusal::Refusal;
 
-/// What may help with a text that can't be read.
+/// What may help with a text that can't be read: what is mostly the cause, or else what was expected.
 #[derive(Clone, Copy, Debug, PartialEq, Eq)]
 pub enum Hint {
     /// The lines after COPY .. FROM STDIN are data.
@@ -17,6 +17,12 @@ pub enum Hint {
     AtomicBody,
     /// A name with U& before its quotes.
     EscapedName,
+    /// A statement, whatever else is there.
+    Statement,
+    /// The end of a quoted piece or of a comment.
+    End,
+    /// Text in UTF-8.
+    Utf8,
 }
 
 impl Hint {
@@ -37,6 +43,10 @@ impl Hint {
             Hint::EscapedName => {
                 "a name with U& before its quotes can't be read: write its characters themselves"
             }
+            Hint::Statement => "expected: a statement as PostgreSQL reads it, up to its semicolon",
+            Hint::End => "expected: its end, a closing quote or */, before the file ends",
+            Hint::Utf8 =>
+                "expected: text in UTF-8, as iconv -f LATIN1 -t UTF-8 makes it of Latin-1",
         }
     }
 }
@@ -99,27 +109,27 @@ fn line_before(text: &[u8], at: usize) -> &[u8]
     &text[line_start(text, start - 1)..start - 1]
 }
 
-// The hint for what can't be read from a place on.
+// The hint for what can't be read from a place on, where something else is expected.
 #[tactic(auto, using(crate::proofs::Feeds::rest_whole), unfolding(crate::specs::Hints::hint_at))]
-fn hint_at(text: &[u8], at: usize) -> Option<Hint>
+fn hint_at(text: &[u8], at: usize, expected: Hint) -> Hint
     requires { at ≤ length text.now }
-    ensures { result ≡ hint_at text.now at }
+    ensures { result ≡ hint_at text.now at expected }
 {
     if has_word(line_before(text, at), b"from stdin") {
-        return Some(Hint::CopiedRows);
+        return Hint::CopiedRows;
     }
     let rest = &text[at..];
     if begins_with(rest, b"\\") {
-        return Some(Hint::PsqlCommand);
+        return Hint::PsqlCommand;
     }
     let statement = first_statement(rest);
     if has_word(statement, b"begin atomic") {
-        return Some(Hint::AtomicBody);
+        return Hint::AtomicBody;
     }
     if has_word(statement, b"u&\"") {
-        return Some(Hint::EscapedName);
+        return Hint::EscapedName;
     }
-    None
+    expected
 }
 
 /// What may help with a file that could not be linted, by its text at the place of the fault.
@@ -128,9 +138,13 @@ pub fn hint_for(text: &str, refusal: &Refusal) -> Option<Hint>
     ensures { result ≡ hint_of text.now refusal.now }
 {
     match refusal {
-        Refusal::Unterminated { at } | Refusal::Syntax { at } => {
-            hint_at(text.as_bytes(), at.raw() as usize)
+        Refusal::Unterminated { at } => {
+            Some(hint_at(text.as_bytes(), at.raw() as usize, Hint::End))
         }
-        Refusal::Missing | Refusal::Unreadable | Refusal::NotUtf8 { .. } | Refusal::TooLong => None,
+        Refusal::Syntax { at } => {
+            Some(hint_at(text.as_bytes(), at.raw() as usize, Hint::Statement))
+        }
+        Refusal::NotUtf8 { .. } => Some(Hint::Utf8),
+        Refusal::Missing | Refusal::Unreadable | Refusal::TooLong => None,
     }
 }
