@@ -52,9 +52,9 @@ HINTS = {
     "psql": "a line that begins with a backslash is a command of psql, not SQL: leave it out",
     "atomic": "a body in BEGIN ATOMIC .. END can't be read: write it as a string, as in AS $$ .. $$",
     "escaped": "a name with U& before its quotes can't be read: write its characters themselves",
-    "syntax-error": "expected: a statement as PostgreSQL reads it, up to its semicolon",
-    "unterminated": "expected: its end, a closing quote or */, before the file ends",
-    "not-utf8": "expected: text in UTF-8, as iconv -f LATIN1 -t UTF-8 makes it of Latin-1",
+    "syntax-error": "write the statement as PostgreSQL takes it",
+    "unterminated": "end the quoted piece or the comment in this file",
+    "not-utf8": "write the file as UTF-8",
 }
 
 
@@ -529,7 +529,7 @@ def is_about_more(case):
     options = {word.partition("=")[0] for word in case.words if word.startswith("--") and word != "--"}
     foreign = options - {*OWN, *FLAGS, "--only", "--exclude", "--include", "--non-volatile", "--pg-major", "--pg-minor", "--pg-patch"}
     psql = re.search(rb"(?mi)^(?:\xef\xbb\xbf)?(?:\\|copy )", case.text)
-    return names or bool(foreign) or bool(psql) or ".squawk.toml" in lines
+    return names or bool(foreign) or bool(psql) or ".squawk.toml" in lines or bool({"-h", "-V"} & {*case.words})
 
 
 def compared(what, want, found):

@@ -2,8 +2,10 @@
 use Rattle.std.specs.Prelude.{ℕ, List, codes, Option, Some, None, if◌then◌else◌}
 use Rattle.lint_base.specs.declared.rule.Rule.{Rule}
 use Rattle.lint_base.specs.Rules.{name_of as rule_name}
+use Rattle.source_file.specs.declared.hints.Hint.TheVariants.{Statement, End, Utf8}
 use Rattle.source_file.specs.declared.refusal.Refusal.{Refusal}
 use Rattle.source_file.specs.declared.refusal.Refusal.TheVariants as refusal
+use Rattle.source_file.specs.Hints.{text_of}
 use Rattle.source_file.specs.Refusals as refusals
 use Rattle.gate_machine.specs.declared.verdict.Why.{Why}
 use Rattle.gate_machine.specs.declared.verdict.Why.TheVariants as why
@@ -34,8 +36,8 @@ why_place why.NotPlain = None
 why_place (why.Found at rule) = Some at
 
 abbrev pub why_help : Why → List ℕ
-why_help (why.Unterminated at) = codes "end the quoted piece or the comment in this file"
-why_help (why.Syntax at) = codes "write the statement as PostgreSQL takes it"
+why_help (why.Unterminated at) = text_of End
+why_help (why.Syntax at) = text_of Statement
 why_help (why.Ignored at) = codes "take the comment out: of an accepted file no report is left out"
 why_help why.NotPlain = codes "take out what divides a transaction or changes search_path, as SAVEPOINT and DISCARD"
 why_help (why.Found at rule) = codes "says why, and what to write instead"
@@ -52,10 +54,10 @@ why_rule (why.Found at rule) = Some rule
 abbrev pub refusal_help : Refusal → List ℕ
 refusal_help refusal.Missing = codes "name a file or a folder that is there"
 refusal_help refusal.Unreadable = codes "see that it is a file, and that it may be read"
-refusal_help (refusal.NotUtf8 at) = codes "write the file as UTF-8"
+refusal_help (refusal.NotUtf8 at) = text_of Utf8
 refusal_help refusal.TooLong = codes "split the file"
-refusal_help (refusal.Unterminated at) = codes "end the quoted piece or the comment in this file"
-refusal_help (refusal.Syntax at) = codes "write the statement as PostgreSQL takes it"
+refusal_help (refusal.Unterminated at) = text_of End
+refusal_help (refusal.Syntax at) = text_of Statement
 
 -- a name, as rules have them
 abbrev pub name_of : Cause → List ℕ

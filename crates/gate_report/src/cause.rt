@@ -4,7 +4,7 @@ ghost use Rattle.gate_report.specs.Causes as spec;
 
 use gate_machine::Why;
 use lint_base::Rule;
-use source_file::Refusal;
+use source_file::{Hint, Refusal};
 use text_pos::TextSize;
 
 /// Why a file is not accepted.
@@ -62,8 +62,8 @@ fn why_help(why: Why) -> &'static str
     ensures { result.now ≡ spec.why_help why }
 {
     match why {
-        Why::Unterminated { .. } => "end the quoted piece or the comment in this file",
-        Why::Syntax { .. } => "write the statement as PostgreSQL takes it",
+        Why::Unterminated { .. } => Hint::End.text(),
+        Why::Syntax { .. } => Hint::Statement.text(),
         Why::Ignored { .. } => "take the comment out: of an accepted file no report is left out",
         Why::NotPlain => {
             "take out what divides a transaction or changes search_path, as SAVEPOINT and DISCARD"
@@ -89,10 +89,10 @@ fn refusal_help(refusal: Refusal) -> &'static str
     match refusal {
         Refusal::Missing => "name a file or a folder that is there",
         Refusal::Unreadable => "see that it is a file, and that it may be read",
-        Refusal::NotUtf8 { .. } => "write the file as UTF-8",
+        Refusal::NotUtf8 { .. } => Hint::Utf8.text(),
         Refusal::TooLong => "split the file",
-        Refusal::Unterminated { .. } => "end the quoted piece or the comment in this file",
-        Refusal::Syntax { .. } => "write the statement as PostgreSQL takes it",
+        Refusal::Unterminated { .. } => Hint::End.text(),
+        Refusal::Syntax { .. } => Hint::Statement.text(),
     }
 }
 

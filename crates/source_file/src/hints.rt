@@ -43,10 +43,9 @@ impl Hint {
             Hint::EscapedName => {
                 "a name with U& before its quotes can't be read: write its characters themselves"
             }
-            Hint::Statement => "expected: a statement as PostgreSQL reads it, up to its semicolon",
-            Hint::End => "expected: its end, a closing quote or */, before the file ends",
-            Hint::Utf8 =>
-                "expected: text in UTF-8, as iconv -f LATIN1 -t UTF-8 makes it of Latin-1",
+            Hint::Statement => "write the statement as PostgreSQL takes it",
+            Hint::End => "end the quoted piece or the comment in this file",
+            Hint::Utf8 => "write the file as UTF-8",
         }
     }
 }

@@ -1,4 +1,4 @@
-use Rattle.std.proofs.Common.{◌∙◌, sym}
+use Rattle.std.proofs.Common.{sym}
 use Rattle.std.specs.Str.{bytes_eq}
 use Rattle.squawk_run.proofs.Search.{found_in, none_next}
 use Rattle.help_words.proofs.asks.has_word.Goals as goal

@@ -4,4 +4,4 @@ use Rattle.help_words.proofs.asks.has_word.Given as goal
 
 -- none of the words so far is
 abbrev pub invariant-loop-i : goal.invariant-loop-i
-invariant-loop-i l = has_word l.wanted.now (take l.i l.words) ≡ false
+invariant-loop-i l = has_word l.wanted (take l.i l.words) ≡ false
