@@ -6,7 +6,7 @@ use Rattle.squawk_stream.specs.Faults.{Rose}
 use Rattle.squawk_stream.specs.Parts.{AppendsPart}
 use Rattle.squawk_words.specs.Words.{Text}
 use Rattle.explain_command.specs.declared.failure.Failure.{Failure}
-use Rattle.explain_command.specs.declared.failure.Failure.TheVariants.{Stop, Unknown}
+use Rattle.explain_command.specs.declared.failure.Failure.TheVariants.{Stop, Refused}
 use Rattle.explain_command.specs.Words.{IsRefusedFor, text_of}
 
 -- the text that the words ask for was written
@@ -25,9 +25,9 @@ pub record HasWrittenPart (words : List Text) (old new : Option (List ℕ)) (bef
 -- why a run stopped, and what it left
 abbrev pub StoppedFor : List Text → Option (List ℕ) → Option (List ℕ) → ℕ → ℕ → Failure → Type 0
 StoppedFor words old new before now (Stop WriteFault) = HasWrittenPart words old new before now
-StoppedFor words old new before now (Unknown line) = IsRefusedFor words (Unknown line) × Keeps old new
-StoppedFor words old new before now (Stop BadArguments) = IsRefusedFor words (Stop BadArguments) × Keeps old new
+StoppedFor words old new before now (Refused line) = IsRefusedFor words line.items × Keeps old new
 StoppedFor words old new before now (Stop NoMemory) = Keeps old new
+StoppedFor words old new before now (Stop BadArguments) = ⊥
 StoppedFor words old new before now (Stop NotUtf8) = ⊥
 StoppedFor words old new before now (Stop TooLong) = ⊥
 StoppedFor words old new before now (Stop ReadFault) = ⊥

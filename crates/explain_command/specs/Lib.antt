@@ -1,4 +1,4 @@
 pub mod Failures
-pub mod Unknown
+pub mod Lines
 pub mod Words
 pub mod Command

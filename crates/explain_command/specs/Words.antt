@@ -1,50 +1,78 @@
 -- The text that the words after the program's name ask for.
-use Rattle.std.specs.Prelude.{◌≡◌, ◌<◌, ℕ, List, [], ◌∷◌, Option, Some, None, codes, drop, length, option_map, if◌then◌else◌, ⊤}
+use Rattle.std.specs.Prelude.{◌≡◌, ◌==◌, ℕ, List, [], ◌∷◌, Option, Some, None, chars, codes, drop, encode_utf8_all, find, map, option_map, if◌then◌else◌}
+use Rattle.std.specs.Char.{to_ascii_lowercase}
 use Rattle.std.specs.Str.{bytes_eq}
+use Rattle.help_words.specs.Help.{asks_for_help}
 use Rattle.lint_base.specs.declared.rule.Rule.TheVariants as rule
 use Rattle.lint_report.specs.declared.code.Code.{Code}
 use Rattle.lint_report.specs.declared.code.Code.TheVariants as code
 use Rattle.lint_report.specs.Codes.{code_named}
 use Rattle.rule_pages.specs.declared.list.TheConstants.{RULE_LIST}
 use Rattle.rule_pages.specs.Pages.{code_page_of}
-use Rattle.squawk_run.specs.declared.stop.Stop.TheVariants.{BadArguments, NotUtf8, TooLong, ReadFault, WriteFault, NoMemory}
-use Rattle.squawk_run.specs.ForeignWords.{has_foreign_word}
-use Rattle.squawk_words.specs.Words.{Text}
-use Rattle.explain_command.specs.declared.failure.Failure.{Failure}
-use Rattle.explain_command.specs.declared.failure.Failure.TheVariants.{Stop, Unknown}
+use Rattle.squawk_words.specs.Words.{Text, begins_with_dash}
 use Rattle.explain_command.specs.declared.help.TheConstants.{HELP}
-use Rattle.explain_command.specs.Unknown.{IsUnknownLine}
+use Rattle.explain_command.specs.Lines.{IsUnknownLine, one_name_line, option_line}
 
--- the rule or the hazard of a name, also of the rule that ignore comments and options can't name
+-- ---- one name
+
+-- a character as the names have it: `_` is `-`, and a capital letter of ASCII is the small one
+abbrev pub folded_char : ℕ → ℕ
+folded_char c = if c == 95 then 45 else to_ascii_lowercase c
+
+-- a text as the names have it
+abbrev pub folded : Text → Text
+folded name = encode_utf8_all (map folded_char (chars name))
+
+-- the rule or the hazard of a text, also of the rule that ignore comments and options can't name
 abbrev pub explained : Text → Option Code
-explained name = if bytes_eq name (codes "unused-ignore") then Some (code.Rule rule.UnusedIgnore) else code_named name
+explained text = if bytes_eq text (codes "unused-ignore") then Some (code.Rule rule.UnusedIgnore) else code_named text
 
 unfoldable pub page_named : Text → Option (List ℕ)
-page_named name = option_map code_page_of (explained name)
+page_named name = option_map code_page_of (explained (folded name))
+
+-- ---- words
+
+-- the first of the words that is an option, which no name is
+abbrev pub first_option : List Text → Option Text
+first_option words = find begins_with_dash words
 
 -- the list without a name, a page for one, and nothing for more
+abbrev pub text_of_names : List Text → Option (List ℕ)
+text_of_names [] = Some RULE_LIST.now
+text_of_names (name ∷ []) = page_named name
+text_of_names (name ∷ other ∷ rest) = None
+
+abbrev pub text_by : Option Text → List Text → Option (List ℕ)
+text_by (Some word) words = None
+text_by None words = text_of_names words
+
 abbrev pub text_after : List Text → Option (List ℕ)
-text_after [] = Some RULE_LIST.now
-text_after (name ∷ []) = page_named name
-text_after (name ∷ other ∷ rest) = None
+text_after words = text_by (first_option words) words
 
--- `--help` counts wherever it is
+-- `--help` and `-h` count wherever they are
 abbrev pub text_of : List Text → Option (List ℕ)
-text_of words = if has_foreign_word (codes "help" ∷ []) words then Some HELP.now else text_after (drop 1 words)
+text_of words = if asks_for_help words then Some HELP.now else text_after (drop 1 words)
 
--- one word follows, which is the name of no rule and of no hazard
-pub record NamesNoRule (words : List Text) (line : List ℕ) : Type 0 where
-  pub name : Text
-  pub alone : drop 1 words ≡ name ∷ []
-  pub no_page : page_named name ≡ None
-  pub told : IsUnknownLine name line
+-- ---- why words ask for no text
 
--- why words ask for no text
-abbrev pub IsRefusedFor : List Text → Failure → Type 0
-IsRefusedFor words (Unknown line) = NamesNoRule words line.items
-IsRefusedFor words (Stop BadArguments) = 1 < length (drop 1 words)
-IsRefusedFor words (Stop NoMemory) = ⊤
-IsRefusedFor words (Stop NotUtf8) = ⊥
-IsRefusedFor words (Stop TooLong) = ⊥
-IsRefusedFor words (Stop ReadFault) = ⊥
-IsRefusedFor words (Stop WriteFault) = ⊥
+-- The line about names of which there is no page.
+abbrev pub IsLineOfNames : List Text → List ℕ → Type 0
+IsLineOfNames [] line = ⊥
+IsLineOfNames (name ∷ []) line = IsUnknownLine name (folded name) line
+IsLineOfNames (name ∷ other ∷ rest) line = line ≡ one_name_line
+
+abbrev pub IsLineBy : Option Text → List Text → List ℕ → Type 0
+IsLineBy (Some word) words line = line ≡ option_line word
+IsLineBy None words line = IsLineOfNames words line
+
+-- The line about the words after the first: an option, several names, or a name of no rule and no hazard.
+abbrev pub IsLineAbout : List Text → List ℕ → Type 0
+IsLineAbout words line = IsLineBy (first_option words) words line
+
+-- the words ask for no text, and the line says why
+abbrev pub IsRefusedFor : List Text → List ℕ → Type 0
+IsRefusedFor words line = (text_of words ≡ None) × IsLineAbout (drop 1 words) line
+
+-- the same of names alone
+abbrev pub AreRefused : List Text → List ℕ → Type 0
+AreRefused names line = (text_of_names names ≡ None) × IsLineOfNames names line

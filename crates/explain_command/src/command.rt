@@ -47,8 +47,8 @@ fn explain<K: Sink>(alloc: Global, words: &Words, out: &mut K) -> Result<(), Fai
 }
 
 /// Writes to `out` the text that the words after the program's name ask for: the first is `explain`, and the name of a rule or of a hazard may follow. Why
-/// nothing more was written goes to `err`, and a failure there changes nothing else. The failures are a name that neither has, and the stops
-/// `BadArguments`, `WriteFault` and `NoMemory`.
+/// nothing more was written goes to `err`, and a failure there changes nothing else. The failures are words that are refused, and the stops
+/// `WriteFault` and `NoMemory`.
 pub fn run<K: Sink, E: Sink>(
     alloc: Global,
     words: &Words,

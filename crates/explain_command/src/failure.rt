@@ -9,8 +9,8 @@ use squawk_run::Stop;
 pub enum Failure {
     /// A stop that every program has.
     Stop(Stop),
-    /// No rule and no hazard has this name. This line says so, with its line feed.
-    Unknown(Vec<u8>),
+    /// The words are refused. This line says why, with its line feed.
+    Refused(Vec<u8>),
 }
 
 impl Failure {
@@ -20,7 +20,7 @@ impl Failure {
     {
         match self {
             Failure::Stop(stop) => stop.code(),
-            Failure::Unknown(_) => 2,
+            Failure::Refused(_) => 2,
         }
     }
 
@@ -30,7 +30,7 @@ impl Failure {
     {
         match self {
             Failure::Stop(stop) => stop.line().as_bytes(),
-            Failure::Unknown(line) => line.as_slice(),
+            Failure::Refused(line) => line.as_slice(),
         }
     }
 }

@@ -8,7 +8,7 @@ Usage: lavkheto explain [RULE]
 
 Without RULE, all rules are listed, and then the hazards: whether each is on by default, its fix and its lock. Pages are 79 columns wide, but for SQL and addresses.
 
-  --help  this help
+  -h, --help  this help
 
 Status: 0 the page or the list was written; 2 no rule and no hazard has this name, or the words are not accepted; 6 a write failed; 7 out of memory.
 

@@ -7,7 +7,7 @@ mod choice;
 mod command;
 mod failure;
 mod help;
-mod unknown;
+mod refusal;
 
 pub use command::run;
 pub use failure::Failure;

@@ -57,7 +57,7 @@ pub record IsSettled (content : Text → Content) (request : Request) (settled :
   pub loaded : IsLoaded content request.config settled.config
   pub chosen : IsChosenBy settled.config request.linter settled.choices
 
--- The configuration is taken, and the words are refused beside it: this line names all of them.
+-- The configuration is taken, and the words are refused beside it: this line is about all of them.
 pub record IsRefusedBeside (content : Text → Content) (request : Request) (line : List ℕ) : Type 0 where
   pub config : AnyConfig
   pub loaded : IsLoaded content request.config config

@@ -5,15 +5,13 @@ use Rattle.std.specs.Option.{option_map_or}
 use Rattle.std.specs.Prelude.{slice_get}
 use Rattle.squawk_words.specs.Words.{Text}
 use Rattle.squawk_words.proofs.Places.{drop_at}
-use Rattle.fix_words.specs.declared.asked.Asked.TheVariants.{Refused}
-use Rattle.fix_words.specs.declared.fault.Fault.TheVariants.{Word}
 use Rattle.fix_words.specs.declared.step.Reader.{Reader}
-use Rattle.fix_words.specs.Asked.{read_from}
+use Rattle.fix_words.specs.Asked.{read_from, unknown_word}
 use Rattle.fix_words.specs.Steps.{step}
 
 -- what is read from here on, by the word that is here
 pub read_at : (reader : Reader) (words : List Text) (k : ℕ) (word : Text) → slice_get words k ≡ Some word
-    → read_from reader (drop k words) ≡ option_map_or (λ r. read_from r (drop (k + 1) words)) (step word reader) (Refused (Word word))
+    → read_from reader (drop k words) ≡ option_map_or (λ r. read_from r (drop (k + 1) words)) (step word reader) (unknown_word word)
 unfolding read_from
 read_at reader words k word e = ap (read_from reader) (drop_at words k word e)
 

@@ -1,11 +1,13 @@
 -- What the words after the program's name ask for.
-use Rattle.std.specs.Prelude.{false, List, [], ◌∷◌, None, codes, drop, if◌then◌else◌}
+use Rattle.std.specs.Prelude.{false, List, [], ◌∷◌, None, drop, if◌then◌else◌}
 use Rattle.std.specs.Option.{option_map_or}
-use Rattle.squawk_run.specs.ForeignWords.{has_foreign_word}
+use Rattle.check_words.specs.declared.fault.WordFault.TheVariants.{UnknownWord, MissingValue}
+use Rattle.check_words.specs.declared.names.Choice.TheVariants as choice
+use Rattle.help_words.specs.Help.{asks_for_help}
 use Rattle.squawk_words.specs.Words.{Text}
 use Rattle.fix_words.specs.declared.asked.Asked.{Asked}
 use Rattle.fix_words.specs.declared.asked.Asked.TheVariants.{Fix, Help, Refused}
-use Rattle.fix_words.specs.declared.fault.Fault.TheVariants.{Word, NoValue}
+use Rattle.fix_words.specs.declared.fault.Fault.TheVariants.{Word, Linter}
 use Rattle.fix_words.specs.declared.request.Request.{Request}
 use Rattle.fix_words.specs.declared.step.Next.{Next}
 use Rattle.fix_words.specs.declared.step.Next.TheVariants.{Any, ConfigValue, LinterValue, File}
@@ -16,22 +18,26 @@ use Rattle.fix_words.specs.Steps.{step}
 abbrev pub start : Reader
 start = record { next = Any; request = record { write = false; with_unsafe = false; config = None; files = []; linter = [] } }
 
--- the end, at which no value is waited for
+-- The end. Where a value is waited for, it is missing: the linter says so of its own options.
 abbrev pub ended : Next → Request → Asked
 ended Any r = Fix r
 ended File r = Fix r
-ended ConfigValue r = Refused NoValue
-ended LinterValue r = Refused NoValue
+ended ConfigValue r = Refused (Word (MissingValue choice.Config))
+ended LinterValue r = Refused (Linter r.linter)
+
+-- a word that there isn't
+abbrev pub unknown_word : Text → Asked
+unknown_word word = Refused (Word (UnknownWord word))
 
 -- the words one by one, up to the first one that is refused
 unfoldable pub read_from : Reader → List Text → Asked
 read_from reader [] = ended reader.next reader.request
-read_from reader (word ∷ words) = option_map_or (λ r. read_from r words) (step word reader) (Refused (Word word))
+read_from reader (word ∷ words) = option_map_or (λ r. read_from r words) (step word reader) (unknown_word word)
 
 -- what the words after `fix` ask for
 abbrev pub request_of : List Text → Asked
 request_of words = read_from start words
 
--- `--help` counts wherever it is
+-- `--help` and `-h` count wherever they are
 abbrev pub asked_of : List Text → Asked
-asked_of words = if has_foreign_word (codes "help" ∷ []) words then Help else request_of (drop 1 words)
+asked_of words = if asks_for_help words then Help else request_of (drop 1 words)

@@ -1,10 +1,8 @@
 //! Why words are refused.
-ghost use Rattle.std.specs.Prelude.{◌≡◌, ◌++◌, IfOk, OnOk};
+ghost use Rattle.std.specs.Prelude.{◌≡◌, IfOk};
 ghost use Rattle.fix_words.specs.Faults as spec;
 
-use lint_base::Text;
-use report_lines::push;
-use shown_words::{push_word, push_words};
+use check_words::WordFault;
 use squawk_words::Words;
 use std::alloc::Global;
 use text_pos::NoMemory;
@@ -12,33 +10,19 @@ use text_pos::NoMemory;
 /// Why words are refused.
 #[derive(Drop)]
 pub enum Fault {
-    /// This word is not one of the command, or not a value of the option before it.
-    Word(Text),
-    /// The last word is an option, and its value is missing.
-    NoValue,
+    /// A word that there isn't, or an option of this command whose value is missing.
+    Word(WordFault),
     /// The linter refuses these words.
     Linter(Words),
 }
 
-// Adds what a fault is about.
-#[tactic(auto, unfolding(crate::specs::Faults::fault_part))]
-fn push_fault(to: &mut Vec<u8>, fault: &Fault) -> Result<(), NoMemory>
-    ensures { OnOk result (to.new.items ≡ to.old.items ++ spec.fault_part fault.now) }
-{
-    match fault {
-        Fault::Word(word) => push_word(to, word.as_str()),
-        Fault::NoValue => push(to, b" the last word, which needs a value"),
-        Fault::Linter(words) => push_words(to, words),
-    }
-}
-
-/// The line about a fault. The error comes when memory runs out.
+/// The line about a fault, with its line feed. The error comes when memory runs out.
+#[tactic(auto, unfolding(crate::specs::Faults::fault_line))]
 pub fn fault_line(alloc: Global, fault: &Fault) -> Result<Vec<u8>, NoMemory>
     ensures { IfOk result (λ line. line.items ≡ spec.fault_line fault.now) }
 {
-    let mut line = Vec::new(alloc);
-    push(&mut line, b"error: fix: not accepted:")?;
-    push_fault(&mut line, fault)?;
-    push(&mut line, b"\n")?;
-    Ok(line)
+    match fault {
+        Fault::Word(fault) => refused_word::fault_line(alloc, fault),
+        Fault::Linter(words) => refused_word::words_line(alloc, words),
+    }
 }

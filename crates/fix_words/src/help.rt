@@ -24,7 +24,7 @@ filled in and is never made; lavkheto check shows it.
   --pg-minor N             its second part (default: 0)
   --pg-patch N             its third part (default: 0)
 
-  --help                   this help
+  -h, --help               this help
 
 Status: 0 nothing is to be fixed, or all is written; 1 a diff was printed; 2 a word or the configuration is refused; 3 a file is not UTF-8;
 4 a file can't be parsed; 5 a file can't be read; 6 a write failed; 7 out of memory. The greatest of those that apply.

@@ -1,11 +1,12 @@
 //! All words after `fix`.
 ghost use Rattle.std.specs.Prelude.{◌≡◌, IfOk, drop};
-ghost use Rattle.fix_words.specs.Asked.{ended, request_of, start};
+ghost use Rattle.fix_words.specs.Asked.{ended, request_of, start, unknown_word};
 
 use crate::asked::Asked;
 use crate::fault::Fault;
 use crate::request::Request;
 use crate::step::{Next, Reader, step};
+use check_words::{Choice, WordFault};
 use lint_base::Text;
 use squawk_words::Words;
 use std::alloc::Global;
@@ -34,16 +35,17 @@ fn ended(reader: Reader) -> Asked
     let Reader { next, request } = reader;
     match next {
         Next::Any | Next::File => Asked::Fix(request),
-        Next::ConfigValue | Next::LinterValue => Asked::Refused(Fault::NoValue),
+        Next::ConfigValue => Asked::Refused(Fault::Word(WordFault::MissingValue(Choice::Config))),
+        Next::LinterValue => Asked::Refused(Fault::Linter(request.linter)),
     }
 }
 
-// A word that is refused.
-fn refused(alloc: Global, word: &str) -> Result<Asked, NoMemory>
-    ensures { IfOk result (λ asked. asked ≡ Asked.Refused (Fault.Word word.now)) }
+// A word that there isn't.
+fn unknown_word(alloc: Global, word: &str) -> Result<Asked, NoMemory>
+    ensures { IfOk result (λ asked. asked ≡ unknown_word word.now) }
 {
     let word = Text::made(String::from_str(alloc, word)?);
-    Ok(Asked::Refused(Fault::Word(word)))
+    Ok(Asked::Refused(Fault::Word(WordFault::UnknownWord(word))))
 }
 
 /// What the words after the first ask for. The error comes when memory runs out.
@@ -54,7 +56,7 @@ pub(crate) fn read_request(alloc: Global, words: &Words) -> Result<Asked, NoMemo
     for i in 1..words.len() {
         let word = words.get(i);
         if !step(alloc, &mut reader, word)? {
-            return refused(alloc, word);
+            return unknown_word(alloc, word);
         }
     }
     Ok(ended(reader))

@@ -1,10 +1,8 @@
 use Rattle.std.proofs.Common.{◌≡◌, ◌∙◌, ◌+◌, Bool, ap, arith, drop, sym, Option, None, Some}
 use Rattle.std.proofs.lemmas.Result.{IfOk-weaker}
 use Rattle.std.specs.Option.{option_map_or}
-use Rattle.fix_words.specs.declared.asked.Asked.TheVariants.{Refused}
-use Rattle.fix_words.specs.declared.fault.Fault.TheVariants.{Word}
 use Rattle.fix_words.specs.declared.step.Reader.{Reader}
-use Rattle.fix_words.specs.Asked.{read_from, start}
+use Rattle.fix_words.specs.Asked.{read_from, start, unknown_word}
 use Rattle.fix_words.specs.Steps.{after, step}
 use Rattle.fix_words.proofs.Walk.{read_at, read_end}
 use Rattle.fix_words.proofs.read.read_request.Goals as goal
@@ -15,10 +13,10 @@ returns-then-not-branch c =
     let word = c.get-word.result.now in
     let words = c.args.words.now in
     let no_step : step word l.reader ≡ None = sym c.in_ok-step.ensures ∙ ap (λ (b : Bool). after b c.step.new.reader) c.if-not-branch.true in
-    let told : read_from start (drop 1 words) ≡ Refused (Word word) =
+    let told : read_from start (drop 1 words) ≡ unknown_word word =
     sym l.invariant ∙ (read_at l.reader words l.i word c.get-word.ensures
-    ∙ ap (λ (o : Option Reader). option_map_or (λ r. read_from r (drop (l.i + 1) words)) o (Refused (Word word))) no_step) in
-    IfOk-weaker c.refused.result _ _ (λ asked e. e ∙ sym told) c.refused.ensures
+    ∙ ap (λ (o : Option Reader). option_map_or (λ r. read_from r (drop (l.i + 1) words)) o (unknown_word word)) no_step) in
+    IfOk-weaker c.unknown_word.result _ _ (λ asked e. e ∙ sym told) c.unknown_word.ensures
 
 pub loop-i-preserved : goal.loop-i-preserved
 loop-i-preserved c =
@@ -28,7 +26,7 @@ loop-i-preserved c =
     let taken : step word l.reader ≡ Some c.step.new.reader =
     sym c.in_ok-step.ensures ∙ ap (λ (b : Bool). after b c.step.new.reader) c.if-not-branch.false in
     sym (read_at l.reader words l.i word c.get-word.ensures
-    ∙ ap (λ (o : Option Reader). option_map_or (λ r. read_from r (drop (l.i + 1) words)) o (Refused (Word word))) taken) ∙ l.invariant
+    ∙ ap (λ (o : Option Reader). option_map_or (λ r. read_from r (drop (l.i + 1) words)) o (unknown_word word)) taken) ∙ l.invariant
 
 pub returns : goal.returns
 unfolding read_from
