@@ -1,5 +1,5 @@
 -- What is printed of files, finding by finding.
-use Rattle.std.proofs.Common.{◌≡◌, ◌∙◌, ◌||◌, ◌==◌, ℕ, Bool, true, false, not, List, [], ◌∷◌, ◌++◌, ap, append_assoc, append-nil, arith, length, map, Option, Some, None, option_map, refl, sym}
+use Rattle.std.proofs.Common.{◌≡◌, ◌∙◌, ◌||◌, ◌==◌, ℕ, Bool, true, false, not, List, [], ◌∷◌, ◌++◌, ap, append_assoc, append-nil, arith, length, map, refl, sym}
 use Rattle.std.proofs.lemmas.List.{map-append}
 use Rattle.check_print.specs.declared.style.Style.{Style}
 use Rattle.check_print.specs.Found.{Found, all_found, found_by, found_in, found_refusal, found_report}
@@ -11,16 +11,10 @@ use Rattle.checked_file.specs.declared.answer.Answer.TheVariants.{Reports, Refus
 use Rattle.checked_file.specs.declared.checked.Checked.{Checked}
 use Rattle.checked_file.specs.Answers.{has_findings}
 use Rattle.lint_report.specs.declared.report.Report.{Report}
-use Rattle.report_json.specs.Objects.{finding_object, hint_data, text_data}
-use Rattle.serde_json.specs.Data.{Data, Members, null, object}
+use Rattle.serde_json.specs.Data.{Members, object}
 use Rattle.serde_json.specs.Written.{compact_text}
-use Rattle.source_file.specs.declared.hints.Hint.{Hint}
-use Rattle.source_file.specs.declared.level.Level.TheVariants.{Error}
 use Rattle.source_file.specs.declared.refusal.Refusal.{Refusal}
 use Rattle.source_file.specs.File.{FileValue}
-use Rattle.source_file.specs.Hints.{hint_of, text_of}
-use Rattle.source_file.specs.Levels.{word_of}
-use Rattle.source_file.specs.Refusals.{message_of, name_of, place_of}
 use Rattle.law_printed_arrays.specs.Unique.{style_in}
 use Rattle.law_printed_arrays.proofs.Values.{issue_of, members_by, object_of, result_of}
 
@@ -50,19 +44,9 @@ Prints style members =
     ((b : Bool) (file : FileValue) (v : Report) → separated style b file v ≡ array_separator b ++ compact_text (object (members (found_report file v))))
     × ((b : Bool) (file : FileValue) (r : Refusal) → separator style.format b ++ printed_refusal style.format style.color file r ≡ array_separator b ++ compact_text (object (members (found_refusal file r))))
 
--- what may help, as a text
-hint_text : (hint : Option Hint) → hint_data hint ≡ text_data (option_map text_of hint)
-hint_text None = refl
-hint_text (Some hint) = refl
-
-abbrev refusal_text : Bool → FileValue → Refusal → Data → List ℕ
-refusal_text b file r help =
-    let at = place_of r in
-    array_separator b ++ compact_text (finding_object file (record { start = at; end = at }) (word_of Error) (name_of r) (message_of r) null help null null)
-
 pub json_prints : (color quiet statistics : Bool) → Prints (style_in format.Json color quiet statistics) (members_by object_of)
 unfolding printed_report printed_refusal
-json_prints color quiet statistics = ((λ b file v. refl), (λ b file r. ap (refusal_text b file r) (hint_text (hint_of file.text r))))
+json_prints color quiet statistics = ((λ b file v. refl), (λ b file r. refl))
 
 pub sarif_prints : (color quiet statistics : Bool) → Prints (style_in format.Sarif color quiet statistics) (members_by result_of)
 unfolding printed_report printed_refusal

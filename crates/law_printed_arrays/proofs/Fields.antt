@@ -3,13 +3,12 @@ use Rattle.std.proofs.Common.{◌≡◌, ◌∙◌, ◌<◌, ◌^◌, ℕ, List,
 use Rattle.std.proofs.lemmas.Fmt.{decimal_injective}
 use Rattle.std.specs.Prelude.{decimal}
 use Rattle.json.specs.Json as json
+use Rattle.json_value.specs.Values.{text_data}
 use Rattle.lint_base.specs.declared.edit.Edit.{Edit}
 use Rattle.lint_report.specs.declared.fix_class.FixClass.{FixClass}
 use Rattle.lint_report.specs.declared.fix_class.FixClass.TheVariants.{Safe, Unsafe, Template}
 use Rattle.lint_report.specs.declared.report.ReportFix.{ReportFix}
 use Rattle.lint_report.specs.FixClasses as classes
-use Rattle.report_json.specs.Objects as reports
-use Rattle.report_sarif.specs.Results as sarif
 use Rattle.serde_json.specs.Written.{outline}
 use Rattle.source_file.specs.declared.level.Level.{Level}
 use Rattle.source_file.specs.declared.level.Level.TheVariants.{Warning, Error}
@@ -70,17 +69,11 @@ class_back Template Template e = refl
 
 -- ---- texts, or null
 
-pub text_back : (t u : Option (List ℕ)) → outline (reports.text_data t) ≡ outline (reports.text_data u) → t ≡ u
+pub text_back : (t u : Option (List ℕ)) → outline (text_data t) ≡ outline (text_data u) → t ≡ u
 text_back None None e = refl
 text_back None (Some u) e = cc
 text_back (Some t) None e = cc
 text_back (Some t) (Some u) e = ap (λ j. Some (text_in j)) e
-
-pub bag_back : (t u : Option (List ℕ)) → outline (sarif.text_data t) ≡ outline (sarif.text_data u) → t ≡ u
-bag_back None None e = refl
-bag_back None (Some u) e = cc
-bag_back (Some t) None e = cc
-bag_back (Some t) (Some u) e = ap (λ j. Some (text_in j)) e
 
 -- ---- places
 

@@ -17,7 +17,7 @@ use Rattle.source_file.specs.File.{FileValue, IsRangeIn}
 use Rattle.text_pos.specs.Range.{Range}
 use Rattle.law_printed_arrays.specs.Kept.{kept_finding}
 use Rattle.law_printed_arrays.proofs.Edits.{fixes_are, plain_fixes}
-use Rattle.law_printed_arrays.proofs.Fields.{at, bag_back, class_back, level_back, only, place_back, same_edit, same_finding, same_fix, same_range, text_in, value_at}
+use Rattle.law_printed_arrays.proofs.Fields.{at, class_back, level_back, only, place_back, same_edit, same_finding, same_fix, same_range, text_back, text_in, value_at}
 use Rattle.law_printed_arrays.proofs.Placed.{IsPlaced}
 use Rattle.law_printed_arrays.proofs.Places.{at_short}
 use Rattle.law_printed_arrays.proofs.Shapes.{LeadsBack, all_equal, items_in}
@@ -122,8 +122,8 @@ result_back f g p q e =
       level = level_back a.level b.level (ap (λ j. text_in (at 1 j)) e);
       rule = ap (λ j. text_in (at 5 j)) e;
       message = ap (λ j. text_in (at 0 (at 3 j))) e;
-      note = bag_back a.note b.note (ap (λ j. at 1 (at 4 j)) e);
-      help = bag_back a.help b.help (ap (λ j. at 0 (at 4 j)) e);
+      note = text_back a.note b.note (ap (λ j. at 1 (at 4 j)) e);
+      help = text_back a.help b.help (ap (λ j. at 0 (at 4 j)) e);
       fix = fix_back f g p q (ap (λ j. at 0 j) e);
       statement = statement_back text other p.short q.short f.statement g.statement p.statement q.statement (ap (λ j. at 2 (at 4 j)) e);
     })

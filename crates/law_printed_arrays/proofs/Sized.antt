@@ -4,6 +4,7 @@ use Rattle.std.proofs.lemmas.List.Elements.{All-head, All-tail}
 use Rattle.std.specs.Option.{IfSome}
 use Rattle.check_print.specs.Found.{Found}
 use Rattle.checked_file.specs.Sound.{AreEditsIn}
+use Rattle.json_value.specs.Values.{text_data}
 use Rattle.lint_base.specs.declared.edit.Edit.{Edit}
 use Rattle.lint_report.specs.declared.report.ReportFix.{ReportFix}
 use Rattle.report_json.specs.Objects as json
@@ -19,11 +20,11 @@ use Rattle.law_printed_lines.proofs.Places.{column_short, line_short}
 use Rattle.law_printed_arrays.proofs.Short.{AreShortItems, AreShortMembers, IsShort}
 use Rattle.law_printed_arrays.proofs.Values.{issue_of, object_of, range_data, region_data, result_of}
 
--- ---- JSON
-
-text_short : (text : Option (List ℕ)) → IsShort (json.text_data text)
+text_short : (text : Option (List ℕ)) → IsShort (text_data text)
 text_short None = tt
 text_short (Some text) = tt
+
+-- ---- JSON
 
 edits_short : (text : List ℕ) (edits : List Edit) → length text < 2 ^ 32 → AreEditsIn text edits → AreShortItems (items_of (map json.edit_object edits))
 edits_short text [] short h = tt
@@ -85,10 +86,6 @@ object_short f p =
 
 -- ---- SARIF
 
-bag_short : (text : Option (List ℕ)) → IsShort (sarif.text_data text)
-bag_short None = tt
-bag_short (Some text) = tt
-
 region_short : (text : List ℕ) (range : Range) → length text < 2 ^ 32 → IsRangeIn text range → IsShort (region text range)
 region_short text range short h = (
   omega (arith, at_short text range.end short h.end),
@@ -133,7 +130,7 @@ result_short f p = (
     tt,
     (
       ((((tt, tt), (region_short f.file.text f.range p.short p.range, tt)), tt), tt),
-      ((tt, tt), ((bag_short f.help, (bag_short f.note, (place_short f.file.text f.statement p.short p.statement, tt))), (tt, tt))),
+      ((tt, tt), ((text_short f.help, (text_short f.note, (place_short f.file.text f.statement p.short p.statement, tt))), (tt, tt))),
     ),
   ),
 )

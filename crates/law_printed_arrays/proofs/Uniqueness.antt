@@ -14,7 +14,7 @@ use Rattle.json.specs.Spaced.{print_spaced}
 use Rattle.report_sarif.specs.Log as sarif
 use Rattle.serde_json.specs.Data.{Members, object}
 use Rattle.law_printed_arrays.specs.Kept.{kept_finding, kept_issue}
-use Rattle.law_printed_arrays.specs.Unique.{HaveSameFindings, HaveSameReports, UniqueArrays, UniqueIssues, UniqueLogs, style_in}
+use Rattle.law_printed_arrays.specs.Unique.{HaveSameFindings, HaveSameReports, IsUnique, UniqueIssues, style_in}
 use Rattle.law_printed_arrays.proofs.Chunks.{Prints, chunks, files_chunks, gitlab_prints, json_prints, sarif_prints}
 use Rattle.law_printed_arrays.proofs.Issues.{issue_back}
 use Rattle.law_printed_arrays.proofs.Objects.{object_back}
@@ -53,13 +53,13 @@ same_files style members tell prints short leads files others p q e =
 with_reports : (files others : List Checked) → HaveSameFindings files others → HaveSameReports files others × HaveSameFindings files others
 with_reports files others e = (same_reports files others e, e)
 
-pub unique_arrays : UniqueArrays
+pub unique_arrays : IsUnique format.Json
 unique_arrays color quiet statistics files others sound others_sound e =
     with_reports files others
     (same_files (style_in format.Json color quiet statistics) (members_by object_of) kept_finding (json_prints color quiet statistics) object_short object_back files others sound others_sound
     (append_cancel_right _ _ (codes "\n]\n") (append_cancel_left (codes "[") _ _ e)))
 
-pub unique_logs : UniqueLogs
+pub unique_logs : IsUnique format.Sarif
 unique_logs color quiet statistics files others sound others_sound e =
     let style = style_in format.Sarif color quiet statistics in
     let inside : printed_files style false files ≡ printed_files style false others =

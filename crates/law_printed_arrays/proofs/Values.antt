@@ -1,6 +1,7 @@
 -- What is printed of a finding for programs.
 use Rattle.std.specs.Prelude.{ℕ, List, [], Option, Some, None, slice_range}
 use Rattle.check_print.specs.Found.{Found}
+use Rattle.json_value.specs.Values.{text_data}
 use Rattle.report_gitlab.specs.Issues.{issue_object}
 use Rattle.report_json.specs.Objects as json
 use Rattle.report_sarif.specs.Places.{region}
@@ -29,14 +30,14 @@ part_of text (Some range) = slice_range text range.start range.end
 -- the object of JSON
 abbrev pub object_of : Found → Data
 object_of f =
-    json.finding_object f.file f.range (word_of f.level) f.rule f.message (json.text_data f.note) (json.text_data f.help) (json.fix_data f.fix)
+    json.finding_object f.file f.range (word_of f.level) f.rule f.message (text_data f.note) (text_data f.help) (json.fix_data f.fix)
     (range_data f.statement)
 
 -- the result of SARIF
 abbrev pub result_of : Found → Data
 result_of f =
     sarif.result_object f.file f.range (word_of f.level) f.rule f.message (sarif.fixes f.file f.fix)
-    (sarif.result_properties (sarif.text_data f.help) (sarif.text_data f.note) (region_data f.file.text f.statement))
+    (sarif.result_properties (text_data f.help) (text_data f.note) (region_data f.file.text f.statement))
 
 -- the issue of GitLab
 abbrev pub issue_of : Found → Data

@@ -27,14 +27,6 @@ IsUnique form = (color quiet statistics : Bool) (files others : List Checked) �
     → printed (style_in form color quiet statistics) files ≡ printed (style_in form color quiet statistics) others
     → HaveSameReports files others × HaveSameFindings files others
 
--- No two different lists of reports are printed alike in JSON.
-abbrev pub UniqueArrays : Type 0
-UniqueArrays = IsUnique format.Json
-
--- None are in SARIF.
-abbrev pub UniqueLogs : Type 0
-UniqueLogs = IsUnique format.Sarif
-
 -- The same of GitLab's format for what it keeps: no columns, no ends, no notes, helps and fixes.
 abbrev pub UniqueIssues : Type 0
 UniqueIssues = (color quiet statistics : Bool) (files others : List Checked) → All IsSound files → All IsSound others

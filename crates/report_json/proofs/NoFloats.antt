@@ -1,19 +1,15 @@
 -- No object of a finding has a float.
-use Rattle.std.proofs.Common.{◌≡◌, ℕ, false, List, [], ◌∷◌, map, Option, Some, None, refl}
+use Rattle.std.proofs.Common.{◌≡◌, false, List, [], ◌∷◌, map, Option, Some, None, refl}
 use Rattle.serde_json.specs.View.{items_of}
 use Rattle.serde_json.specs.Written.{has_float, items_have_float}
+use Rattle.json_value.proofs.NoFloats.{hint_has_no_float, text_has_no_float}
 use Rattle.lint_base.specs.declared.edit.Edit.{Edit}
 use Rattle.lint_report.specs.declared.report.Report.{Report}
 use Rattle.lint_report.specs.declared.report.ReportFix.{ReportFix}
-use Rattle.source_file.specs.declared.hints.Hint.{Hint}
 use Rattle.source_file.specs.declared.refusal.Refusal.{Refusal}
 use Rattle.source_file.specs.File.{FileValue}
 use Rattle.source_file.specs.Hints.{hint_of}
-use Rattle.report_json.specs.Objects.{edit_object, fix_data, hint_data, refusal_object, report_object, text_data}
-
-text_has_no_float : (text : Option (List ℕ)) → has_float (text_data text) ≡ false
-text_has_no_float None = refl
-text_has_no_float (Some text) = refl
+use Rattle.report_json.specs.Objects.{edit_object, fix_data, refusal_object, report_object}
 
 edits_have_no_float : (edits : List Edit) → items_have_float (items_of (map edit_object edits)) ≡ false
 edits_have_no_float [] = refl
@@ -22,10 +18,6 @@ edits_have_no_float (e ∷ es) = rw (text_has_no_float e.text) (edits_have_no_fl
 fix_has_no_float : (fix : Option ReportFix) → has_float (fix_data fix) ≡ false
 fix_has_no_float None = refl
 fix_has_no_float (Some fix) = rw (edits_have_no_float fix.fix.edits) refl
-
-hint_has_no_float : (hint : Option Hint) → has_float (hint_data hint) ≡ false
-hint_has_no_float None = refl
-hint_has_no_float (Some hint) = refl
 
 pub refusal_has_no_float : (file : FileValue) (r : Refusal) → has_float (refusal_object file r) ≡ false
 refusal_has_no_float file r = rw (hint_has_no_float (hint_of file.text r)) refl

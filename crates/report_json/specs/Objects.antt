@@ -3,6 +3,7 @@ use Rattle.std.specs.Prelude.{ℕ, List, codes, map, Option, Some, None}
 use Rattle.text_pos.specs.Range.{Range}
 use Rattle.serde_json.specs.Data.{Data, array, member, no_members, null, number, object, string, unsigned}
 use Rattle.serde_json.specs.View.{items_of}
+use Rattle.json_value.specs.Values.{hint_data, text_data}
 use Rattle.lint_base.specs.declared.edit.Edit.{Edit}
 use Rattle.lint_report.specs.declared.report.Report.{Report}
 use Rattle.lint_report.specs.declared.report.ReportFix.{ReportFix}
@@ -12,20 +13,9 @@ use Rattle.source_file.specs.declared.level.Level.TheVariants as level
 use Rattle.source_file.specs.declared.place.Place.{Place}
 use Rattle.source_file.specs.declared.refusal.Refusal.{Refusal}
 use Rattle.source_file.specs.File.{FileValue, location}
-use Rattle.source_file.specs.declared.hints.Hint.{Hint}
-use Rattle.source_file.specs.Hints.{hint_of, text_of}
+use Rattle.source_file.specs.Hints.{hint_of}
 use Rattle.source_file.specs.Levels.{word_of}
 use Rattle.source_file.specs.Refusals as refusals
-
--- a text, or null
-abbrev pub text_data : Option (List ℕ) → Data
-text_data None = null
-text_data (Some text) = string text
-
--- what may help, or null
-abbrev pub hint_data : Option Hint → Data
-hint_data None = null
-hint_data (Some hint) = string (text_of hint)
 
 -- a range; its places are bytes, counted from 0
 abbrev pub range_object : Range → Data

@@ -4,34 +4,15 @@ ghost use Rattle.std.specs.Str.{IsCharBoundary};
 ghost use Rattle.serde_json.specs.View.{view};
 ghost use Rattle.source_file.specs.File.{IsRangeIn};
 ghost use Rattle.source_file.specs.Refusals as refusals;
-ghost use Rattle.report_json.specs.Objects.{edit_object, edits_data, finding_object, fix_data, hint_data, placed_object, range_object, refusal_object, report_object, text_data};
+ghost use Rattle.report_json.specs.Objects.{edit_object, edits_data, finding_object, fix_data, placed_object, range_object, refusal_object, report_object};
 
-use lint_base::{Edit, Text};
+use json_value::{hint_value, text_value};
+use lint_base::Edit;
 use lint_report::{Report, ReportFix};
 use serde_json::{Value, json};
-use source_file::{Hint, Level, Place, Refusal, SourceFile, hint_for};
+use source_file::{Level, Place, Refusal, SourceFile, hint_for};
 use std::alloc::{AllocError, Global};
 use text_pos::TextRange;
-
-// A text, or null.
-fn text_value(alloc: Global, text: &Option<Text>) -> Result<Value, AllocError>
-    ensures { IfOk result (λ value. view value ≡ text_data text.now) }
-{
-    match text {
-        None => Ok(Value::Null),
-        Some(text) => Value::try_from_str(alloc, text.as_str()),
-    }
-}
-
-// What may help, or null.
-fn hint_value(alloc: Global, hint: Option<Hint>) -> Result<Value, AllocError>
-    ensures { IfOk result (λ value. view value ≡ hint_data hint) }
-{
-    match hint {
-        None => Ok(Value::Null),
-        Some(hint) => Value::try_from_str(alloc, hint.text()),
-    }
-}
 
 // A range. Its places are bytes, counted from 0.
 fn range_value(alloc: Global, range: TextRange) -> Result<Value, AllocError>

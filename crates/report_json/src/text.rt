@@ -1,28 +1,17 @@
 //! The text of an object.
-ghost use Rattle.std.specs.Prelude.{◌≡◌, ◌++◌, OnOk, false};
+ghost use Rattle.std.specs.Prelude.{◌≡◌, ◌++◌, OnOk};
 ghost use Rattle.std.specs.Str.{IsCharBoundary};
-ghost use Rattle.serde_json.specs.View.{view};
-ghost use Rattle.serde_json.specs.Written.{compact_text, has_float};
+ghost use Rattle.serde_json.specs.Written.{compact_text};
 ghost use Rattle.source_file.specs.File.{IsRangeIn};
 ghost use Rattle.source_file.specs.Refusals as refusals;
 ghost use Rattle.report_json.specs.Objects.{refusal_object, report_object};
 
 use crate::objects::{refusal_value, report_value};
+use json_value::push_value;
 use lint_report::Report;
-use serde_json::Value;
 use source_file::{Refusal, SourceFile};
 use std::alloc::Global;
 use text_pos::NoMemory;
-
-// Adds the text of a value that has no float.
-fn push_value(to: &mut Vec<u8>, alloc: Global, value: &Value) -> Result<(), NoMemory>
-    requires { has_float (view value.now) ≡ false }
-    ensures { OnOk result (to.new.items ≡ to.old.items ++ compact_text (view value.now)) }
-{
-    let text = value.to_string(alloc)?;
-    to.extend_from_slice(text.as_bytes())?;
-    Ok(())
-}
 
 /// Adds a report as an object. The error comes when memory runs out.
 pub fn push_report(

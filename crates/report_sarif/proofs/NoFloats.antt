@@ -1,10 +1,11 @@
 -- No result of a finding has a float, and none is in the log.
-use Rattle.std.proofs.Common.{◌≡◌, ℕ, Bool, true, false, List, [], ◌∷◌, ◌++◌, map, Option, Some, None, option_map, if◌then◌else◌, refl}
+use Rattle.std.proofs.Common.{◌≡◌, ℕ, Bool, true, false, List, [], ◌∷◌, ◌++◌, map, Option, Some, None, if◌then◌else◌, refl}
 use Rattle.serde_json.specs.Data.{array, no_items}
 use Rattle.serde_json.specs.View.{items_of}
 use Rattle.serde_json.specs.Written.{has_float, items_have_float, members_have_float}
 use Rattle.hazard_base.specs.declared.hazard.Hazard.{Hazard}
 use Rattle.hazard_base.specs.Hazards.{all_hazards}
+use Rattle.json_value.proofs.NoFloats.{hint_has_no_float, text_has_no_float}
 use Rattle.lint_base.specs.declared.edit.Edit.{Edit}
 use Rattle.lint_base.specs.declared.rule.Rule.{Rule}
 use Rattle.lint_base.specs.Rules.{all_rules}
@@ -12,9 +13,9 @@ use Rattle.lint_report.specs.declared.report.Report.{Report}
 use Rattle.lint_report.specs.declared.report.ReportFix.{ReportFix}
 use Rattle.source_file.specs.declared.refusal.Refusal.{Refusal}
 use Rattle.source_file.specs.File.{FileValue}
-use Rattle.source_file.specs.Hints.{hint_of, text_of}
+use Rattle.source_file.specs.Hints.{hint_of}
 use Rattle.report_sarif.specs.Log.{hazard_object, rule_object, tool}
-use Rattle.report_sarif.specs.Results.{are_in_text, fix_object, fixes, inserted, one, refusal_result, replacement, report_result, text_data}
+use Rattle.report_sarif.specs.Results.{are_in_text, fix_object, fixes, inserted, one, refusal_result, replacement, report_result}
 
 inserted_has_no_float : (text : Option (List ℕ)) → members_have_float (inserted text) ≡ false
 inserted_has_no_float None = refl
@@ -35,15 +36,11 @@ fixes_have_no_float : (file : FileValue) (fix : Option ReportFix) → has_float 
 fixes_have_no_float file None = refl
 fixes_have_no_float file (Some fix) = either_has_no_float (are_in_text file.text fix.fix.edits) file fix
 
-text_has_no_float : (text : Option (List ℕ)) → has_float (text_data text) ≡ false
-text_has_no_float None = refl
-text_has_no_float (Some text) = refl
-
 pub report_has_no_float : (file : FileValue) (r : Report) → has_float (report_result file r) ≡ false
 report_has_no_float file r = rw (fixes_have_no_float file r.fix, text_has_no_float r.help, text_has_no_float r.note) refl
 
 pub refusal_has_no_float : (file : FileValue) (r : Refusal) → has_float (refusal_result file r) ≡ false
-refusal_has_no_float file r = rw (text_has_no_float (option_map text_of (hint_of file.text r))) refl
+refusal_has_no_float file r = rw (hint_has_no_float (hint_of file.text r)) refl
 
 hazards_have_no_float : (hazards : List Hazard) → items_have_float (items_of (map hazard_object hazards)) ≡ false
 hazards_have_no_float [] = refl

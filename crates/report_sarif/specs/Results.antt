@@ -1,9 +1,10 @@
 -- Findings as results of SARIF 2.1.0: 3.8 property bags, 3.27 result, 3.11 message, 3.28 location, 3.55 fix, 3.56 artifactChange, 3.57 replacement.
-use Rattle.std.specs.Prelude.{ℕ, Bool, if◌then◌else◌, List, codes, map, Option, Some, None, option_map}
+use Rattle.std.specs.Prelude.{ℕ, Bool, if◌then◌else◌, List, codes, map, Option, Some, None}
 use Rattle.std.specs.List.{list_all}
 use Rattle.serde_json.specs.Data.{Data, Members, array, item, member, no_items, no_members, null, object, string}
 use Rattle.serde_json.specs.View.{items_of}
 use Rattle.text_pos.specs.Range.{Range}
+use Rattle.json_value.specs.Values.{hint_data, text_data}
 use Rattle.lint_base.specs.declared.edit.Edit.{Edit}
 use Rattle.lint_report.specs.declared.fix_class.FixClass.{FixClass}
 use Rattle.lint_report.specs.declared.report.Report.{Report}
@@ -13,7 +14,7 @@ use Rattle.lint_report.specs.FixClasses as classes
 use Rattle.source_file.specs.declared.level.Level.TheVariants as level
 use Rattle.source_file.specs.declared.refusal.Refusal.{Refusal}
 use Rattle.source_file.specs.File.{FileValue}
-use Rattle.source_file.specs.Hints.{hint_of, text_of}
+use Rattle.source_file.specs.Hints.{hint_of}
 use Rattle.source_file.specs.Levels.{word_of}
 use Rattle.source_file.specs.Line.{Text}
 use Rattle.source_file.specs.Refusals as refusals
@@ -70,11 +71,6 @@ fixes file (Some fix) = if are_in_text file.text fix.fix.edits then one (fix_obj
 abbrev pub locations : FileValue → Range → Data
 locations file range = one (object (member (codes "physicalLocation") (physical_location file range) no_members))
 
--- a text, or null
-abbrev pub text_data : Option (List ℕ) → Data
-text_data None = null
-text_data (Some text) = string text
-
 -- the property bag of a finding: its help, its note and its statement
 abbrev pub result_properties : Data → Data → Data → Data
 result_properties help note statement = object
@@ -103,4 +99,4 @@ abbrev pub refusal_result : FileValue → Refusal → Data
 refusal_result file r =
     let at = refusals.place_of r in
     result_object file (record { start = at; end = at }) (word_of level.Error) (refusals.name_of r) (refusals.message_of r) (array no_items)
-    (result_properties (text_data (option_map text_of (hint_of file.text r))) null null)
+    (result_properties (hint_data (hint_of file.text r)) null null)

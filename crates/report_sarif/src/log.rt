@@ -4,8 +4,8 @@ ghost use Rattle.serde_json.specs.Data.{array};
 ghost use Rattle.serde_json.specs.View.{items_of, view};
 ghost use Rattle.report_sarif.specs.Log.{all_codes, closing, code_object, driver, hazard_object, opening, rule_object, tool};
 
-use crate::text::push_value;
 use hazard_base::Hazard;
+use json_value::push_value;
 use lint_base::Rule;
 use lint_report::Code;
 use serde_json::{Value, json};

@@ -1,19 +1,18 @@
 //! The result of a finding.
-ghost use Rattle.std.specs.Prelude.{◌≡◌, IfOk, option_map};
+ghost use Rattle.std.specs.Prelude.{◌≡◌, IfOk};
 ghost use Rattle.std.specs.Str.{IsCharBoundary};
 ghost use Rattle.serde_json.specs.View.{view};
 ghost use Rattle.source_file.specs.File.{IsRangeIn};
 ghost use Rattle.source_file.specs.Levels.{word_of};
 ghost use Rattle.source_file.specs.Refusals as refusals;
-ghost use Rattle.report_sarif.specs.Results.{locations, refusal_result, report_result, result_object, result_properties, text_data};
-ghost use Rattle.source_file.specs.Hints.{text_of};
+ghost use Rattle.report_sarif.specs.Results.{locations, refusal_result, report_result, result_object, result_properties};
 
 use crate::fixes::{fixes_value, one, text_object};
 use crate::places::{physical_location, region};
-use lint_base::Text;
+use json_value::{hint_value, text_value};
 use lint_report::Report;
 use serde_json::{Value, json};
-use source_file::{Hint, Level, Refusal, SourceFile, hint_for};
+use source_file::{Level, Refusal, SourceFile, hint_for};
 use std::alloc::{AllocError, Global};
 use text_pos::TextRange;
 
@@ -25,26 +24,6 @@ fn locations(alloc: Global, file: &SourceFile<'_>, range: TextRange) -> Result<V
     let place = physical_location(alloc, file, range)?;
     let location = json!(in alloc; {"physicalLocation": place})?;
     one(alloc, location)
-}
-
-// A text, or null.
-fn text_value(alloc: Global, text: &Option<Text>) -> Result<Value, AllocError>
-    ensures { IfOk result (λ value. view value ≡ text_data text.now) }
-{
-    match text {
-        None => Ok(Value::Null),
-        Some(text) => Value::try_from_str(alloc, text.as_str()),
-    }
-}
-
-// What may help, or null.
-fn hint_value(alloc: Global, hint: Option<Hint>) -> Result<Value, AllocError>
-    ensures { IfOk result (λ value. view value ≡ text_data (option_map text_of hint)) }
-{
-    match hint {
-        None => Ok(Value::Null),
-        Some(hint) => Value::try_from_str(alloc, hint.text()),
-    }
 }
 
 // The property bag of a finding.
