@@ -1,4 +1,3 @@
-pub mod Fitting
 pub mod Choosing
 pub mod Beside
 pub mod Stages

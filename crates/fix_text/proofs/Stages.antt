@@ -1,9 +1,6 @@
 -- The stages of repeated fixing by classes.
-use Rattle.std.proofs.Common.{◌≡◌, ℕ, ◌+◌, ◌^◌, ◌<◌, ◌≤◌, Bool, true, false, List, sym, refl, ap, ◌∙◌, subst, arith, add-one, get_or, Option, Some, None}
+use Rattle.std.proofs.Common.{◌≡◌, ℕ, ◌+◌, ◌<◌, ◌≤◌, Bool, List, sym, ap, ◌∙◌, subst, arith, add-one, Option, Some, None}
 use Rattle.std.proofs.lemmas.List.Elements.{All-filter}
-use Rattle.std.specs.Prelude.{◌&&◌, nat_lt, not, length}
-use Rattle.std.specs.List.{list_all}
-use Rattle.std.specs.Option.{option_map}
 use Rattle.sql_token.specs.Token.{Text}
 use Rattle.sql_tree.specs.Statement.{Tree, IsTree, IsValid}
 use Rattle.sql_tree.proofs.TreeLaws.{one_tree}
@@ -12,37 +9,18 @@ use Rattle.lint_base.specs.declared.settings.LinterSettings.{LinterSettings}
 use Rattle.lint_base.specs.declared.violation.Violation.{Violation}
 use Rattle.lint_base.specs.Fixes.{FixValue}
 use Rattle.lint_base.specs.RuleSets.{Rules}
-use Rattle.lint_ignore.specs.Comment.{has_disable_comment}
 use Rattle.law_fixes.specs.Edited.{edited}
-use Rattle.law_fix_steps.specs.Listed.{is_listed}
-use Rattle.law_fix_steps.specs.Step.{FixSteps, JoinNoWord, Steps, load}
-use Rattle.law_answer_steps.specs.Answers.{AnswersStep}
+use Rattle.law_fix_steps.specs.Step.{Steps, load}
 use Rattle.law_answer_steps.proofs.Leaving.{stays}
-use Rattle.law_listed_edits.specs.OneEdit.{IsMendedByOne, MendedByOne}
-use Rattle.fix_choice.specs.Fits.{first_fitting, joins_no_word, next_text, with_fix}
+use Rattle.fix_choice.specs.Fits.{first_fitting, next_text, with_fix}
 use Rattle.squawk_linter.specs.Answers.{reports}
-use Rattle.squawk_linter.specs.Mending.{AnswersAreInTheirTables}
 use Rattle.squawk_linter.specs.Reports.{cleared}
-use Rattle.fix_text.proofs.Fitting.{OfFitting, both_true, each_one, is_short, joined, of_first}
+use Rattle.law_next_fix.specs.Fitting.{FittingFixesStep, IfFitting}
+use Rattle.law_next_fix.proofs.First.{chosen, cleared_again, of_first}
 use Rattle.fix_text.specs.Allowed.{allowed, is_allowed}
 use Rattle.fix_text.specs.Fixing.{IsFixed, IsLook, IsStep, Reached}
 use Rattle.fix_text.specs.Others.{others_of}
 use Rattle.other_fix.specs.declared.other.OtherFix.{OtherFix}
-
-and_again : (a b : Bool) → ((a && b) && b) ≡ (a && b)
-and_again true true = refl
-and_again true false = refl
-and_again false b = refl
-
-again : (tree : Tree) (settings : LinterSettings) → cleared tree (cleared tree settings) ≡ cleared tree settings
-again tree settings = λ i. record settings { assume_in_transaction = and_again settings.assume_in_transaction (not (has_disable_comment tree)) i }
-
-chosen : {s : Text} (f : FixValue → Text) (o : Option FixValue) → option_map f o ≡ Some s → (fix : FixValue) × (o ≡ Some fix) × (s ≡ f fix)
-chosen f None e = absurd (cc)
-chosen {s} f (Some fix) e = (fix, refl, inside e)
-  where
-    inside : Some (f fix) ≡ Some s → s ≡ f fix
-    inside e = cc
 
 -- After so many fixes the text is s. The load of its tree has fallen by as many at least.
 pub record Stage (file : Tree) (wide : Bool) (rules : Rules) (settings : LinterSettings) (applied : ℕ) (s : Text) : Type 0 where
@@ -57,34 +35,27 @@ module _ (file : Tree) (wide : Bool) (rules : Rules) (settings : LinterSettings)
   set = cleared file settings
 
   pub begun : IsTree file → (made : Text) → made ≡ file.text → Stage file wide rules settings 0 made
-  begun is made text = record { tree = file; of_text = (sym text, is); same = again file settings; reached = text; few = omega arith }
+  begun is made text = record { tree = file; of_text = (sym text, is); same = cleared_again file settings; reached = text; few = omega arith }
 
   pub is_valid : (applied : ℕ) (s : Text) → Stage file wide rules settings applied s → IsValid s
   is_valid applied s stage = (stage.tree, stage.of_text.0, stage.of_text.1)
 
-  -- the fix of a report of an answer that fits is a step
-  stepping : (tree : Tree) (v : Violation) → (is_listed v.code ≡ true → FixSteps tree rules (cleared tree set) (JoinNoWord tree) v) → (is_listed v.code ≡ true → IsMendedByOne v) →
-      OfFitting tree.text (λ f. Steps tree rules (cleared tree set) f.edits) v
-  stepping tree v steps single listed f has fit =
-      let p = both_true (list_all (joins_no_word tree.text) f.edits) (nat_lt (length (edited tree.text f.edits)) (2 ^ 32)) fit in
-      steps listed f has (joined tree f (single listed f has) p.0) (is_short (length (edited tree.text f.edits)) p.1)
-
-  stepped : (tree : Tree) → IsTree tree → MendedByOne → AnswersAreInTheirTables → AnswersStep → (f : FixValue) →
-      first_fitting tree.text (allowed wide set tree (reports tree rules set)) ≡ Some f → Steps tree rules (cleared tree set) f.edits
-  stepped tree is one tables law =
+  -- the first allowed fix that fits is a step
+  stepped : (tree : Tree) → IsTree tree → FittingFixesStep → (f : FixValue) → first_fitting tree.text (allowed wide set tree (reports tree rules set)) ≡ Some f →
+      Steps tree rules (cleared tree set) f.edits
+  stepped tree is law =
       of_first (λ f. Steps tree rules (cleared tree set) f.edits) tree.text (allowed wide set tree (reports tree rules set))
-      (All-filter (is_allowed wide set tree) (OfFitting tree.text (λ f. Steps tree rules (cleared tree set) f.edits)) (reports tree rules set)
-      (λ k d lt. stepping tree (get_or (reports tree rules set) k d) (law tree rules set is k d lt) (each_one tree rules set is one tables k d lt)))
+      (All-filter (is_allowed wide set tree) (IfFitting tree.text (λ f. Steps tree rules (cleared tree set) f.edits)) (reports tree rules set) (law tree rules set is))
 
-  pub next : MendedByOne → AnswersAreInTheirTables → AnswersStep → (made : Text) (applied : ℕ) (left : List Violation) (s : Text) → Stage file wide rules settings applied made →
+  pub next : FittingFixesStep → (made : Text) (applied : ℕ) (left : List Violation) (s : Text) → Stage file wide rules settings applied made →
       IsLook wide rules set made left (Some s) → Stage file wide rules settings (applied + 1) s
-  next one tables law made applied left s stage found =
+  next law made applied left s stage found =
       let tree = found.tree in
       let same_tree : stage.tree ≡ tree = one_tree stage.tree tree (stage.of_text.0 ∙ sym found.of_text.0) stage.of_text.1 found.of_text.1 in
       let here : next_text made (allowed wide set tree (reports tree rules set)) ≡ Some s = ap (λ (vs : List Violation). next_text made (allowed wide set tree vs)) (sym found.left_is) ∙ sym found.next_is in
       let c = chosen (with_fix made) (first_fitting made (allowed wide set tree (reports tree rules set))) here in
       let first : first_fitting tree.text (allowed wide set tree (reports tree rules set)) ≡ Some c.0 = ap (λ (t : Text). first_fitting t (allowed wide set tree (reports tree rules set))) found.of_text.0 ∙ c.1 in
-      let step = stepped tree found.of_text.1 one tables law c.0 first in
+      let step = stepped tree found.of_text.1 law c.0 first in
       let same : cleared tree set ≡ set = ap (λ (t : Tree). cleared t set) (sym same_tree) ∙ stage.same in
       let less : load step.new rules set < load tree rules set = subst (λ (x : LinterSettings). load step.new rules x < load tree rules x) same step.less in
       let few = stage.few in

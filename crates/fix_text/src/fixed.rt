@@ -10,15 +10,14 @@ ghost use Rattle.fix_text.specs.Fixing.{IsFixed, IsFixedText};
 
 use crate::look::{Look, look_at};
 use crate::others::others_in;
-use law_answer_steps::laws::answers_step;
 use law_fix_steps::laws::load_is_small;
-use law_listed_edits::laws::listed_edits;
+use law_next_fix::laws::fitting_fixes_step;
 use lint_base::Violation;
 use lint_ignore::has_disable_assume_in_transaction;
 use other_fix::OtherFix;
 use sql_read::parse;
 use sql_tree::Parse;
-use squawk_linter::laws::{answered_fixes_mend, second_answer};
+use squawk_linter::laws::second_answer;
 use squawk_linter::{LintError, Linter};
 use std::alloc::Global;
 use std::marker::Model;
@@ -66,9 +65,7 @@ fn fix_tree(
     ensures placed { IfOk result (λ fixed. All (λ other. IsCharBoundary file.now.text other.at) fixed.others) }
 {
     second_answer();
-    answered_fixes_mend();
-    listed_edits();
-    answers_step();
+    fitting_fixes_step();
     load_is_small();
     clear(linter, file);
     let others = others_in(linter, alloc, wide, file)?;

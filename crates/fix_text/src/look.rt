@@ -4,10 +4,9 @@ ghost use Rattle.sql_tree.specs.Statement.{IsValid};
 ghost use Rattle.fix_text.specs.Fixing.{IsLook};
 
 use crate::choose::next_allowed;
-use law_listed_edits::laws::listed_edits;
+use law_next_fix::laws::fitting_fixes_step;
 use lint_base::Violation;
 use sql_read::parse;
-use squawk_linter::laws::{answered_fixes_mend, answers_placed};
 use squawk_linter::{LintError, Linter};
 use std::alloc::Global;
 use text_pos::NoMemory;
@@ -32,9 +31,7 @@ pub(crate) fn look_at(
     ensures found { IfOk result (λ found. IsLook wide linter.old.rules linter.old.settings text.now found.left.items (option_map string_bytes found.next)) }
     ensures same { OnOk result (linter.new ≡ linter.old) }
 {
-    answers_placed();
-    answered_fixes_mend();
-    listed_edits();
+    fitting_fixes_step();
     let file = match parse(alloc, text) {
         Ok(file) => file,
         Err(LintError::NoMemory) => return Err(NoMemory),

@@ -13,12 +13,11 @@ ghost use Rattle.squawk_linter.specs.Answers.{reports};
 use crate::choose::made_if;
 use fix_choice::is_listed;
 use fix_class::FixClasses;
-use law_listed_edits::laws::listed_edits;
+use law_next_fix::laws::fitting_fixes_step;
 use lint_base::{Edit, Fix, LinterSettings, Violation};
 use other_fix::OtherFix;
 use sql_tree::Parse;
 use squawk_linter::Linter;
-use squawk_linter::laws::{answered_fixes_mend, answers_placed};
 use statement_place::Cursor;
 use std::alloc::Global;
 use text_pos::{NoMemory, TextRange};
@@ -238,9 +237,7 @@ pub(crate) fn others_in(
     ensures placed { IfOk result (λ others. All (λ other. IsCharBoundary file.now.text other.at) others.items) }
     ensures same { OnOk result (linter.new ≡ linter.old) }
 {
-    answers_placed();
-    answered_fixes_mend();
-    listed_edits();
+    fitting_fixes_step();
     is_read(file);
     let assumed = linter.settings.assume_in_transaction;
     let reports = linter.lint(alloc, file)?;

@@ -1,4 +1,3 @@
-mod Choosing
 mod Pending
 mod Plain
 mod Rounds

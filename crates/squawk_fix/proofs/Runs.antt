@@ -17,29 +17,26 @@ use Rattle.law_fix_steps.specs.Leaves.{is_followed}
 use Rattle.law_fix_steps.specs.Listed.{is_listed}
 use Rattle.law_answer_steps.specs.Leaves.{AnswerLeaves, AnswersAscend, AnswersLeave, Ascend, Comes, ComesFrom, FixLeavesAnswer, IsLeft}
 use Rattle.law_answer_steps.proofs.Leaving.{has_none, none_has}
-use Rattle.law_listed_edits.specs.OneEdit.{HasOneEdit, MendedByOne}
 use Rattle.fix_edit.specs.Faults.{AreGood}
-use Rattle.fix_choice.specs.Fits.{CanBeTried, first_fitting, fits, joins_no_word}
+use Rattle.fix_choice.specs.Fits.{CanBeTried, ListedCanBeTried, first_fitting, fits, joins_no_word}
 use Rattle.squawk_linter.specs.Answers.{reports}
 use Rattle.squawk_linter.specs.Headline.{HasNoIgnoreComment}
-use Rattle.squawk_linter.specs.Mending.{AnswersAreInTheirTables}
-use Rattle.squawk_linter.specs.Placed.{AnsweredFixesAreGood, AnswersPlaced, IsPlaced}
+use Rattle.squawk_linter.specs.Placed.{AnswersPlaced, IsPlaced}
+use Rattle.law_next_fix.specs.Fitting.{AnswersCanBeTried, FittingFixesMayStep, IfFitting, MayStep}
 use Rattle.squawk_fix.specs.Fixing.{IsStep, Reached}
 use Rattle.squawk_fix.specs.Round.{Answered, IsNextFix, IsNextText, Ran}
-use Rattle.squawk_fix.proofs.Choosing.{both_true, each_one, is_short, joined}
 use Rattle.squawk_fix.proofs.Pending.{Behind, FitsHere, Moved, NextIs, OneOf, all_behind, first_is, followed_listed, made_fits, moved_not, moved_on, next_is, there_cases}
 
 -- the laws of answers
 pub record Laws : Type 0 where
-  pub one : MendedByOne
-  pub tables : AnswersAreInTheirTables
+  pub tried : AnswersCanBeTried
+  pub may : FittingFixesMayStep
   pub placed : AnswersPlaced
-  pub good : AnsweredFixesAreGood
   pub ascend : AnswersAscend
   pub leave : AnswersLeave
 
-pub laws_of : MendedByOne → AnswersAreInTheirTables → AnswersPlaced → AnsweredFixesAreGood → AnswersAscend → AnswersLeave → Laws
-laws_of one tables placed good ascend leave = record { one = one; tables = tables; placed = placed; good = good; ascend = ascend; leave = leave }
+pub laws_of : AnswersCanBeTried → FittingFixesMayStep → AnswersPlaced → AnswersAscend → AnswersLeave → Laws
+laws_of tried may placed ascend leave = record { tried = tried; may = may; placed = placed; ascend = ascend; leave = leave }
 
 -- what is known of a value that is there
 pub known_of : {X : Type 0} (P : X → Type 0) (o : Option X) → IfSome o P → (x : X) → o ≡ Some x → P x
@@ -140,16 +137,14 @@ module _ (text : Text) (vs : List Violation) (a : Answered text vs) where
       followed_u : is_followed here.u.code ≡ true
       followed_u = ap is_followed here.moved.code ∙ n.ready.followed
 
-      good_g : AreGood tree.text here.next.fix.edits
-      good_g = subst (λ (o : Option FixValue). IfSome o (λ g. AreGood tree.text g.edits)) here.next.has (All-contains (λ x. IfSome x.fix (λ g. AreGood tree.text g.edits)) R here.u (laws.good tree a.rules a.settings read) here.there)
+      tried_g : CanBeTried tree.text here.next.fix
+      tried_g = subst (λ (o : Option FixValue). IfSome o (CanBeTried tree.text)) here.next.has (All-contains (ListedCanBeTried tree.text) R here.u (laws.tried tree a.rules a.settings read) here.there listed_u)
 
       pub tried : CanBeTried made f
-      tried =
-          let size : length f.edits ≡ 1 = ap length n.moved.one in
-          record {
-            good = subst (λ (es : List Edit). AreGood made es) here.next.same (subst (λ (t : Text). AreGood t here.next.fix.edits) p.ran.of_text.0 good_g);
-            few = omega (arith, size);
-          }
+      tried = record {
+        good = subst (λ (es : List Edit). AreGood made es) here.next.same (subst (λ (t : Text). AreGood t here.next.fix.edits) p.ran.of_text.0 tried_g.good);
+        few = subst (λ (es : List Edit). length es < 2 ^ 32) here.next.same tried_g.few;
+      }
 
       -- ---- it fits
 
@@ -202,14 +197,13 @@ module _ (text : Text) (vs : List Violation) (a : Answered text vs) where
         s_is : s ≡ edited tree.text g.edits
         s_is = text_is ∙ (let same = here.next.same in let t = p.ran.of_text.0 in λ i. edited (sym t i) (sym same i))
 
-        one_g : HasOneEdit g
-        one_g = All-contains (λ x. is_listed x.code ≡ true → (h : FixValue) → x.fix ≡ Some h → HasOneEdit h) R here.u (each_one tree a.rules a.settings p.ran.of_text.1 laws.one laws.tables) here.there listed_u g here.next.has
+        may : MayStep tree g
+        may = All-contains (IfFitting tree.text (MayStep tree)) R here.u (laws.may tree a.rules a.settings p.ran.of_text.1) here.there listed_u g here.next.has fit_tree
 
         leaves : AnswerLeaves tree a.rules a.settings here.u g.edits
         leaves =
-            let both = both_true (list_all (joins_no_word tree.text) g.edits) (nat_lt (length (edited tree.text g.edits)) (2 ^ 32)) fit_tree in
             All-contains (λ x. is_followed x.code ≡ true → (h : FixValue) → FixLeavesAnswer tree a.rules a.settings x h) R here.u (laws.leave tree a.rules a.settings read plain p.ran.same) here.there followed_u g here.next.has
-            (joined tree g one_g both.0) (is_short (length (edited tree.text g.edits)) both.1) (subst IsUtf8 s_is utf8_s)
+            may.apart may.short (subst IsUtf8 s_is utf8_s)
 
         ran : Ran text vs a s (applied + 1)
         ran =

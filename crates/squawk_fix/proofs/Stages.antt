@@ -1,7 +1,7 @@
 -- The stages of repeated fixing.
 use Rattle.std.proofs.Common.{◌≡◌, ◌⊎◌, inl, inr, ℕ, zero, suc, ◌+◌, ◌<◌, ◌≤◌, Bool, true, false, List, sym, refl, ap, ◌∙◌, subst, arith, add-one, Option, Some, None}
 use Rattle.std.proofs.lemmas.Bool.{false≢true}
-use Rattle.std.specs.Prelude.{All, MatchOption, ◌&&◌, not}
+use Rattle.std.specs.Prelude.{All, MatchOption}
 use Rattle.std.specs.Option.{option_map}
 use Rattle.std.specs.Str.{IsUtf8}
 use Rattle.sql_token.specs.Token.{Text}
@@ -12,31 +12,17 @@ use Rattle.lint_base.specs.declared.settings.LinterSettings.{LinterSettings}
 use Rattle.lint_base.specs.declared.violation.Violation.{Violation}
 use Rattle.lint_base.specs.Fixes.{FixValue}
 use Rattle.lint_base.specs.RuleSets.{Rules}
-use Rattle.lint_ignore.specs.Comment.{has_disable_comment}
 use Rattle.law_fixes.specs.Edited.{edited}
 use Rattle.law_fix_steps.specs.Step.{Steps, has_ignore_comment, load}
-use Rattle.law_answer_steps.specs.Answers.{AnswersStep}
 use Rattle.law_answer_steps.proofs.Leaving.{stays}
-use Rattle.law_listed_edits.specs.OneEdit.{MendedByOne}
 use Rattle.fix_choice.specs.Fits.{ListedCanBeTried, first_fitting, next_text, with_fix}
 use Rattle.squawk_linter.specs.Answers.{IsAnswer, reports}
 use Rattle.squawk_linter.specs.Laws.{SecondAnswer}
-use Rattle.squawk_linter.specs.Mending.{AnswersAreInTheirTables}
-use Rattle.squawk_linter.specs.Placed.{AnsweredFixesAreGood}
 use Rattle.squawk_linter.specs.Reports.{cleared}
+use Rattle.law_next_fix.specs.Fitting.{AnswersCanBeTried, FittingFixesStep}
+use Rattle.law_next_fix.proofs.First.{chosen, cleared_again, of_first}
 use Rattle.squawk_fix.specs.Fixing.{IsFixed, IsStep, Reached}
 use Rattle.squawk_fix.specs.Round.{Answered, IsRound, Ran}
-use Rattle.squawk_fix.proofs.Choosing.{all_tried, first_steps}
-
--- ---- the flag
-
-and_again : (a b : Bool) → ((a && b) && b) ≡ (a && b)
-and_again true true = refl
-and_again true false = refl
-and_again false b = refl
-
-again : (tree : Tree) (settings : LinterSettings) → cleared tree (cleared tree settings) ≡ cleared tree settings
-again tree settings = λ i. record settings { assume_in_transaction = and_again settings.assume_in_transaction (not (has_disable_comment tree)) i }
 
 -- ---- stages
 
@@ -59,13 +45,6 @@ pub record Next (file : Tree) (rules : Rules) (settings : LinterSettings) (appli
   pub few : applied + load tree rules (cleared file settings) ≤ load file rules (cleared file settings)
   pub ignores : has_ignore_comment tree ≡ true → has_ignore_comment file ≡ true
 
-chosen : {s : Text} (f : FixValue → Text) (o : Option FixValue) → option_map f o ≡ Some s → (fix : FixValue) × (o ≡ Some fix) × (s ≡ f fix)
-chosen f None e = absurd (cc)
-chosen {s} f (Some fix) e = (fix, refl, inside e)
-  where
-    inside : Some (f fix) ≡ Some s → s ≡ f fix
-    inside e = cc
-
 none_chosen : (f : FixValue → Text) (o : Option FixValue) → option_map f o ≡ None → o ≡ None
 none_chosen f None e = refl
 none_chosen f (Some fix) e = let g : Some (f fix) ≡ None = e in absurd (cc)
@@ -78,7 +57,7 @@ module _ (file : Tree) (rules : Rules) (settings : LinterSettings) where
   begun second is made left text answer = record {
     tree = file;
     of_text = (sym text, is);
-    same = again file settings;
+    same = cleared_again file settings;
     reached = text;
     left_is = answer ∙ sym (second file rules settings);
     few = omega arith;
@@ -89,26 +68,25 @@ module _ (file : Tree) (rules : Rules) (settings : LinterSettings) where
   answered made applied left stage = record { tree = stage.tree; of_text = stage.of_text; reports_of = stage.left_is }
 
   -- the fixes of its reports can be tried
-  pub tried : MendedByOne → AnswersAreInTheirTables → AnsweredFixesAreGood → (made : Text) (applied : ℕ) (left : List Violation) → Stage file rules settings made applied left → IsUtf8 made →
-      All (ListedCanBeTried made) left
-  tried one tables good made applied left stage utf8 =
+  pub tried : AnswersCanBeTried → (made : Text) (applied : ℕ) (left : List Violation) → Stage file rules settings made applied left → IsUtf8 made → All (ListedCanBeTried made) left
+  tried law made applied left stage utf8 =
       subst (λ (t : Text). All (ListedCanBeTried t) left) stage.of_text.0
       (subst (λ (vs : List Violation). All (ListedCanBeTried stage.tree.text) vs) (sym stage.left_is)
-      (all_tried stage.tree rules set stage.of_text.1 one tables good (record { read = stage.of_text.1; utf8 = subst IsUtf8 (sym stage.of_text.0) utf8 })))
+      (law stage.tree rules set (record { read = stage.of_text.1; utf8 = subst IsUtf8 (sym stage.of_text.0) utf8 })))
 
   -- ---- one fix more
 
-  stepped : MendedByOne → AnswersAreInTheirTables → AnswersStep → (made : Text) (applied : ℕ) (left : List Violation) (stage : Stage file rules settings made applied left) (f : FixValue) →
-      first_fitting made left ≡ Some f → Steps stage.tree rules (cleared stage.tree set) f.edits
-  stepped one tables steps made applied left stage f first =
-      first_steps stage.tree rules set stage.of_text.1 one tables steps f
+  stepped : FittingFixesStep → (made : Text) (applied : ℕ) (left : List Violation) (stage : Stage file rules settings made applied left) (f : FixValue) → first_fitting made left ≡ Some f →
+      Steps stage.tree rules (cleared stage.tree set) f.edits
+  stepped steps made applied left stage f first =
+      of_first (λ g. Steps stage.tree rules (cleared stage.tree set) g.edits) stage.tree.text (reports stage.tree rules set) (steps stage.tree rules set stage.of_text.1) f
       ((λ i. first_fitting (stage.of_text.0 i) (sym stage.left_is i)) ∙ first)
 
-  pub next : MendedByOne → AnswersAreInTheirTables → AnswersStep → (made : Text) (applied : ℕ) (left : List Violation) → Stage file rules settings made applied left → (s : Text) →
+  pub next : FittingFixesStep → (made : Text) (applied : ℕ) (left : List Violation) → Stage file rules settings made applied left → (s : Text) →
       next_text made left ≡ Some s → Next file rules settings (applied + 1) s
-  next one tables steps made applied left stage s is =
+  next steps made applied left stage s is =
       let c = chosen (with_fix made) (first_fitting made left) is in
-      let step = stepped one tables steps made applied left stage c.0 c.1 in
+      let step = stepped steps made applied left stage c.0 c.1 in
       let text : s ≡ edited made c.0.edits = c.2 in
       let less : load step.new rules set < load stage.tree rules set = subst (λ (x : LinterSettings). load step.new rules x < load stage.tree rules x) stage.same step.less in
       let few = stage.few in
@@ -144,13 +122,13 @@ module _ (file : Tree) (rules : Rules) (settings : LinterSettings) where
     are = stage.left_is;
   }
 
-  pub rounded : MendedByOne → AnswersAreInTheirTables → AnswersStep → (known : Bool) → (known ≡ true → has_ignore_comment file ≡ false) → (made : Text) (applied : ℕ) (left : List Violation) →
+  pub rounded : FittingFixesStep → (known : Bool) → (known ≡ true → has_ignore_comment file ≡ false) → (made : Text) (applied : ℕ) (left : List Violation) →
       Stage file rules settings made applied left → (s : Text) (more : ℕ) → IsRound known made left s more → Next file rules settings (applied + more) s
   unfolding from_here
-  rounded one tables steps known plain made applied left stage s more round = by round.made
+  rounded steps known plain made applied left stage s more round = by round.made
     where
       by : ((next_text made left ≡ Some s) × (more ≡ 1)) ⊎ ((known ≡ true) × ((a : Answered made left) → Ran made left a s more)) → Next file rules settings (applied + more) s
-      by (inl first) = subst (λ (k : ℕ). Next file rules settings (applied + k) s) (sym first.1) (next one tables steps made applied left stage s first.0)
+      by (inl first) = subst (λ (k : ℕ). Next file rules settings (applied + k) s) (sym first.1) (next steps made applied left stage s first.0)
       by (inr many) =
           let ran = many.1 (from_here (plain many.0) made applied left stage) in
           let few = stage.few in let fewer = ran.few in

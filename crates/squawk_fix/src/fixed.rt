@@ -9,13 +9,12 @@ ghost use Rattle.squawk_linter.specs.Reports.{cleared};
 ghost use Rattle.squawk_fix.specs.Fixing.{IsFixed, IsFixedText};
 
 use crate::round::{is_plain, next_round};
-use law_answer_steps::laws::answers_step;
 use law_fix_steps::laws::load_is_small;
-use law_listed_edits::laws::listed_edits;
+use law_next_fix::laws::fitting_fixes_step;
 use lint_base::Violation;
 use sql_read::parse;
 use sql_tree::Parse;
-use squawk_linter::laws::{answered_fixes_mend, answers_placed, second_answer};
+use squawk_linter::laws::second_answer;
 use squawk_linter::{LintError, Linter, lint_text};
 use std::alloc::Global;
 use std::marker::Model;
@@ -64,10 +63,7 @@ fn fix_tree(linter: &mut Linter, alloc: Global, file: &Parse<'_>) -> Result<Fixe
     ensures settings { linter.new.settings ≡ cleared file.now linter.old.settings }
 {
     second_answer();
-    answers_placed();
-    answered_fixes_mend();
-    listed_edits();
-    answers_step();
+    fitting_fixes_step();
     load_is_small();
     let mut left = linter.lint(alloc, file)?;
     let mut made = String::from_str(alloc, file.text())?;

@@ -11,11 +11,11 @@ ghost use Rattle.squawk_fix.specs.Round as spec;
 use fix_choice::{is_followed, is_listed, made_by, next_text};
 use law_answer_steps::laws::{answers_ascend, answers_leave};
 use law_fix_steps::laws::load_is_small;
-use law_listed_edits::laws::listed_edits;
+use law_next_fix::laws::fitting_fixes_step;
 use lint_base::{Edit, Fix, Text, Violation};
 use lint_ignore::{Found, find_ignores};
 use sql_tree::Parse;
-use squawk_linter::laws::{answered_fixes_mend, answers_placed};
+use squawk_linter::laws::answers_placed;
 use std::alloc::Global;
 use text_pos::{NoMemory, TextRange, TextSize};
 
@@ -171,8 +171,7 @@ fn run(alloc: Global, text: &str, reports: &[Violation]) -> Result<Round, NoMemo
         → spec.Ran text.now reports.now a (string_bytes round.text) round.applied) }
 {
     answers_placed();
-    answered_fixes_mend();
-    listed_edits();
+    fitting_fixes_step();
     answers_ascend();
     answers_leave();
     load_is_small();

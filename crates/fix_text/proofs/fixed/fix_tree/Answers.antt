@@ -17,7 +17,7 @@ overflow_add-applied c =
     let l = c.fixing in
     let found = look_here c.args.wide l.linter.rules rules l.linter.settings (cleared file settings) c.as_str.result.now (string_bytes l.made) c.in_ok-left.field-0.left.items
     (option_map string_bytes c.in_ok-left.field-0.next) (Some (string_bytes c.in-Some.text)) l.invariant.rules l.invariant.settings c.as_str.ensures.value (ap (option_map string_bytes) c.in-Some.is) c.in_ok-left.ensures.found in
-    let stage = next file c.args.wide rules settings c.listed_edits.ensures c.answered_fixes_mend.ensures.stand c.answers_step.ensures
+    let stage = next file c.args.wide rules settings c.fitting_fixes_step.ensures.steps
     (string_bytes l.made) l.applied c.in_ok-left.field-0.left.items (string_bytes c.in-Some.text) l.invariant.stage found in
     let few = stage.few in
     let small = c.load_is_small.ensures file rules (cleared file settings) c.text.ensures.tree in
@@ -31,7 +31,7 @@ fixing-smaller c =
     let l = c.fixing in
     let found = look_here c.args.wide l.linter.rules rules l.linter.settings (cleared file settings) c.as_str.result.now (string_bytes l.made) c.in_ok-left.field-0.left.items
     (option_map string_bytes c.in_ok-left.field-0.next) (Some (string_bytes c.in-Some.text)) l.invariant.rules l.invariant.settings c.as_str.ensures.value (ap (option_map string_bytes) c.in-Some.is) c.in_ok-left.ensures.found in
-    let stage = next file c.args.wide rules settings c.listed_edits.ensures c.answered_fixes_mend.ensures.stand c.answers_step.ensures
+    let stage = next file c.args.wide rules settings c.fitting_fixes_step.ensures.steps
     (string_bytes l.made) l.applied c.in_ok-left.field-0.left.items (string_bytes c.in-Some.text) l.invariant.stage found in
     let few = stage.few in
     omega (arith, few)
@@ -44,7 +44,7 @@ fixing-preserved c =
     let l = c.fixing in
     let found = look_here c.args.wide l.linter.rules rules l.linter.settings (cleared file settings) c.as_str.result.now (string_bytes l.made) c.in_ok-left.field-0.left.items
     (option_map string_bytes c.in_ok-left.field-0.next) (Some (string_bytes c.in-Some.text)) l.invariant.rules l.invariant.settings c.as_str.ensures.value (ap (option_map string_bytes) c.in-Some.is) c.in_ok-left.ensures.found in
-    let stage = next file c.args.wide rules settings c.listed_edits.ensures c.answered_fixes_mend.ensures.stand c.answers_step.ensures
+    let stage = next file c.args.wide rules settings c.fitting_fixes_step.ensures.steps
     (string_bytes l.made) l.applied c.in_ok-left.field-0.left.items (string_bytes c.in-Some.text) l.invariant.stage found in
     record {
       stage = stage;

@@ -5,15 +5,13 @@ use Rattle.lint_base.specs.declared.settings.LinterSettings.{LinterSettings}
 use Rattle.lint_base.specs.declared.violation.Violation.{Violation}
 use Rattle.fix_choice.specs.Fits.{ListedCanBeTried, next_text}
 use Rattle.fix_text.specs.Allowed.{allowed}
-use Rattle.fix_text.proofs.Fitting.{all_tried}
 use Rattle.fix_text.proofs.look.look_at.Goals as goal
 
 pub next_allowed-requires-clause-tried : goal.next_allowed-requires-clause-tried
 next_allowed-requires-clause-tried c =
     let file = c.in-Ok.file in
     let of_text = c.in-Ok.ensures.ok in
-    let all = all_tried file c.args.linter.now.rules c.args.linter.now.settings of_text.1 c.listed_edits.ensures c.answered_fixes_mend.ensures.stand c.answers_placed.ensures.good
-    (record { read = of_text.1; utf8 = subst IsUtf8 (sym of_text.0) c.utf8.text }) in
+    let all = c.fitting_fixes_step.ensures.tried file c.args.linter.now.rules c.args.linter.now.settings (record { read = of_text.1; utf8 = subst IsUtf8 (sym of_text.0) c.utf8.text }) in
     subst (λ (vs : List Violation). All (ListedCanBeTried file.text) vs) (sym (c.as_slice.ensures.value ∙ c.in_ok-left.ensures.ok)) all
 
 pub returns-clause-found : goal.returns-clause-found

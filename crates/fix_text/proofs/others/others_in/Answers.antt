@@ -6,7 +6,6 @@ use Rattle.lint_base.specs.declared.settings.LinterSettings.{LinterSettings}
 use Rattle.lint_base.specs.declared.violation.Violation.{Violation}
 use Rattle.fix_choice.specs.Fits.{ListedCanBeTried}
 use Rattle.fix_text.proofs.Beside.{others_placed}
-use Rattle.fix_text.proofs.Fitting.{all_tried}
 use Rattle.fix_text.specs.Others.{others_of}
 use Rattle.other_fix.specs.declared.other.OtherFix.{OtherFix}
 use Rattle.squawk_linter.specs.Placed.{IsPlaced}
@@ -15,8 +14,7 @@ use Rattle.fix_text.proofs.others.others_in.Goals as goal
 pub others_of-requires-clause-tried : goal.others_of-requires-clause-tried
 others_of-requires-clause-tried c =
     let file = c.args.file.now in
-    let all = all_tried file c.args.linter.now.rules c.args.linter.now.settings c.is_read.ensures.read c.listed_edits.ensures c.answered_fixes_mend.ensures.stand c.answers_placed.ensures.good
-    c.is_read.ensures in
+    let all = c.fitting_fixes_step.ensures.tried file c.args.linter.now.rules c.args.linter.now.settings c.is_read.ensures in
     subst (λ (vs : List Violation). All (ListedCanBeTried file.text) vs) (sym (c.as_slice.ensures.value ∙ c.in_ok-reports.ensures.ok)) all
 
 pub returns-clause-others : goal.returns-clause-others

@@ -26,7 +26,7 @@ pub next_round-requires-clause-tried : goal.next_round-requires-clause-tried
 next_round-requires-clause-tried c =
     let text = sym c.as_str.ensures.value in
     let utf8 = subst IsUtf8 c.as_str.ensures.value c.as_str.utf8 in
-    let all = tried c.args.file.now c.args.linter.now.rules c.args.linter.now.settings c.listed_edits.ensures c.answered_fixes_mend.ensures.stand c.answers_placed.ensures.good
+    let all = tried c.args.file.now c.args.linter.now.rules c.args.linter.now.settings c.fitting_fixes_step.ensures.tried
     (string_bytes c.loop-made.made) c.loop-made.applied c.loop-made.left.items c.loop-made.invariant.stage utf8 in
     subst (λ (t : Text). All (ListedCanBeTried t) c.as_slice.result.now) text
     (subst (λ (vs : List Violation). All (ListedCanBeTried (string_bytes c.loop-made.made)) vs) (sym c.as_slice.ensures.value) all)
@@ -43,7 +43,7 @@ lint_again-requires c =
     let r = round_is c.args.file.now c.args.linter.now.rules c.args.linter.now.settings (λ x. string_bytes x.text) (λ x. x.applied) c.in_ok-plain.plain
     (string_bytes c.loop-made.made) c.loop-made.left.items c.as_str.result.now c.as_slice.result.now c.as_str.ensures.value c.as_slice.ensures.value _
     c.in_ok-round.field-0 c.in_ok-round.ensures c.in-Some.round c.in-Some.is in
-    let n = rounded c.args.file.now c.args.linter.now.rules c.args.linter.now.settings c.listed_edits.ensures c.answered_fixes_mend.ensures.stand c.answers_step.ensures c.in_ok-plain.plain c.in_ok-plain.ensures
+    let n = rounded c.args.file.now c.args.linter.now.rules c.args.linter.now.settings c.fitting_fixes_step.ensures.steps c.in_ok-plain.plain c.in_ok-plain.ensures
     (string_bytes c.loop-made.made) c.loop-made.applied c.loop-made.left.items c.loop-made.invariant.stage (string_bytes c.in-Some.round.text) c.in-Some.round.applied r in
     subst IsValid (sym c.as_str-in-Some.ensures.value)
     (is_valid c.args.file.now c.args.linter.now.rules c.args.linter.now.settings _ (string_bytes c.in-Some.round.text) n)
@@ -53,7 +53,7 @@ overflow_add-applied c =
     let r = round_is c.args.file.now c.args.linter.now.rules c.args.linter.now.settings (λ x. string_bytes x.text) (λ x. x.applied) c.in_ok-plain.plain
     (string_bytes c.loop-made.made) c.loop-made.left.items c.as_str.result.now c.as_slice.result.now c.as_str.ensures.value c.as_slice.ensures.value _
     c.in_ok-round.field-0 c.in_ok-round.ensures c.in-Some.round c.in-Some.is in
-    let n = rounded c.args.file.now c.args.linter.now.rules c.args.linter.now.settings c.listed_edits.ensures c.answered_fixes_mend.ensures.stand c.answers_step.ensures c.in_ok-plain.plain c.in_ok-plain.ensures
+    let n = rounded c.args.file.now c.args.linter.now.rules c.args.linter.now.settings c.fitting_fixes_step.ensures.steps c.in_ok-plain.plain c.in_ok-plain.ensures
     (string_bytes c.loop-made.made) c.loop-made.applied c.loop-made.left.items c.loop-made.invariant.stage (string_bytes c.in-Some.round.text) c.in-Some.round.applied r in
     let few = n.few in
     let small = c.load_is_small.ensures c.args.file.now c.args.linter.now.rules (cleared c.args.file.now c.args.linter.now.settings) c.text.ensures.tree in
@@ -64,7 +64,7 @@ loop-made-smaller c =
     let r = round_is c.args.file.now c.args.linter.now.rules c.args.linter.now.settings (λ x. string_bytes x.text) (λ x. x.applied) c.in_ok-plain.plain
     (string_bytes c.loop-made.made) c.loop-made.left.items c.as_str.result.now c.as_slice.result.now c.as_str.ensures.value c.as_slice.ensures.value _
     c.in_ok-round.field-0 c.in_ok-round.ensures c.in-Some.round c.in-Some.is in
-    let n = rounded c.args.file.now c.args.linter.now.rules c.args.linter.now.settings c.listed_edits.ensures c.answered_fixes_mend.ensures.stand c.answers_step.ensures c.in_ok-plain.plain c.in_ok-plain.ensures
+    let n = rounded c.args.file.now c.args.linter.now.rules c.args.linter.now.settings c.fitting_fixes_step.ensures.steps c.in_ok-plain.plain c.in_ok-plain.ensures
     (string_bytes c.loop-made.made) c.loop-made.applied c.loop-made.left.items c.loop-made.invariant.stage (string_bytes c.in-Some.round.text) c.in-Some.round.applied r in
     let few = n.few in
     let some = r.some in
@@ -75,7 +75,7 @@ loop-made-preserved c =
     let r = round_is c.args.file.now c.args.linter.now.rules c.args.linter.now.settings (λ x. string_bytes x.text) (λ x. x.applied) c.in_ok-plain.plain
     (string_bytes c.loop-made.made) c.loop-made.left.items c.as_str.result.now c.as_slice.result.now c.as_str.ensures.value c.as_slice.ensures.value _
     c.in_ok-round.field-0 c.in_ok-round.ensures c.in-Some.round c.in-Some.is in
-    let n = rounded c.args.file.now c.args.linter.now.rules c.args.linter.now.settings c.listed_edits.ensures c.answered_fixes_mend.ensures.stand c.answers_step.ensures c.in_ok-plain.plain c.in_ok-plain.ensures
+    let n = rounded c.args.file.now c.args.linter.now.rules c.args.linter.now.settings c.fitting_fixes_step.ensures.steps c.in_ok-plain.plain c.in_ok-plain.ensures
     (string_bytes c.loop-made.made) c.loop-made.applied c.loop-made.left.items c.loop-made.invariant.stage (string_bytes c.in-Some.round.text) c.in-Some.round.applied r in
     let rules = c.loop-made.invariant.rules in
     let settings = c.loop-made.invariant.settings in

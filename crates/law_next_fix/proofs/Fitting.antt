@@ -1,11 +1,10 @@
--- What holds of the first fix that fits.
-use Rattle.std.proofs.Common.{◌≡◌, ℕ, ◌+◌, ◌-◌, ◌<◌, ◌^◌, Bool, true, false, cond, List, [], ◌∷◌, length, get_or, sym, refl, ap, ◌∙◌, subst, arith, Option, Some, None, IfSome}
+-- What fitting tells of the fixes of an answer.
+use Rattle.std.proofs.Common.{◌≡◌, ℕ, ◌+◌, ◌-◌, ◌<◌, ◌^◌, Bool, true, false, List, length, get_or, sym, refl, ap, ◌∙◌, subst, arith, Option, Some, None, IfSome}
 use Rattle.std.proofs.lemmas.Bool.Decides.{nat_tests}
 use Rattle.std.proofs.lemmas.List.{get_or-drop}
-use Rattle.std.proofs.lemmas.List.Elements.{All-contains, All-head, All-tail}
+use Rattle.std.proofs.lemmas.List.Elements.{All-contains}
 use Rattle.std.specs.Prelude.{All, Contains, ◌==◌, ◌&&◌, ◌||◌, not, is_some, nat_lt, slice_index}
 use Rattle.std.specs.List.{list_all}
-use Rattle.std.specs.Option.{option_or}
 use Rattle.sql_token.specs.Token.{Text, is_word}
 use Rattle.sql_tree.specs.Statement.{Tree, IsTree}
 use Rattle.lint_base.specs.declared.edit.Edit.{Edit}
@@ -15,7 +14,6 @@ use Rattle.lint_base.specs.declared.settings.LinterSettings.{LinterSettings}
 use Rattle.lint_base.specs.declared.violation.Violation.{Violation}
 use Rattle.lint_base.specs.Fixes.{FixValue}
 use Rattle.lint_base.specs.RuleSets.{Rules}
-use Rattle.lint_pass.specs.Laws.{IsRead}
 use Rattle.lint_pass.specs.RuleLaws.{one_all}
 use Rattle.law_answers.specs.Tables.{mended_table}
 use Rattle.law_fixes.specs.Edited.{edited}
@@ -26,43 +24,18 @@ use Rattle.law_fix_steps.specs.Step.{FixSteps, JoinNoWord, Steps}
 use Rattle.law_answer_steps.specs.Answers.{AnswersStep}
 use Rattle.law_listed_edits.specs.OneEdit.{AreMendedByOne, HasOneEdit, IsMendedByOne, MendedByOne}
 use Rattle.fix_edit.specs.Faults.{AreGood}
-use Rattle.fix_choice.specs.Fits.{CanBeTried, ListedCanBeTried, first_fitting, fits, fitting, joins_no_word}
+use Rattle.fix_choice.specs.Fits.{CanBeTried, fits, joins_no_word}
 use Rattle.squawk_linter.specs.Answers.{reports}
 use Rattle.squawk_linter.specs.Mending.{AnswersAreInTheirTables}
 use Rattle.squawk_linter.specs.Placed.{AnsweredFixesAreGood}
 use Rattle.squawk_linter.specs.Reports.{cleared}
-
-inside : {x y : FixValue} → Some x ≡ Some y → x ≡ y
-inside e = cc
-
-pub both_true : (a b : Bool) → (a && b) ≡ true → (a ≡ true) × (b ≡ true)
-both_true true b h = (refl, h)
-both_true false b h = cc
-
--- ---- the first fix that fits
-
--- What is said of each fix of a listed rule that fits.
-abbrev pub OfFitting : Text → (FixValue → Type 0) → Violation → Type 0
-OfFitting text P v = is_listed v.code ≡ true → (f : FixValue) → v.fix ≡ Some f → fits text f ≡ true → P f
-
-pub of_first : (P : FixValue → Type 0) (text : Text) (vs : List Violation) → All (OfFitting text P) vs → (f : FixValue) → first_fitting text vs ≡ Some f → P f
-of_first P text [] h f e = cc
-of_first P text (v ∷ vs) h f e = by (is_listed v.code) refl e (of_first P text vs (All-tail (OfFitting text P) v vs h) f)
-  where
-    by_fit : is_listed v.code ≡ true → (g : FixValue) → v.fix ≡ Some g → (b : Bool) → fits text g ≡ b → option_or (cond b (Some g) None) (first_fitting text vs) ≡ Some f →
-        (first_fitting text vs ≡ Some f → P f) → P f
-    by_fit listed g is true fit e rest = subst P (inside e) (All-head (OfFitting text P) v vs h listed g is fit)
-    by_fit listed g is false fit e rest = rest e
-
-    by_fix : is_listed v.code ≡ true → (o : Option FixValue) → v.fix ≡ o → option_or (fitting text o) (first_fitting text vs) ≡ Some f → (first_fitting text vs ≡ Some f → P f) → P f
-    by_fix listed None is e rest = rest e
-    by_fix listed (Some g) is e rest = by_fit listed g is (fits text g) refl e rest
-
-    by : (b : Bool) → is_listed v.code ≡ b → option_or (fitting text (cond b v.fix None)) (first_fitting text vs) ≡ Some f → (first_fitting text vs ≡ Some f → P f) → P f
-    by true listed e rest = by_fix listed v.fix refl e rest
-    by false listed e rest = rest e
+use Rattle.law_next_fix.specs.Fitting.{AnswersCanBeTried, FittingFixesMayStep, FittingFixesStep, IfFitting, MayStep}
 
 -- ---- it joins no word
+
+both_true : (a b : Bool) → (a && b) ≡ true → (a ≡ true) × (b ≡ true)
+both_true true b h = (refl, h)
+both_true false b h = cc
 
 parted : (a b c d : Bool) → (a || (not (b && c) && not d)) ≡ true → a ≡ false → b ≡ true → (c ≡ false) × (d ≡ false)
 parted true b c d h p q = cc
@@ -77,7 +50,7 @@ not_same a b h = grind (arith, nat_tests)
 is_more : (a : ℕ) → 0 < a → nat_lt 0 a ≡ true
 is_more a h = grind (arith, nat_tests)
 
-pub is_short : (n : ℕ) → nat_lt n (2 ^ 32) ≡ true → n < 2 ^ 32
+is_short : (n : ℕ) → nat_lt n (2 ^ 32) ≡ true → n < 2 ^ 32
 is_short n h = grind (arith, nat_tests)
 
 joins_none : (text : Text) (e : Edit) → joins_no_word text e ≡ true → (e.text_range.start < e.text_range.end → 0 < e.text_range.start) → e.text_range.start < e.text_range.end → JoinsNone text e
@@ -88,12 +61,17 @@ joins_none text e joins behind some =
     let place : end + 0 ≡ end = omega arith in
     record { before = p.0; after = ap is_word (get_or-drop end text 0 0 ∙ ap (λ (x : ℕ). get_or text x 0) place) ∙ p.1 }
 
-pub joined : (tree : Tree) (f : FixValue) → HasOneEdit f → list_all (joins_no_word tree.text) f.edits ≡ true → JoinNoWord tree f.edits
+joined : (tree : Tree) (f : FixValue) → HasOneEdit f → list_all (joins_no_word tree.text) f.edits ≡ true → JoinNoWord tree f.edits
 joined tree f one joins =
     let each : (joins_no_word tree.text one.edit && true) ≡ true = subst (λ (es : List Edit). list_all (joins_no_word tree.text) es ≡ true) one.one joins in
     subst (JoinNoWord tree) (sym one.one)
     (one_all (λ (e : Edit). e.text_range.start < e.text_range.end → JoinsNone tree.text e) one.edit
     (joins_none tree.text one.edit (both_true (joins_no_word tree.text one.edit) true each).0 one.behind))
+
+may_step : (tree : Tree) (f : FixValue) → HasOneEdit f → fits tree.text f ≡ true → MayStep tree f
+may_step tree f one fit =
+    let p = both_true (list_all (joins_no_word tree.text) f.edits) (nat_lt (length (edited tree.text f.edits)) (2 ^ 32)) fit in
+    record { apart = joined tree f one p.0; short = is_short (length (edited tree.text f.edits)) p.1 }
 
 -- ---- the fixes of an answer
 
@@ -118,31 +96,34 @@ module _ (tree : Tree) (rules : Rules) (settings : LinterSettings) (is : IsTree 
   mended_by v None inside all some = absurd (cc)
   mended_by v (Some table) inside all some = All-contains IsMendedByOne (table tree rules (cleared tree settings)) v (all tree rules (cleared tree settings) is) inside
 
-  pub each_one : All Listed (reports tree rules settings)
+  each_one : All Listed (reports tree rules settings)
   each_one k d lt =
       let v = get_or (reports tree rules settings) k d in
       λ listed. mended_by v (mended_table v.code) (tables tree rules settings k d lt) (one v.code) (listed_mended v.code listed)
 
-  -- So each of them can be tried.
-  can_be_tried : (v : Violation) (o : Option FixValue) → v.fix ≡ o → IfSome o (λ f. AreGood tree.text f.edits) → IsMendedByOne v → IfSome o (CanBeTried tree.text)
-  can_be_tried v None has good single = tt
-  can_be_tried v (Some f) has good single =
-      let size : length f.edits ≡ 1 = ap length (single f has).one in
-      record { good = good; few = omega (arith, size) }
+-- ---- laws of them
 
-  pub all_tried : AnsweredFixesAreGood → IsRead tree → All (ListedCanBeTried tree.text) (reports tree rules settings)
-  all_tried good read k d lt =
-      let v = get_or (reports tree rules settings) k d in
-      λ listed. can_be_tried v v.fix refl (good tree rules settings read k d lt) (each_one k d lt listed)
+can_be_tried : (text : Text) (v : Violation) (o : Option FixValue) → v.fix ≡ o → IfSome o (λ f. AreGood text f.edits) → IsMendedByOne v → IfSome o (CanBeTried text)
+can_be_tried text v None has good single = tt
+can_be_tried text v (Some f) has good single =
+    let size : length f.edits ≡ 1 = ap length (single f has).one in
+    record { good = good; few = omega (arith, size) }
 
-  -- The first of them that fits is a step.
-  stepping : (v : Violation) → (is_listed v.code ≡ true → FixSteps tree rules (cleared tree settings) (JoinNoWord tree) v) → (is_listed v.code ≡ true → IsMendedByOne v) →
-      OfFitting tree.text (λ f. Steps tree rules (cleared tree settings) f.edits) v
-  stepping v steps single listed f has fit =
-      let p = both_true (list_all (joins_no_word tree.text) f.edits) (nat_lt (length (edited tree.text f.edits)) (2 ^ 32)) fit in
-      steps listed f has (joined tree f (single listed f has) p.0) (is_short (length (edited tree.text f.edits)) p.1)
+pub all_tried : MendedByOne → AnswersAreInTheirTables → AnsweredFixesAreGood → AnswersCanBeTried
+all_tried one tables good tree rules settings read k d lt =
+    let v = get_or (reports tree rules settings) k d in
+    λ listed. can_be_tried tree.text v v.fix refl (good tree rules settings read k d lt) (each_one tree rules settings read.read one tables k d lt listed)
 
-  pub first_steps : AnswersStep → (f : FixValue) → first_fitting tree.text (reports tree rules settings) ≡ Some f → Steps tree rules (cleared tree settings) f.edits
-  first_steps law =
-      of_first (λ f. Steps tree rules (cleared tree settings) f.edits) tree.text (reports tree rules settings)
-      (λ k d lt. stepping (get_or (reports tree rules settings) k d) (law tree rules settings is k d lt) (each_one k d lt))
+pub fitting_may_step : MendedByOne → AnswersAreInTheirTables → FittingFixesMayStep
+fitting_may_step one tables tree rules settings is k d lt = λ listed f has fit. may_step tree f (each_one tree rules settings is one tables k d lt listed f has) fit
+
+stepping : (tree : Tree) (rules : Rules) (settings : LinterSettings) (v : Violation) → (is_listed v.code ≡ true → FixSteps tree rules settings (JoinNoWord tree) v) →
+    IfFitting tree.text (MayStep tree) v → IfFitting tree.text (λ f. Steps tree rules settings f.edits) v
+stepping tree rules settings v steps may listed f has fit =
+    let m = may listed f has fit in
+    steps listed f has m.apart m.short
+
+pub fitting_steps : MendedByOne → AnswersAreInTheirTables → AnswersStep → FittingFixesStep
+fitting_steps one tables law tree rules settings is k d lt =
+    stepping tree rules (cleared tree settings) (get_or (reports tree rules settings) k d) (law tree rules settings is k d lt)
+    (fitting_may_step one tables tree rules settings is k d lt)
