@@ -77,15 +77,15 @@ _lavkheto() {
     server:--pg-patch) :; return ;;
     esac
     case $command:$cur in
-    check:-*) _lavkheto_words '--format --color --quiet --statistics --stdin-filename --config --fail-on --baseline --write-baseline --strict -- --only --include --exclude --no-hazards --non-volatile --assume-in-transaction --pg-major --pg-minor --pg-patch --help --version' ;;
+    check:-*) _lavkheto_words '--format --color --quiet --statistics --stdin-filename --config --fail-on --baseline --write-baseline --strict -- --only --include --exclude --no-hazards --non-volatile --assume-in-transaction --pg-major --pg-minor --pg-patch -h --help -V --version' ;;
     check:*) _lavkheto_files '*.sql' ;;
-    fix:-*) _lavkheto_words '--write --unsafe --config -- --only --include --exclude --non-volatile --assume-in-transaction --pg-major --pg-minor --pg-patch --help' ;;
+    fix:-*) _lavkheto_words '--write --unsafe --config -- --only --include --exclude --non-volatile --assume-in-transaction --pg-major --pg-minor --pg-patch -h --help' ;;
     fix:*) _lavkheto_files '*.sql' ;;
-    gate:-*) _lavkheto_words '--order --works --one-session -- --include --non-volatile --assume-in-transaction --pg-major --pg-minor --pg-patch --help' ;;
+    gate:-*) _lavkheto_words '--order --works --one-session -- --include --non-volatile --assume-in-transaction --pg-major --pg-minor --pg-patch -h --help' ;;
     gate:*) _lavkheto_files '*.sql' ;;
-    explain:-*) _lavkheto_words '--help' ;;
+    explain:-*) _lavkheto_words '-h --help' ;;
     explain:*) _lavkheto_codes ;;
-    server:-*) _lavkheto_words '--only --include --exclude --no-hazards --non-volatile --assume-in-transaction --pg-major --pg-minor --pg-patch --stdio --help' ;;
+    server:-*) _lavkheto_words '--only --include --exclude --no-hazards --non-volatile --assume-in-transaction --pg-major --pg-minor --pg-patch --stdio -h --help' ;;
     server:*) : ;;
     esac
 }

@@ -1,5 +1,5 @@
 -- Why a run stopped.
-use Rattle.std.proofs.Common.{◌≡◌, refl, subst, sym, ℕ, Bool, true, false, List, Option, Some, None, Result, Ok, Err, IfOk, IfErr, OnOk}
+use Rattle.std.proofs.Common.{◌≡◌, refl, subst, sym, ℕ, Bool, true, false, List, [], ◌∷◌, Option, Some, None, Result, Ok, Err, IfOk, IfErr, OnOk}
 use Rattle.std.specs.Io.KnownBytes.{Appends, Keeps}
 use Rattle.std.specs.Prelude.{◌&&◌}
 use Rattle.file_store.specs.Contents.{Content}
@@ -17,7 +17,7 @@ use Rattle.gate_command.specs.declared.outcome.Status.{Status}
 use Rattle.gate_command.specs.declared.request.Request.{Request}
 use Rattle.gate_command.specs.Asked.{asked_of}
 use Rattle.gate_command.specs.Failures.{IsStop}
-use Rattle.gate_command.specs.Command.{HasWritten, HasWrittenPart, IsAnswerBy, IsLineOf, IsRefusedBy, StoppedFor, fault_by, fault_of, is_beside}
+use Rattle.gate_command.specs.Command.{HasWritten, HasWrittenPart, IsAnswerBy, IsLineOf, IsRefusedBy, StoppedFor, fault_by, fault_of, is_beside, unfit, unfit_by}
 
 -- ---- faults
 
@@ -28,21 +28,22 @@ no_memory_fits (Some f) = tt
 pub unnamed : (r : Request) (o : Option Linter) (failure : Failure) → None ≡ o → IsLineOf (fault.Linter r.linter) failure → IsRefusedBy (fault_by r o) failure
 unnamed r o failure e told = subst (λ (l : Option Linter). IsRefusedBy (fault_by r l) failure) e told
 
-pub beside_by : (r : Request) (l : Linter) (failure : Failure) (b : Bool) → b ≡ is_beside r l → b ≡ true → IsLineOf fault.Beside failure → IsRefusedBy (fault_by r (Some l)) failure
-beside_by r l failure b e is told = let there : is_beside r l ≡ true = cc in rw there told
-
-pub beside : (r : Request) (o : Option Linter) (l : Linter) (failure : Failure) (b : Bool) → Some l ≡ o → b ≡ is_beside r l → b ≡ true → IsLineOf fault.Beside failure
-    → IsRefusedBy (fault_by r o) failure
-beside r o l failure b e f is told = subst (λ (x : Option Linter). IsRefusedBy (fault_by r x) failure) e (beside_by r l failure b f is told)
+pub unfit_for : (r : Request) (l : Linter) (f : Fault) (failure : Failure) → unfit r l ≡ Some f → IsLineOf f failure → IsRefusedBy (fault_by r (Some l)) failure
+unfit_for r l f failure e told = subst (λ (o : Option Fault). IsRefusedBy o failure) (sym e) told
 
 not_both : (a b : Bool) → (a && b) ≡ false → a ≡ true → b ≡ false
 not_both true true e is = e
 not_both true false e is = refl
 not_both false b e is = absurd cc
 
--- what is not beside is apart
-pub apart_by : (r : Request) (l : Linter) (b : Bool) → b ≡ is_beside r l → b ≡ false → r.one_session ≡ true → l.settings.assume_in_transaction ≡ false
-apart_by r l b e is asked = let none : is_beside r l ≡ false = cc in not_both r.one_session l.settings.assume_in_transaction none asked
+not_beside : (files : List Text) (b : Bool) → unfit_by files b ≡ None → b ≡ false
+not_beside [] b e = absurd cc
+not_beside (file ∷ files) true e = absurd cc
+not_beside (file ∷ files) false e = refl
+
+-- what fits is apart
+pub apart_by : (r : Request) (l : Linter) → unfit r l ≡ None → r.one_session ≡ true → l.settings.assume_in_transaction ≡ false
+apart_by r l e asked = not_both r.one_session l.settings.assume_in_transaction (not_beside r.files (is_beside r l) e) asked
 
 -- ---- stops
 

@@ -1,19 +1,16 @@
 -- From one word to the next.
 use Rattle.std.proofs.Common.{◌≡◌, ◌+◌, ◌<◌, ap, arith, ℕ, List, [], drop, length, Some}
 use Rattle.std.proofs.lemmas.List.{drop_all}
-use Rattle.std.specs.Option.{option_map_or}
 use Rattle.std.specs.Prelude.{slice_get}
 use Rattle.squawk_words.specs.Words.{Text}
 use Rattle.squawk_words.proofs.Places.{drop_at}
-use Rattle.gate_command.specs.declared.asked.Asked.TheVariants.{Refused}
-use Rattle.gate_command.specs.declared.fault.Fault.TheVariants.{Word}
 use Rattle.gate_command.specs.declared.step.Reader.{Reader}
-use Rattle.gate_command.specs.Asked.{read_from}
+use Rattle.gate_command.specs.Asked.{read_from, step_then}
 use Rattle.gate_command.specs.Steps.{step}
 
 -- what is read from here on, by the word that is here
 pub read_at : (reader : Reader) (words : List Text) (k : ℕ) (word : Text) → slice_get words k ≡ Some word
-    → read_from reader (drop k words) ≡ option_map_or (λ r. read_from r (drop (k + 1) words)) (step word reader) (Refused (Word word))
+    → read_from reader (drop k words) ≡ step_then (step word reader) (λ r. read_from r (drop (k + 1) words))
 unfolding read_from
 read_at reader words k word e = ap (read_from reader) (drop_at words k word e)
 

@@ -1,5 +1,5 @@
 -- What a run does that the words ask for.
-use Rattle.std.specs.Prelude.{◌≡◌, ℕ, Bool, ◌&&◌, false, List, Option, Some, None, if◌then◌else◌, ⊤}
+use Rattle.std.specs.Prelude.{◌≡◌, ℕ, Bool, ◌&&◌, true, false, List, [], ◌∷◌, Option, Some, None, ⊤}
 use Rattle.std.specs.Io.KnownBytes.{Appends, Keeps}
 use Rattle.file_store.specs.Contents.{Content}
 use Rattle.migration_gate.specs.Config.{linter_of}
@@ -13,7 +13,7 @@ use Rattle.gate_command.specs.declared.asked.Asked.TheVariants.{Gate, Help, Refu
 use Rattle.gate_command.specs.declared.failure.Failure.{Failure}
 use Rattle.gate_command.specs.declared.failure.Failure.TheVariants.{Stop, Words}
 use Rattle.gate_command.specs.declared.fault.Fault.{Fault}
-use Rattle.gate_command.specs.declared.fault.Fault.TheVariants.{Beside, Linter}
+use Rattle.gate_command.specs.declared.fault.Fault.TheVariants.{Beside, Linter, NoFiles}
 use Rattle.gate_command.specs.declared.help.TheConstants.{HELP}
 use Rattle.gate_command.specs.declared.outcome.Status.{Status}
 use Rattle.gate_command.specs.declared.outcome.Status.TheVariants.{Accepted}
@@ -28,10 +28,19 @@ use Rattle.gate_command.specs.Faults.{fault_line}
 abbrev pub is_beside : Request → AnyLinter → Bool
 is_beside r l = r.one_session && l.settings.assume_in_transaction
 
+abbrev pub unfit_by : List Text → Bool → Option Fault
+unfit_by [] beside = Some NoFiles
+unfit_by (file ∷ files) true = Some Beside
+unfit_by (file ∷ files) false = None
+
+-- why the linter can't be asked: files are to be named
+abbrev pub unfit : Request → AnyLinter → Option Fault
+unfit r l = unfit_by r.files (is_beside r l)
+
 -- why the request is refused, by the linter that its words name
 abbrev pub fault_by : Request → Option AnyLinter → Option Fault
 fault_by r None = Some (Linter r.linter)
-fault_by r (Some l) = if is_beside r l then Some Beside else None
+fault_by r (Some l) = unfit r l
 
 abbrev pub fault_in : Asked → Option Fault
 fault_in (Gate r) = fault_by r (linter_of r.linter)
@@ -65,7 +74,7 @@ IsRefusedBy None failure = IsNoMemory failure
 
 -- the linter fits the request, and this is the answer for the files
 abbrev pub IsAnswered : Request → AnyLinter → (Text → Content) → ℕ → ℕ → Status → List ℕ → Type 0
-IsAnswered r l content before now status bytes = (is_beside r l ≡ false) × IsAnswerOf r l content before now status bytes
+IsAnswered r l content before now status bytes = (unfit r l ≡ None) × IsAnswerOf r l content before now status bytes
 
 -- the words name a linter that fits, and this is the answer for the files
 pub record IsGated (request : Request) (content : Text → Content) (before now : ℕ) (status : Status) (bytes : List ℕ) : Type 0 where

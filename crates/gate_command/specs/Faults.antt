@@ -1,17 +1,20 @@
 -- The line about words that are refused.
 use Rattle.std.specs.Prelude.{ℕ, List, ◌++◌, codes}
-use Rattle.shown_words.specs.Shown.{word_part, words_part}
+use Rattle.refused_word.specs.Messages.{line_of, words_line}
+use Rattle.source_file.specs.Escaped.{escaped}
+use Rattle.squawk_words.specs.Words.{Text}
 use Rattle.gate_command.specs.declared.fault.Fault.{Fault}
-use Rattle.gate_command.specs.declared.fault.Fault.TheVariants.{Word, NoValue, NoFiles, Linter, Beside}
+use Rattle.gate_command.specs.declared.fault.Fault.TheVariants.{Word, UnknownOrder, NoOrder, NoFiles, Linter, Beside}
 
--- what a fault is about
-unfoldable pub fault_part : Fault → List ℕ
-fault_part (Word word) = word_part word
-fault_part NoValue = codes " the last word, which needs a value"
-fault_part NoFiles = codes " no files"
-fault_part (Linter words) = words_part words
-fault_part Beside = codes " --one-session beside --assume-in-transaction"
+-- of a value that `--order` does not have
+abbrev pub order_line : Text → List ℕ
+order_line value = codes "error: --order: unknown value: " ++ escaped value ++ codes "; one of given, name\n"
 
--- `error: gate: not accepted: --ordr`
-abbrev pub fault_line : Fault → List ℕ
-fault_line fault = codes "error: gate: not accepted:" ++ fault_part fault ++ codes "\n"
+-- what `check` says of a word and of words, and the gate's own lines
+unfoldable pub fault_line : Fault → List ℕ
+fault_line (Word fault) = line_of fault
+fault_line (UnknownOrder value) = order_line value
+fault_line NoOrder = codes "error: --order: its value is missing\n"
+fault_line NoFiles = codes "error: no files are named; --help lists what there is\n"
+fault_line (Linter words) = words_line words
+fault_line Beside = codes "error: --one-session: not beside --assume-in-transaction\n"

@@ -5,7 +5,7 @@ ghost use Rattle.gate_command.specs.Asked.{asked_of};
 use crate::fault::Fault;
 use crate::read::read_request;
 use crate::request::Request;
-use squawk_run::has_foreign_word;
+use help_words::asks_for_help;
 use squawk_words::Words;
 use std::alloc::Global;
 use text_pos::NoMemory;
@@ -25,7 +25,7 @@ pub enum Asked {
 pub fn read_asked(alloc: Global, words: &Words) -> Result<Asked, NoMemory>
     ensures { IfOk result (λ asked. asked ≡ asked_of words.now) }
 {
-    if has_foreign_word(words, &["help"]) {
+    if asks_for_help(words) {
         return Ok(Asked::Help);
     }
     read_request(alloc, words)

@@ -44,6 +44,19 @@ fn is_beside(request: &Request, linter: &Linter) -> bool
     request.one_session && linter.settings.assume_in_transaction
 }
 
+// Why a request is refused by a linter that its words name.
+fn unfit(request: &Request, linter: &Linter) -> Option<Fault>
+    ensures { result ≡ spec.unfit request.now linter.now }
+{
+    if request.files.is_empty() {
+        return Some(Fault::NoFiles);
+    }
+    if is_beside(request, linter) {
+        return Some(Fault::Beside);
+    }
+    None
+}
+
 // The failure of a request whose words the linter refuses.
 fn refused_linter(alloc: Global, request: Request) -> Failure
     ensures { spec.IsLineOf (Fault.Linter request.linter) result }
@@ -70,8 +83,8 @@ fn answered<F: FileStore>(
     ensures answer { IfOk result (λ a. spec.IsAnswered request.now linter.old (F.content files.old) (F.faults files.old) (F.faults files.new) a.status a.bytes.items) }
     ensures refused { IfErr result (spec.IsRefusedBy (spec.fault_by request.now (Some linter.old))) }
 {
-    if is_beside(request, linter) {
-        return Err(refused(alloc, &Fault::Beside));
+    if let Some(fault) = unfit(request, linter) {
+        return Err(refused(alloc, &fault));
     }
     match answer_files(alloc, request, linter, files) {
         Ok(answer) => Ok(answer),

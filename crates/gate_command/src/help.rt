@@ -22,7 +22,7 @@ ignore comment, is plain, and nothing is reported of it by the rules of the defa
   --pg-minor N             its second part (default: 0)
   --pg-patch N             its third part (default: 0)
 
-  --help                   this help
+  -h, --help               this help
 
 Status: 0 all files are accepted; 1 a file is not; 2 the words are not accepted; 3 a file is not UTF-8; 4 a file is too long;
 5 a file can't be read; 6 a write failed; 7 out of memory.

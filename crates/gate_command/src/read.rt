@@ -1,13 +1,12 @@
 //! All words after `gate`.
 ghost use Rattle.std.specs.Prelude.{◌≡◌, IfOk, drop};
-ghost use Rattle.gate_command.specs.Asked.{by_request, ended, request_of, start};
+ghost use Rattle.gate_command.specs.Asked.{ended, request_of, start};
 
 use crate::asked::Asked;
 use crate::fault::Fault;
 use crate::request::Request;
 use crate::step::{Next, Reader, step};
 use gate_files::Order;
-use lint_base::Text;
 use squawk_words::Words;
 use std::alloc::Global;
 use text_pos::NoMemory;
@@ -28,33 +27,16 @@ fn start(alloc: Global) -> Reader
     }
 }
 
-// A request for files, which are to be named.
-fn by_request(request: Request) -> Asked
-    ensures { result ≡ by_request request }
-{
-    if request.files.is_empty() {
-        return Asked::Refused(Fault::NoFiles);
-    }
-    Asked::Gate(request)
-}
-
 // What the words ask for, where no value is waited for.
 fn ended(reader: Reader) -> Asked
     ensures { result ≡ ended reader.next reader.request }
 {
     let Reader { next, request } = reader;
     match next {
-        Next::Any | Next::File => by_request(request),
-        Next::OrderValue | Next::LinterValue => Asked::Refused(Fault::NoValue),
+        Next::Any | Next::File => Asked::Gate(request),
+        Next::OrderValue => Asked::Refused(Fault::NoOrder),
+        Next::LinterValue => Asked::Refused(Fault::Linter(request.linter)),
     }
-}
-
-// A word that is refused.
-fn refused(alloc: Global, word: &str) -> Result<Asked, NoMemory>
-    ensures { IfOk result (λ asked. asked ≡ Asked.Refused (Fault.Word word.now)) }
-{
-    let word = Text::made(String::from_str(alloc, word)?);
-    Ok(Asked::Refused(Fault::Word(word)))
 }
 
 /// What the words after the first ask for. The error comes when memory runs out.
@@ -63,10 +45,9 @@ pub(crate) fn read_request(alloc: Global, words: &Words) -> Result<Asked, NoMemo
 {
     let mut reader = start(alloc);
     for i in 1..words.len() {
-        let word = words.get(i);
-        match step(reader, word)? {
-            Some(next) => reader = next,
-            None => return refused(alloc, word),
+        match step(alloc, reader, words.get(i))? {
+            Ok(next) => reader = next,
+            Err(fault) => return Ok(Asked::Refused(fault)),
         }
     }
     Ok(ended(reader))

@@ -2,9 +2,13 @@
 ghost use Rattle.std.specs.Prelude.{◌≡◌, IfOk, option_map};
 ghost use Rattle.gate_command.specs.Steps as spec;
 
+use crate::fault::Fault;
 use crate::request::Request;
+use check_words::WordFault;
 use gate_files::Order;
+use lint_base::Text;
 use squawk_words::{after_dashes, begins_with_dash, name_in, value_in};
+use std::alloc::Global;
 use text_pos::NoMemory;
 
 /// What the next word is to be.
@@ -40,15 +44,46 @@ fn order_named(name: &str) -> Option<Order>
     }
 }
 
-// A request with an order, where there is one of this name.
-fn put_order(mut request: Request, value: &str) -> Option<Reader>
-    ensures { result ≡ spec.put_order value.now request }
+// A copy of a text.
+fn copied(alloc: Global, text: &str) -> Result<Text, NoMemory>
+    ensures { IfOk result (λ copy. copy ≡ text.now) }
 {
-    request.order = order_named(value)?;
-    Some(Reader {
-        next: Next::Any,
-        request,
-    })
+    Ok(Text::made(String::from_str(alloc, text)?))
+}
+
+// A request with an order, where there is one of this name.
+fn put_order(
+    alloc: Global,
+    mut request: Request,
+    value: &str,
+) -> Result<Result<Reader, Fault>, NoMemory>
+    ensures { IfOk result (λ r. r ≡ spec.put_order value.now request) }
+{
+    match order_named(value) {
+        Some(order) => {
+            request.order = order;
+            Ok(Ok(Reader {
+                next: Next::Any,
+                request,
+            }))
+        }
+        None => Ok(Err(Fault::UnknownOrder(copied(alloc, value)?))),
+    }
+}
+
+// The value of `--order`, as a word of its own.
+#[tactic(auto, unfolding(crate::specs::Steps::order_value))]
+fn order_value(
+    alloc: Global,
+    word: &str,
+    request: Request,
+) -> Result<Result<Reader, Fault>, NoMemory>
+    ensures { IfOk result (λ r. r ≡ spec.order_value word.now request) }
+{
+    if begins_with_dash(word) {
+        return Ok(Err(Fault::NoOrder));
+    }
+    put_order(alloc, request, word)
 }
 
 // A request with one more file.
@@ -80,79 +115,116 @@ fn after_linter_option(rest: &str) -> Next
 }
 
 // `--order`, and what follows its `=`, if there is one.
-fn order_word(value: Option<&str>, request: Request) -> Option<Reader>
-    ensures { result ≡ spec.order_word (option_map (λ s. s.now) value.entry) request }
+fn order_word(
+    alloc: Global,
+    value: Option<&str>,
+    request: Request,
+) -> Result<Result<Reader, Fault>, NoMemory>
+    ensures { IfOk result (λ r. r ≡ spec.order_word (option_map (λ s. s.now) value.entry) request) }
 {
     match value {
-        Some(value) => put_order(request, value),
-        None => Some(Reader {
+        Some(value) => put_order(alloc, request, value),
+        None => Ok(Ok(Reader {
             next: Next::OrderValue,
             request,
-        }),
+        })),
     }
 }
 
 // An option with a value, or one for the linter, by what follows its dashes.
 #[tactic(auto, unfolding(crate::specs::Steps::valued_word))]
-fn valued_word(word: &str, rest: &str, request: Request) -> Result<Option<Reader>, NoMemory>
+fn valued_word(
+    alloc: Global,
+    word: &str,
+    rest: &str,
+    request: Request,
+) -> Result<Result<Reader, Fault>, NoMemory>
     ensures { IfOk result (λ r. r ≡ spec.valued_word word.now rest.now request) }
 {
     if name_in(rest) == "order" {
-        return Ok(order_word(value_in(rest), request));
+        return order_word(alloc, value_in(rest), request);
     }
-    Ok(Some(with_linter_word(after_linter_option(rest), request, word)?))
+    Ok(Ok(with_linter_word(after_linter_option(rest), request, word)?))
 }
 
 // An option, by what follows its dashes.
 #[tactic(auto, unfolding(crate::specs::Steps::option_word))]
-fn option_word(word: &str, rest: &str, mut request: Request) -> Result<Option<Reader>, NoMemory>
+fn option_word(
+    alloc: Global,
+    word: &str,
+    rest: &str,
+    mut request: Request,
+) -> Result<Result<Reader, Fault>, NoMemory>
     ensures { IfOk result (λ r. r ≡ spec.option_word word.now rest.now request) }
 {
     match rest {
         "works" => request.works = true,
         "one-session" => request.one_session = true,
-        _ => return valued_word(word, rest, request),
+        _ => return valued_word(alloc, word, rest, request),
     }
-    Ok(Some(Reader {
+    Ok(Ok(Reader {
         next: Next::Any,
         request,
     }))
 }
 
+// A word that begins with `--`.
+fn dashed_word(
+    alloc: Global,
+    word: &str,
+    rest: &str,
+    request: Request,
+) -> Result<Result<Reader, Fault>, NoMemory>
+    ensures { IfOk result (λ r. r ≡ spec.dashed_word word.now rest.now request) }
+{
+    if rest.is_empty() {
+        return Ok(Ok(Reader {
+            next: Next::File,
+            request,
+        }));
+    }
+    option_word(alloc, word, rest, request)
+}
+
+// A word that does not.
+fn plain_word(
+    alloc: Global,
+    word: &str,
+    request: Request,
+) -> Result<Result<Reader, Fault>, NoMemory>
+    ensures { IfOk result (λ r. r ≡ spec.plain_word word.now request) }
+{
+    if begins_with_dash(word) {
+        return Ok(Err(Fault::Word(WordFault::UnknownWord(copied(alloc, word)?))));
+    }
+    Ok(Ok(with_file(Next::Any, request, word)?))
+}
+
 // A word that may be anything.
 #[tactic(auto, unfolding(crate::specs::Steps::any_word))]
-fn any_word(word: &str, request: Request) -> Result<Option<Reader>, NoMemory>
+fn any_word(alloc: Global, word: &str, request: Request) -> Result<Result<Reader, Fault>, NoMemory>
     ensures { IfOk result (λ r. r ≡ spec.any_word word.now request) }
 {
     match after_dashes(word) {
-        Some(rest) => {
-            if rest.is_empty() {
-                return Ok(Some(Reader {
-                    next: Next::File,
-                    request,
-                }));
-            }
-            option_word(word, rest, request)
-        }
-        None => {
-            if begins_with_dash(word) {
-                return Ok(None);
-            }
-            Ok(Some(with_file(Next::Any, request, word)?))
-        }
+        Some(rest) => dashed_word(alloc, word, rest, request),
+        None => plain_word(alloc, word, request),
     }
 }
 
-/// One word more, or `None` where it is refused. The error comes when memory runs out.
+/// One word more, or why it is refused. The error comes when memory runs out.
 #[tactic(auto, unfolding(crate::specs::Steps::step))]
-pub(crate) fn step(reader: Reader, word: &str) -> Result<Option<Reader>, NoMemory>
+pub(crate) fn step(
+    alloc: Global,
+    reader: Reader,
+    word: &str,
+) -> Result<Result<Reader, Fault>, NoMemory>
     ensures { IfOk result (λ r. r ≡ spec.step word.now reader) }
 {
     let Reader { next, request } = reader;
     match next {
-        Next::Any => any_word(word, request),
-        Next::OrderValue => Ok(put_order(request, word)),
-        Next::LinterValue => Ok(Some(with_linter_word(Next::Any, request, word)?)),
-        Next::File => Ok(Some(with_file(Next::File, request, word)?)),
+        Next::Any => any_word(alloc, word, request),
+        Next::OrderValue => order_value(alloc, word, request),
+        Next::LinterValue => Ok(Ok(with_linter_word(Next::Any, request, word)?)),
+        Next::File => Ok(Ok(with_file(Next::File, request, word)?)),
     }
 }

@@ -1,7 +1,7 @@
 -- What words ask for.
-use Rattle.std.specs.Prelude.{Bool, false, not, List, [], ◌∷◌, Option, Some, None, codes, drop, filter, slice_get}
+use Rattle.std.specs.Prelude.{Bool, false, not, List, Option, Some, None, codes, drop, filter, slice_get}
 use Rattle.std.specs.Str.{bytes_eq}
-use Rattle.squawk_run.specs.ForeignWords.{has_foreign_word}
+use Rattle.help_words.specs.Help as help
 use Rattle.squawk_words.specs.Words.{Text}
 
 abbrev pub is_server_word : Option Text → Bool
@@ -12,9 +12,9 @@ is_server_word (Some word) = bytes_eq word (codes "server")
 abbrev pub is_server : List Text → Bool
 is_server words = is_server_word (slice_get words 0)
 
--- `--help` counts wherever it is
+-- the words that ask for help count wherever they are
 abbrev pub asks_for_help : List Text → Bool
-asks_for_help words = has_foreign_word (codes "help" ∷ []) words
+asks_for_help words = help.asks_for_help words
 
 -- `--stdio`, which some editors add, says how the server talks anyway
 abbrev pub is_taken : Text → Bool

@@ -1,5 +1,5 @@
 -- What a run does that words ask for.
-use Rattle.std.specs.Prelude.{ℕ, Bool, true, false, List, Option}
+use Rattle.std.specs.Prelude.{◌≡◌, ℕ, Bool, true, false, List, Option}
 use Rattle.std.specs.Io.KnownBytes.{Appends, Keeps}
 use Rattle.check_config.specs.Config.{empty}
 use Rattle.file_store.specs.Contents.{Content}
@@ -7,7 +7,7 @@ use Rattle.lsp_serve.specs.declared.end.End.{End}
 use Rattle.lsp_serve.specs.Served.{Served as HasServed, Streams}
 use Rattle.lsp_session.specs.Entry.{IsTakenAs}
 use Rattle.server_command.specs.declared.outcome.Outcome.{Outcome}
-use Rattle.server_command.specs.declared.outcome.Outcome.TheVariants.{Printed, Served, Failed}
+use Rattle.server_command.specs.declared.outcome.Outcome.TheVariants.{Printed, Served, Refused, Failed}
 use Rattle.server_command.specs.declared.workspace.Workspace.{Workspace}
 use Rattle.server_command.specs.Workspace.{Enters, IsFirst, Refuses, WorkspaceShows}
 use Rattle.server_command.specs.Settled.{IsUnchosen}
@@ -33,6 +33,7 @@ pub record HasServedBy {F : Type 0} (content : F → Text → Content) (faults :
 abbrev pub HasHelped : List ℕ → Option (List ℕ) → Option (List ℕ) → ℕ → ℕ → Outcome → Type 0
 HasHelped help old new before now Printed = Appends old new help
 HasHelped help old new before now (Served end) = ⊥
+HasHelped help old new before now (Refused line) = ⊥
 HasHelped help old new before now (Failed BadArguments) = ⊥
 HasHelped help old new before now (Failed NotUtf8) = ⊥
 HasHelped help old new before now (Failed TooLong) = ⊥
@@ -41,11 +42,12 @@ HasHelped help old new before now (Failed WriteFault) = AppendsPart old new help
 HasHelped help old new before now (Failed NoMemory) = ⊥
 
 module _ {F : Type 0} (content : F → Text → Content) (faults : F → ℕ) where
-  -- they ask for a server: it served, or the words are refused, and nothing was written
+  -- they ask for a server: it served, or the words are refused or memory ran out, and nothing was written
   abbrev pub HasRunFor : List Text → Devices F → Outcome → Type 0
   HasRunFor line d Printed = ⊥
   HasRunFor line d (Served end) = HasServedBy content faults line d end
-  HasRunFor line d (Failed why) = IsUnchosen empty line why × Keeps d.old.held d.new.held
+  HasRunFor line d (Refused said) = IsUnchosen empty line said.items × Keeps d.old.held d.new.held
+  HasRunFor line d (Failed why) = (why ≡ NoMemory) × Keeps d.old.held d.new.held
 
   -- what a run did, by whether the words ask for the help
   abbrev pub HasRun : Bool → List ℕ → List Text → Devices F → Outcome → Type 0

@@ -1,5 +1,5 @@
 -- The linter that the words and the configuration of a folder choose.
-use Rattle.std.specs.Prelude.{◌≡◌, ◌⊎◌, ℕ, List, [], ◌++◌, ◌-◌, Option, Some, None, codes, length, take, ⊤}
+use Rattle.std.specs.Prelude.{◌≡◌, ◌⊎◌, ℕ, List, [], ◌++◌, ◌-◌, Option, Some, None, codes, length, take}
 use Rattle.std.specs.Str.{IsUtf8}
 use Rattle.check_config.specs.declared.config.Config.{Config}
 use Rattle.check_config.specs.Config.{empty}
@@ -9,11 +9,10 @@ use Rattle.code_choice.specs.declared.choices.CodeChoices.{CodeChoices}
 use Rattle.config_file.specs.Loaded.{IsLoadedIn, IsRefusedIn}
 use Rattle.file_store.specs.Contents.{Content}
 use Rattle.lsp_linter.specs.declared.linting.Linting.{Linting}
+use Rattle.refused_word.specs.Messages.{words_line}
 use Rattle.server_command.specs.declared.outcome.Refusal.{Refusal}
 use Rattle.server_command.specs.declared.outcome.Refusal.TheVariants as refusal
 use Rattle.server_command.specs.Outcomes.{refusal_line}
-use Rattle.squawk_run.specs.declared.stop.Stop.{Stop}
-use Rattle.squawk_run.specs.declared.stop.Stop.TheVariants.{BadArguments, NotUtf8, TooLong, ReadFault, WriteFault, NoMemory}
 use Rattle.squawk_words.specs.Words.{Text}
 
 -- what finds reports with what is chosen
@@ -26,14 +25,9 @@ linting_by chosen = record {
 abbrev pub IsChosenBy : Config → List Text → CodeChoices → Type 0
 IsChosenBy config line choices = code_choices_of (linter_words config line) ≡ Some choices
 
--- why nothing is chosen
-abbrev pub IsUnchosen : Config → List Text → Stop → Type 0
-IsUnchosen config line BadArguments = code_choices_of (linter_words config line) ≡ None
-IsUnchosen config line NotUtf8 = ⊥
-IsUnchosen config line TooLong = ⊥
-IsUnchosen config line ReadFault = ⊥
-IsUnchosen config line WriteFault = ⊥
-IsUnchosen config line NoMemory = ⊤
+-- they are refused together, and this line names what is
+abbrev pub IsUnchosen : Config → List Text → List ℕ → Type 0
+IsUnchosen config line said = (code_choices_of (linter_words config line) ≡ None) × (said ≡ words_line (linter_words config line))
 
 -- ---- by the words alone
 
@@ -58,16 +52,16 @@ pub record IsSettled (content : Text → Content) (folder : Text) (line : List T
   pub chosen : IsChosenBy config line choices
   pub is : linting ≡ linting_by choices
 
--- the configuration is taken, and the words are refused beside it
-pub record IsRefusedBeside (content : Text → Content) (folder : Text) (line : List Text) : Type 0 where
+-- the configuration is taken, and the words are refused beside it, which this line says
+pub record IsRefusedBeside (content : Text → Content) (folder : Text) (line : List Text) (said : List ℕ) : Type 0 where
   pub config : Config
   pub loaded : IsLoadedIn content folder config
-  pub refused : code_choices_of (linter_words config line) ≡ None
+  pub refused : IsUnchosen config line said
 
 -- why it is refused
 abbrev pub IsRefusedFor : (Text → Content) → ℕ → ℕ → Text → List Text → Refusal → Type 0
 IsRefusedFor content before now folder line (refusal.Config why) = IsRefusedIn content before now folder why.items
-IsRefusedFor content before now folder line refusal.Words = IsRefusedBeside content folder line
+IsRefusedFor content before now folder line (refusal.Words said) = IsRefusedBeside content folder line said.items
 
 -- ---- what is said of it
 

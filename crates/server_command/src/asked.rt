@@ -2,7 +2,6 @@
 ghost use Rattle.std.specs.Prelude.{◌≡◌, ◌++◌, ◌∷◌, [], IfOk, OnOk, filter};
 ghost use Rattle.server_command.specs.Asked as spec;
 
-use squawk_run::has_foreign_word;
 use squawk_words::Words;
 use std::alloc::Global;
 use text_pos::NoMemory;
@@ -18,7 +17,7 @@ pub fn is_server(words: &Words) -> bool
 pub(crate) fn asks_for_help(words: &Words) -> bool
     ensures { result ≡ spec.asks_for_help words.now }
 {
-    has_foreign_word(words, &["help"])
+    help_words::asks_for_help(words)
 }
 
 // Adds a word, unless it is `--stdio`, which some editors add.

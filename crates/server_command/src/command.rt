@@ -16,6 +16,7 @@ use squawk_run::Stop;
 use squawk_stream::{Sink, Source, write_all};
 use squawk_words::Words;
 use std::alloc::Global;
+use text_pos::NoMemory;
 
 // Writes the help.
 fn write_help<K: Sink>(out: &mut K) -> Outcome
@@ -45,8 +46,9 @@ fn serve_words<F: FileStore + Drop, S: Source, K: Sink>(
         result }
 {
     match first_linter(alloc, words, files) {
-        Ok(checker) => Outcome::Served(serve(alloc, checker, src, out)),
-        Err(stop) => Outcome::Failed(stop),
+        Ok(Ok(checker)) => Outcome::Served(serve(alloc, checker, src, out)),
+        Ok(Err(line)) => Outcome::Refused(line),
+        Err(NoMemory) => Outcome::Failed(Stop::NoMemory),
     }
 }
 

@@ -21,8 +21,13 @@ Where it is refused, the editor shows why, and no reports.
   --pg-patch N             its third part (default: 0)
 
   --stdio                  taken, and changes nothing: some editors add it
-  --help                   this help
+  -h, --help               this help
 
 Status: 0 the client asked to shut down, and then to exit; 1 it ended without asking; 2 the words are not accepted;
 3 the input has no header; 4 a message is too long or cut off; 5 a read failed; 6 a write failed; 7 out of memory.
+
+Examples:
+  lavkheto server
+  lavkheto server --assume-in-transaction --pg-major 17
+  lavkheto server --exclude prefer-text-field --stdio
 ";

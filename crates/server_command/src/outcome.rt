@@ -8,8 +8,8 @@ use squawk_run::Stop;
 /// Why no linter is chosen in a workspace.
 #[derive(Debug, Drop)]
 pub enum Refusal {
-    /// The words are refused beside its configuration.
-    Words,
+    /// The words are refused beside its configuration. This line names them, with its line feed.
+    Words(Vec<u8>),
     /// Its configuration is refused. This line says why, with its line feed.
     Config(Vec<u8>),
 }
@@ -21,7 +21,9 @@ pub enum Outcome {
     Printed,
     /// It served, and this is how that ended.
     Served(End),
-    /// It served nothing.
+    /// The words are refused, and it served nothing. This line names them, with its line feed.
+    Refused(Vec<u8>),
+    /// A write failed, or memory ran out, and it served nothing.
     Failed(Stop),
 }
 
@@ -31,7 +33,7 @@ impl Refusal {
         ensures { result.now ≡ spec.refusal_line self.now }
     {
         match self {
-            Refusal::Words => Stop::BadArguments.line().as_bytes(),
+            Refusal::Words(line) => line.as_slice(),
             Refusal::Config(line) => line.as_slice(),
         }
     }
@@ -45,6 +47,7 @@ impl Outcome {
         match self {
             Outcome::Printed => 0,
             Outcome::Served(end) => end.code(),
+            Outcome::Refused(_) => 2,
             Outcome::Failed(stop) => stop.code(),
         }
     }
@@ -56,6 +59,7 @@ impl Outcome {
         match self {
             Outcome::Printed => b"",
             Outcome::Served(end) => end.line().as_bytes(),
+            Outcome::Refused(line) => line.as_slice(),
             Outcome::Failed(stop) => stop.line().as_bytes(),
         }
     }

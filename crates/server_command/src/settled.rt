@@ -11,8 +11,8 @@ use code_choice::{CodeChoices, read_code_choices};
 use config_file::{LoadError, folder_config};
 use file_store::FileStore;
 use lsp_linter::Linting;
+use refused_word::words_line;
 use squawk_linter::Linter;
-use squawk_run::Stop;
 use squawk_words::Words;
 use std::alloc::Global;
 use text_pos::NoMemory;
@@ -34,31 +34,31 @@ fn linting_by(chosen: CodeChoices) -> Linting
     }
 }
 
-// What the words of the line and the configuration choose together.
-fn chosen(alloc: Global, config: &Config, line: &Words) -> Result<CodeChoices, Stop>
-    ensures chosen { IfOk result (IsChosenBy config.now line.now) }
-    ensures unchosen { IfErr result (IsUnchosen config.now line.now) }
+// What the words of the line and the configuration choose together, or the line about them where they are refused.
+fn chosen(
+    alloc: Global,
+    config: &Config,
+    line: &Words,
+) -> Result<Result<CodeChoices, Vec<u8>>, NoMemory>
+    ensures chosen { IfOk result (λ found. IfOk found (IsChosenBy config.now line.now)) }
+    ensures unchosen { IfOk result (λ found. IfErr found (λ said. IsUnchosen config.now line.now said.items)) }
 {
-    let words = match linter_words(alloc, config, line) {
-        Ok(words) => words,
-        Err(NoMemory) => return Err(Stop::NoMemory),
-    };
-    match read_code_choices(alloc, &words) {
-        Ok(Some(choices)) => Ok(choices),
-        Ok(None) => Err(Stop::BadArguments),
-        Err(NoMemory) => Err(Stop::NoMemory),
+    let words = linter_words(alloc, config, line)?;
+    match read_code_choices(alloc, &words)? {
+        Some(choices) => Ok(Ok(choices)),
+        None => Ok(Err(words_line(alloc, &words)?)),
     }
 }
 
-/// What finds reports by the words of the line alone.
-pub(crate) fn alone(alloc: Global, line: &Words) -> Result<Linting, Stop>
-    ensures chosen { IfOk result (IsChosenAlone line.now) }
-    ensures unchosen { IfErr result (IsUnchosen empty line.now) }
+/// What finds reports by the words of the line alone, or the line about them where they are refused.
+pub(crate) fn alone(alloc: Global, line: &Words) -> Result<Result<Linting, Vec<u8>>, NoMemory>
+    ensures chosen { IfOk result (λ found. IfOk found (IsChosenAlone line.now)) }
+    ensures unchosen { IfOk result (λ found. IfErr found (λ said. IsUnchosen empty line.now said.items)) }
 {
     let config = Config::empty(alloc);
-    match chosen(alloc, &config, line) {
-        Ok(choices) => Ok(linting_by(choices)),
-        Err(stop) => Err(stop),
+    match chosen(alloc, &config, line)? {
+        Ok(choices) => Ok(Ok(linting_by(choices))),
+        Err(said) => Ok(Err(said)),
     }
 }
 
@@ -79,9 +79,8 @@ pub(crate) fn settled_in<F: FileStore>(
         Err(LoadError::Refused(line)) => return Ok(Err(Refusal::Config(line))),
         Err(LoadError::NoMemory) => return Err(NoMemory),
     };
-    match chosen(alloc, &config, line) {
+    match chosen(alloc, &config, line)? {
         Ok(choices) => Ok(Ok(linting_by(choices))),
-        Err(Stop::BadArguments) => Ok(Err(Refusal::Words)),
-        Err(_) => Err(NoMemory),
+        Err(said) => Ok(Err(Refusal::Words(said))),
     }
 }

@@ -14,7 +14,7 @@ use lint_base::Text;
 use lsp_linter::Linting;
 use lsp_report::{Checker, Report};
 use lsp_session::Enter;
-use squawk_run::{Stop, text_in};
+use squawk_run::text_in;
 use squawk_words::Words;
 use std::alloc::Global;
 use text_pos::NoMemory;
@@ -97,23 +97,23 @@ impl<F: FileStore> Enter for Workspace<F> {
     }
 }
 
-/// The linter of a workspace that is not entered, by the words after the first, but for `--stdio`.
+/// The linter of a workspace that is not entered, by the words after the first, but for `--stdio`, or the line about them where they are
+/// refused.
 pub(crate) fn first_linter<F: FileStore + Drop>(
     alloc: Global,
     words: &Words,
     files: F,
-) -> Result<Workspace<F>, Stop>
-    ensures first { IfOk result (IsFirst files (linter_words words.now)) }
-    ensures unchosen { IfErr result (IsUnchosen empty (linter_words words.now)) }
+) -> Result<Result<Workspace<F>, Vec<u8>>, NoMemory>
+    ensures first { IfOk result (λ found. IfOk found (IsFirst files (linter_words words.now))) }
+    ensures unchosen { IfOk result (λ found. IfErr found (λ said. IsUnchosen empty (linter_words words.now) said.items)) }
 {
-    let line = match linter_words(alloc, words) {
-        Ok(line) => line,
-        Err(NoMemory) => return Err(Stop::NoMemory),
-    };
-    let linting = alone(alloc, &line)?;
-    Ok(Workspace {
-        files,
-        line,
-        linting,
-    })
+    let line = linter_words(alloc, words)?;
+    match alone(alloc, &line)? {
+        Ok(linting) => Ok(Ok(Workspace {
+            files,
+            line,
+            linting,
+        })),
+        Err(said) => Ok(Err(said)),
+    }
 }

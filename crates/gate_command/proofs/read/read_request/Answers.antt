@@ -1,33 +1,31 @@
-use Rattle.std.proofs.Common.{◌≡◌, ◌∙◌, ◌+◌, ap, arith, drop, sym, Option, None, Some}
-use Rattle.std.proofs.lemmas.Result.{IfOk-weaker}
-use Rattle.std.specs.Option.{option_map_or}
+use Rattle.std.proofs.Common.{◌≡◌, ◌∙◌, ◌+◌, ap, arith, drop, sym, Result, Ok, Err}
 use Rattle.gate_command.specs.declared.asked.Asked.TheVariants.{Refused}
-use Rattle.gate_command.specs.declared.fault.Fault.TheVariants.{Word}
+use Rattle.gate_command.specs.declared.fault.Fault.{Fault}
 use Rattle.gate_command.specs.declared.step.Reader.{Reader}
-use Rattle.gate_command.specs.Asked.{read_from, start}
+use Rattle.gate_command.specs.Asked.{read_from, start, step_then}
 use Rattle.gate_command.specs.Steps.{step}
 use Rattle.gate_command.proofs.Walk.{read_at, read_end}
 use Rattle.gate_command.proofs.read.read_request.Goals as goal
 
-pub returns-in-None : goal.returns-in-None
-returns-in-None c =
+pub returns-in-Err : goal.returns-in-Err
+returns-in-Err c =
     let l = c.loop-i in
-    let word = c.get-word.result.now in
+    let word = c.get.result.now in
     let words = c.args.words.now in
-    let no_step : step word l.reader ≡ None = sym c.in_ok-next.ensures ∙ c.in-None.is in
-    let told : read_from start (drop 1 words) ≡ Refused (Word word) =
-    sym l.invariant ∙ (read_at l.reader words l.i word c.get-word.ensures
-    ∙ ap (λ (o : Option Reader). option_map_or (λ r. read_from r (drop (l.i + 1) words)) o (Refused (Word word))) no_step) in
-    IfOk-weaker c.refused.result _ _ (λ asked e. e ∙ sym told) c.refused.ensures
+    let refused : step word l.reader ≡ Err c.in-Err.fault = sym c.in_ok-next.ensures ∙ c.in-Err.is in
+    let told : read_from start (drop 1 words) ≡ Refused c.in-Err.fault =
+    sym l.invariant ∙ (read_at l.reader words l.i word c.get.ensures
+    ∙ ap (λ (o : Result Reader Fault). step_then o (λ r. read_from r (drop (l.i + 1) words))) refused) in
+    sym told
 
 pub loop-i-preserved : goal.loop-i-preserved
 loop-i-preserved c =
     let l = c.loop-i in
-    let word = c.get-word.result.now in
+    let word = c.get.result.now in
     let words = c.args.words.now in
-    let taken : step word l.reader ≡ Some c.in-Some.next = sym c.in_ok-next.ensures ∙ c.in-Some.is in
-    sym (read_at l.reader words l.i word c.get-word.ensures
-    ∙ ap (λ (o : Option Reader). option_map_or (λ r. read_from r (drop (l.i + 1) words)) o (Refused (Word word))) taken) ∙ l.invariant
+    let taken : step word l.reader ≡ Ok c.in-Ok.next = sym c.in_ok-next.ensures ∙ c.in-Ok.is in
+    sym (read_at l.reader words l.i word c.get.ensures
+    ∙ ap (λ (o : Result Reader Fault). step_then o (λ r. read_from r (drop (l.i + 1) words))) taken) ∙ l.invariant
 
 pub returns : goal.returns
 unfolding read_from
