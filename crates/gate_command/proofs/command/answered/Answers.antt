@@ -7,7 +7,7 @@ returns-in-Some-clause-refused g c =
     unfit_for c.args.request.now c.args.linter.now c.in-Some.fault c.refused.result (sym c.unfit.ensures ∙ c.in-Some.is) c.refused.ensures
 
 pub answer_files-requires-clause-apart : goal.answer_files-requires-clause-apart
-answer_files-requires-clause-apart g c = apart_by c.args.request.now c.args.linter.now (sym c.unfit.ensures ∙ c.in-None.is)
+answer_files-requires-clause-apart g c = apart_by c.args.request.now c.args.linter.now (sym c.unfit.ensures ∙ c.in_default.is)
 
 pub returns-in-Ok-clause-answer : goal.returns-in-Ok-clause-answer
-returns-in-Ok-clause-answer g c = (sym c.unfit.ensures ∙ c.in-None.is, c.in-Ok.ensures)
+returns-in-Ok-clause-answer g c = (sym c.unfit.ensures ∙ c.in_default.is, c.in-Ok.ensures)
