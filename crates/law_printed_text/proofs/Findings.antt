@@ -132,7 +132,7 @@ module _ (color : Bool) (file : FileValue) where
       (place_text (refusals.has_place r) file.name (location file.text (refusals.place_of r)).line (location file.text (refusals.place_of r)).column) (printed_refusal color file r)
   refusal_block refusal.Missing = named_block (codes "missing-file") (codes "there is no such file") 0 0 None
   refusal_block refusal.Unreadable = named_block (codes "unreadable-file") (codes "the file can't be read") 0 0 None
-  refusal_block (refusal.NotUtf8 at) = placed_block (codes "not-utf8") (codes "the file is not UTF-8") at None
+  refusal_block (refusal.NotUtf8 at) = placed_block (codes "not-utf8") (codes "the file is not UTF-8") at (hint_of file.text (refusal.NotUtf8 at))
   refusal_block refusal.TooLong = named_block (codes "text-too-long") (codes "the file has 2^32 bytes or more") 0 0 None
   refusal_block (refusal.Unterminated at) =
       placed_block (codes "unterminated") (codes "what begins here does not end") at (hint_of file.text (refusal.Unterminated at))
