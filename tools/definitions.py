@@ -24,7 +24,8 @@ What the clauses of public calls name beside the tables above, with the comments
 | Name | Says |
 |---|---|
 """
-USE = re.compile(r"ghost use Rattle\.(\w+)\.specs\.([\w.]+?)(?:\.\{([^}]*)\}| as (\w+))?;")
+# (a crate passes on the definitions of a crate below it as a module of its own specs/, under that crate's name)
+USE = re.compile(r"ghost use Rattle\.(?:\w+\.specs\.(?=[a-z]\w*\.[A-Zd]))?(\w+)\.(?:specs\.)?([\w.]+?)(?:\.\{([^}]*)\}| as (\w+))?;")
 WORD = re.compile(r"[A-Za-z_][\w]*(?:\.[A-Za-z_]\w*)*")
 REPORTED = re.compile(r"^ {4}ghost (?:rows|reports|table) = ")
 DEFINED = r"^(?: *(?=pub data )| +(?=[A-Z]\w* : )| *unfoldable | *abbrev )?(?:pub )?(?:record |data )?"

@@ -200,9 +200,7 @@ ghost use Rattle.std.specs.Prelude.{{◌≡◌}};
 ghost use Rattle.rule_pages.specs.Pages.{{code_page_of, hazard_page_of, page_of}};
 
 {uses}
-use hazard_base::Hazard;
-use lint_base::Rule;
-use lint_report::Code;
+use lint_report::{{Code, Hazard, Rule}};
 
 /// What docs/RULES.md says of a rule: plain text of lines that end with a line feed, of 79 columns but for code and addresses.
 #[tactic(auto, unfolding(crate::specs::Pages::page_of))]
@@ -247,10 +245,10 @@ def specs_source(places):
     lines = "\n".join(f"use Rattle.rule_pages.specs.declared.{module}.TheConstants.{{{', '.join(found)}}}" for module, found in uses.items())
     return f"""-- The page of each rule and each hazard. {WRITTEN}
 use Rattle.std.specs.Prelude.{{ℕ, List}}
-use Rattle.hazard_base.specs.declared.hazard.Hazard.{{Hazard}}
-use Rattle.hazard_base.specs.declared.hazard.Hazard.TheVariants as hazard
-use Rattle.lint_base.specs.declared.rule.Rule.{{Rule}}
-use Rattle.lint_base.specs.declared.rule.Rule.TheVariants as rule
+use Rattle.lint_report.specs.hazard_base.declared.hazard.Hazard.{{Hazard}}
+use Rattle.lint_report.specs.hazard_base.declared.hazard.Hazard.TheVariants as hazard
+use Rattle.lint_report.specs.lint_base.declared.rule.Rule.{{Rule}}
+use Rattle.lint_report.specs.lint_base.declared.rule.Rule.TheVariants as rule
 use Rattle.lint_report.specs.declared.code.Code.{{Code}}
 use Rattle.lint_report.specs.declared.code.Code.TheVariants as code
 {lines}

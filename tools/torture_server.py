@@ -11,13 +11,10 @@ import subprocess
 import sys
 import time
 
+from lsp_frames import DOWN, EXIT, INIT, hover, notice, opened
+
 COMMAND = sys.argv[1:] or sys.exit(__doc__)
 failures = 0
-
-
-def frame(message):
-    body = json.dumps(message).encode()
-    return b'Content-Length: %d\r\n\r\n' % len(body) + body
 
 
 def messages(out):
@@ -50,24 +47,8 @@ def check(what, wanted, got):
     print(f'ok   {what}' if wanted == got else f'FAIL {what}\n  wanted {wanted}\n  got    {got}')
 
 
-def request(number, method, params=None):
-    return frame({'jsonrpc': '2.0', 'id': number, 'method': method, 'params': params or {}})
-
-
-def notice(method, params=None):
-    return frame({'jsonrpc': '2.0', 'method': method, 'params': params or {}})
-
-
-def opened(text):
-    return notice('textDocument/didOpen', {'textDocument': {'uri': 'u', 'languageId': 'sql', 'version': 1, 'text': text}})
-
-
 def changed(text):
     return notice('textDocument/didChange', {'textDocument': {'uri': 'u', 'version': 2}, 'contentChanges': [{'text': text}]})
-
-
-def hover(number, line):
-    return request(number, 'textDocument/hover', {'textDocument': {'uri': 'u'}, 'position': {'line': line, 'character': 3}})
 
 
 def answered(said):
@@ -78,7 +59,6 @@ def told(said):
     return [len(m['params']['diagnostics']) for m in said if 'method' in m]
 
 
-INIT, DOWN, EXIT = request(1, 'initialize'), request(99, 'shutdown'), notice('exit')
 INDEX = 'create index i on t (a);\n'
 
 

@@ -3,11 +3,11 @@ use Rattle.std.proofs.Common.{◌≤◌, arith, subst, ℕ, List, Option, Some, 
 use Rattle.baseline_file.specs.Loaded.{IsFaulty, IsLoaded, IsRefusedFor, IsRefusedLoad, IsTaken, Read, Unread}
 use Rattle.check_baseline.specs.declared.baseline.Baseline.{Baseline}
 use Rattle.config_file.specs.declared.error.LoadError.TheVariants.{Refused}
-use Rattle.file_store.specs.Contents.{Content, KeepsContents}
-use Rattle.file_store.specs.Refused.{RefusedFits}
-use Rattle.file_store.specs.declared.store.FileError.{FileError}
-use Rattle.file_store.specs.declared.store.FileError.TheVariants as error
-use Rattle.squawk_words.specs.Words.{Text}
+use Rattle.check_run.specs.devices.Contents.{Content, KeepsContents}
+use Rattle.check_run.specs.devices.Refused.{RefusedFits}
+use Rattle.check_run.specs.devices.declared.store.FileError.{FileError}
+use Rattle.check_run.specs.devices.declared.store.FileError.TheVariants as error
+use Rattle.check_run.specs.squawk_words.Words.{Text}
 
 -- a baseline of files that hold what they held earlier
 pub loaded_earlier : (content now : Text → Content) (given : Option Text) (baseline : Option Baseline) → KeepsContents content now → IsLoaded now given baseline → IsLoaded content given baseline

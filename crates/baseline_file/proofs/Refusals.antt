@@ -8,11 +8,11 @@ use Rattle.config_file.specs.Lines.{opening}
 use Rattle.config_file.specs.Loaded.{IsRefusal}
 use Rattle.config_file.specs.declared.error.LoadError.{LoadError}
 use Rattle.config_file.specs.declared.error.LoadError.TheVariants.{Refused, NoMemory}
-use Rattle.file_store.specs.Contents.{Content, IsBytes}
-use Rattle.file_store.specs.Refused.{RefusedFits}
-use Rattle.file_store.specs.declared.store.FileError.{FileError}
-use Rattle.squawk_words.specs.Words.{Text}
-use Rattle.text_pos.specs.declared.memory.NoMemory.{NoMemory as MemoryError}
+use Rattle.check_run.specs.devices.Contents.{Content, IsBytes}
+use Rattle.check_run.specs.devices.Refused.{RefusedFits}
+use Rattle.check_run.specs.devices.declared.store.FileError.{FileError}
+use Rattle.check_run.specs.squawk_words.Words.{Text}
+use Rattle.check_run.specs.text_pos.declared.memory.NoMemory.{NoMemory as MemoryError}
 
 pub text_refused : (name text : Text) (number : ℕ) (line : Result (Vec ℕ Global) MemoryError) (e : LoadError) → bad_line text ≡ Some number
     → IfOk line (λ l. IsBadLine name number l.items) → IsRefusal line e → IsRefusedText name text e

@@ -6,10 +6,10 @@ use Rattle.check_baseline.specs.Known.{IsBaselineOf, bad_line}
 use Rattle.config_file.specs.declared.error.LoadError.{LoadError}
 use Rattle.config_file.specs.declared.error.LoadError.TheVariants.{Refused, NoMemory}
 use Rattle.config_file.specs.Lines.{fault_line, opening}
-use Rattle.file_store.specs.Contents.{Content, IsBytes}
-use Rattle.file_store.specs.declared.store.FileError.{FileError}
-use Rattle.file_store.specs.Refused.{RefusedFits}
-use Rattle.squawk_words.specs.Words.{Text}
+use Rattle.check_run.specs.devices.Contents.{Content, IsBytes}
+use Rattle.check_run.specs.devices.declared.store.FileError.{FileError}
+use Rattle.check_run.specs.devices.Refused.{RefusedFits}
+use Rattle.check_run.specs.squawk_words.Words.{Text}
 
 -- ---- texts
 

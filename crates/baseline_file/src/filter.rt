@@ -2,10 +2,8 @@
 ghost use Rattle.baseline_file.specs.Leaving.{Leaves};
 
 use check_baseline::{Baseline, without_known};
-use check_run::Filter;
-use checked_file::Checked;
+use check_run::{Checked, Filter, NoMemory};
 use std::alloc::Global;
-use text_pos::NoMemory;
 
 /// What leaves the reports out that a baseline knows, or none where there is no baseline.
 #[derive(Drop)]

@@ -8,3 +8,8 @@ mod load;
 
 pub use filter::BaselineFilter;
 pub use load::load_filter;
+
+// What crates above reach through this one.
+pub use check_baseline::written;
+pub use check_run::{FileStore, Request};
+pub use config_file::{Config, LoadError, linter_words, load_config};

@@ -1,16 +1,13 @@
 //! From files to a baseline.
 ghost use Rattle.std.specs.Prelude.{◌≡◌, ◌<◌, ◌≤◌, ◌^◌, IfErr, IfOk, length, option_map};
-ghost use Rattle.file_store.specs.Contents.{KeepsContents};
+ghost use Rattle.check_run.specs.devices.Contents.{KeepsContents};
 ghost use Rattle.baseline_file.specs.Loaded.{AreRefused, AreTaken, IsBadLine, IsLoaded, IsRefusedFile, IsRefusedLoad, IsRefusedText, IsTaken, IsTextTaken};
 
 use crate::filter::BaselineFilter;
 use check_baseline::{Baseline, BaselineError};
+use check_run::{FileError, FileStore, NoMemory, Place, text_in};
 use config_file::{LoadError, file_line, line_at, refused};
-use file_store::{FileError, FileStore};
-use source_file::Place;
-use squawk_run::text_in;
 use std::alloc::Global;
-use text_pos::NoMemory;
 
 // The line about one that is not a line of a baseline.
 fn bad_line(alloc: Global, name: &str, number: usize) -> Result<Vec<u8>, NoMemory>

@@ -46,3 +46,6 @@ pub use builder::TextBuilder;
 pub use case::Case;
 pub use fault::Fault;
 pub use report::{Answer, Subject, run_table, shown};
+
+// What crates above reach through this one.
+pub use text_pos::{NoMemory, TextRange, TextSize};

@@ -7,7 +7,7 @@ use Rattle.checked_file.specs.declared.answer.Answer.{Answer}
 use Rattle.checked_file.specs.declared.answer.Answer.TheVariants.{Reports, Refused}
 use Rattle.checked_file.specs.declared.checked.Checked.{Checked}
 use Rattle.checked_file.specs.Files.{readable_of}
-use Rattle.lint_report.specs.declared.report.Report.{Report}
+use Rattle.checked_file.specs.lint_report.declared.report.Report.{Report}
 use Rattle.report_gitlab.specs.Issues.{report_fingerprint}
 use Rattle.check_baseline.specs.declared.baseline.Baseline.{Baseline}
 use Rattle.check_baseline.specs.declared.baseline.BaselineError.{BaselineError}

@@ -5,11 +5,11 @@ use Rattle.checked_file.specs.declared.answer.Answer.{Answer}
 use Rattle.checked_file.specs.declared.answer.Answer.TheVariants.{Reports, Refused}
 use Rattle.checked_file.specs.declared.checked.Checked.{Checked}
 use Rattle.checked_file.specs.Files.{readable_of}
-use Rattle.lint_report.specs.declared.report.Report.{Report}
-use Rattle.lint_report.specs.Codes.{name_of}
-use Rattle.source_file.specs.declared.refusal.Refusal.{Refusal}
-use Rattle.source_file.specs.Refusals.{message_of}
-use Rattle.source_file.specs.Escaped.{escaped}
+use Rattle.checked_file.specs.lint_report.declared.report.Report.{Report}
+use Rattle.checked_file.specs.lint_report.Codes.{name_of}
+use Rattle.checked_file.specs.source_file.declared.refusal.Refusal.{Refusal}
+use Rattle.checked_file.specs.source_file.Refusals.{message_of}
+use Rattle.checked_file.specs.source_file.Escaped.{escaped}
 use Rattle.check_baseline.specs.Known.{Text}
 use Rattle.report_gitlab.specs.Issues.{report_fingerprint}
 

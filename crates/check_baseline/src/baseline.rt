@@ -5,9 +5,9 @@ ghost use Rattle.std.specs.List.{list_all, list_any};
 ghost use Rattle.std.specs.Str.{bytes_eq};
 ghost use Rattle.check_baseline.specs.Known.{IsBaselineOf, IsNoBaseline, bad_line, bad_line_from, first_word, is_digit, is_fingerprint, is_line, knows, lines_of};
 
+use checked_file::NoMemory;
 use std::alloc::{AllocError, Global};
 use std::collections::HashSet;
-use text_pos::NoMemory;
 
 /// The fingerprints of a baseline.
 #[derive(Drop)]

@@ -2,16 +2,14 @@
 ghost use Rattle.std.specs.Prelude.{◌≡◌, All, IfOk, string_bytes};
 ghost use Rattle.std.specs.List.{AllZip};
 ghost use Rattle.checked_file.specs.Sound.{IsIn, IsReportIn, IsSound};
-ghost use Rattle.source_file.specs.File.{IsRangeIn};
+ghost use Rattle.checked_file.specs.source_file.File.{IsRangeIn};
 ghost use Rattle.report_gitlab.specs.Issues.{report_fingerprint};
 ghost use Rattle.check_baseline.specs.Known.{IsLeft, IsLeftOf, is_known, unknown_reports};
 
 use crate::baseline::Baseline;
-use checked_file::{Answer, Checked, readable};
-use lint_report::Report;
+use checked_file::{Answer, Checked, NoMemory, Report, readable};
 use report_gitlab::report_fingerprint;
 use std::alloc::Global;
-use text_pos::NoMemory;
 
 /// The fingerprint of a report of a file. The error comes when memory runs out.
 pub(crate) fn print_of(

@@ -5,11 +5,8 @@ ghost use Rattle.checked_file.specs.Sound.{IsIn, IsReportIn, IsSound};
 ghost use Rattle.check_baseline.specs.Written.{answer_lines, file_lines, heading, refusal_line, refusal_mark, report_line, written};
 
 use crate::known::print_of;
-use checked_file::{Answer, Checked, readable};
-use lint_report::Report;
-use source_file::{Refusal, push_escaped};
+use checked_file::{Answer, Checked, NoMemory, Refusal, Report, push_escaped, readable};
 use std::alloc::Global;
-use text_pos::NoMemory;
 
 /// What comes before the first line.
 const HEADING: &str =

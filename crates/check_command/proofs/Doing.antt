@@ -1,33 +1,33 @@
 -- From a run over files to what a run does that the words ask for.
 use Rattle.std.proofs.Common.{◌≡◌, ◌≤◌, ap, refl, subst, sym, ℕ, Bool, List, Option, Some, None, Result, Ok, Err, IfOk, IfErr}
-use Rattle.baseline_file.specs.Leaving.{Leaves}
+use Rattle.check_setup.specs.baseline_file.Leaving.{Leaves}
 use Rattle.check_command.specs.declared.failure.Failure.{Failure}
 use Rattle.check_command.specs.declared.failure.Failure.TheVariants as failure
 use Rattle.check_command.specs.Choosing.{IsChosenBy, IsUnchosen}
 use Rattle.check_command.specs.Command.{AreLeftAnswers, DoneFor, HasChecked, StoppedFor, answers_by, ended_by, fails_on, linter_by, printed_by, printed_for, status_by, style_of}
 use Rattle.check_command.specs.Failures.{IsWordFailure, failure_of}
 use Rattle.check_print.specs.declared.style.Style.{Style}
-use Rattle.check_run.specs.Checks.{Answers}
-use Rattle.check_run.specs.Runs.{AreAnswers, AreLeft, Devices, HasRun, HasStopped, HasWrittenPart}
-use Rattle.check_run.proofs.Moved.{answers_moved}
+use Rattle.file_answer.specs.check_run.Checks.{Answers}
+use Rattle.file_answer.specs.check_run.Runs.{AreAnswers, AreLeft, Devices, HasRun, HasStopped, HasWrittenPart}
+use Rattle.file_answer.proofs.of_check_run.Moved.{answers_moved}
 use Rattle.check_setup.specs.declared.setup.Setup.{Setup}
 use Rattle.check_setup.specs.SetUp.{IsRefusedSetup, IsSetUp}
-use Rattle.check_words.specs.declared.asked.Asked.{Asked}
-use Rattle.check_words.specs.declared.asked.Asked.TheVariants.{Check, Refused}
-use Rattle.check_words.specs.declared.fault.WordFault.{WordFault}
-use Rattle.check_words.specs.declared.request.FailOn.{FailOn}
-use Rattle.check_words.specs.declared.request.Request.{Request}
-use Rattle.checked_file.specs.declared.checked.Checked.{Checked}
-use Rattle.checked_file.specs.declared.status.Status.{Status}
-use Rattle.config_file.specs.declared.error.LoadError.{LoadError}
-use Rattle.config_file.specs.declared.error.LoadError.TheVariants as load
+use Rattle.check_print.specs.check_words.declared.asked.Asked.{Asked}
+use Rattle.check_print.specs.check_words.declared.asked.Asked.TheVariants.{Check, Refused}
+use Rattle.check_print.specs.check_words.declared.fault.WordFault.{WordFault}
+use Rattle.check_print.specs.check_words.declared.request.FailOn.{FailOn}
+use Rattle.check_print.specs.check_words.declared.request.Request.{Request}
+use Rattle.check_print.specs.checked_file.declared.checked.Checked.{Checked}
+use Rattle.check_print.specs.checked_file.declared.status.Status.{Status}
+use Rattle.check_setup.specs.config_file.declared.error.LoadError.{LoadError}
+use Rattle.check_setup.specs.config_file.declared.error.LoadError.TheVariants as load
 use Rattle.file_answer.specs.declared.linter.FileLinter.{FileLinter}
 use Rattle.file_answer.specs.Answers.{IsLintedAs}
-use Rattle.file_store.specs.Contents.{Content, KeepsContents}
-use Rattle.squawk_run.specs.declared.stop.Stop.{Stop}
-use Rattle.squawk_run.specs.declared.stop.Stop.TheVariants.{BadArguments, NotUtf8, TooLong, ReadFault, WriteFault, NoMemory}
-use Rattle.code_choice.specs.declared.choices.CodeChoices.{CodeChoices}
-use Rattle.squawk_words.specs.Words.{Text}
+use Rattle.refused_word.specs.devices.Contents.{Content, KeepsContents}
+use Rattle.refused_word.specs.squawk_run.declared.stop.Stop.{Stop}
+use Rattle.refused_word.specs.squawk_run.declared.stop.Stop.TheVariants.{BadArguments, NotUtf8, TooLong, ReadFault, WriteFault, NoMemory}
+use Rattle.refused_word.specs.code_choice.declared.choices.CodeChoices.{CodeChoices}
+use Rattle.refused_word.specs.squawk_words.Words.{Text}
 use Rattle.std.specs.Io.KnownBytes.{Keeps}
 
 -- the answers of a linter

@@ -1,12 +1,12 @@
 -- What the words of the line and the configuration choose together.
 use Rattle.std.specs.Prelude.{◌≡◌, List, Some, None, ⊤}
-use Rattle.check_config.specs.declared.config.Config.{Config}
-use Rattle.check_config.specs.Defaults.{linter_words}
-use Rattle.code_choice.specs.Choices.{code_choices_of}
-use Rattle.code_choice.specs.declared.choices.CodeChoices.{CodeChoices}
-use Rattle.squawk_run.specs.declared.stop.Stop.{Stop}
-use Rattle.squawk_run.specs.declared.stop.Stop.TheVariants.{BadArguments, NotUtf8, TooLong, ReadFault, WriteFault, NoMemory}
-use Rattle.squawk_words.specs.Words.{Text}
+use Rattle.check_setup.specs.check_config.declared.config.Config.{Config}
+use Rattle.check_setup.specs.check_config.Defaults.{linter_words}
+use Rattle.refused_word.specs.code_choice.Choices.{code_choices_of}
+use Rattle.refused_word.specs.code_choice.declared.choices.CodeChoices.{CodeChoices}
+use Rattle.refused_word.specs.squawk_run.declared.stop.Stop.{Stop}
+use Rattle.refused_word.specs.squawk_run.declared.stop.Stop.TheVariants.{BadArguments, NotUtf8, TooLong, ReadFault, WriteFault, NoMemory}
+use Rattle.refused_word.specs.squawk_words.Words.{Text}
 
 abbrev pub IsChosenBy : Config → List Text → CodeChoices → Type 0
 IsChosenBy config line choices = code_choices_of (linter_words config line) ≡ Some choices

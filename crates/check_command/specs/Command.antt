@@ -4,33 +4,33 @@ use Rattle.std.specs.Io.KnownBytes.{Appends, Keeps}
 use Rattle.check_command.specs.declared.failure.Failure.{Failure}
 use Rattle.check_command.specs.declared.failure.Failure.TheVariants as failure
 use Rattle.check_command.specs.Choosing.{IsChosenBy}
-use Rattle.baseline_file.specs.Leaving.{Leaves}
-use Rattle.check_baseline.specs.Written.{written}
-use Rattle.check_config.specs.Defaults.{linter_words}
+use Rattle.check_setup.specs.baseline_file.Leaving.{Leaves}
+use Rattle.check_setup.specs.check_baseline.Written.{written}
+use Rattle.check_setup.specs.check_config.Defaults.{linter_words}
 use Rattle.check_print.specs.declared.style.Style.{Style}
 use Rattle.check_print.specs.Printed.{printed}
-use Rattle.check_run.specs.Checks.{Answers}
-use Rattle.check_run.specs.Runs.{AreAnswers, AreLeft, Devices, HasRun, HasWrittenPart}
+use Rattle.file_answer.specs.check_run.Checks.{Answers}
+use Rattle.file_answer.specs.check_run.Runs.{AreAnswers, AreLeft, Devices, HasRun, HasWrittenPart}
 use Rattle.check_setup.specs.declared.setup.Setup.{Setup}
 use Rattle.check_setup.specs.SetUp.{IsRefusedFor, IsSetUp}
-use Rattle.check_words.specs.declared.asked.Asked.{Asked}
-use Rattle.check_words.specs.declared.asked.Asked.TheVariants.{Check, Help, Version, Refused}
-use Rattle.check_words.specs.declared.request.Color.{Color}
-use Rattle.check_words.specs.declared.request.Color.TheVariants.{Auto, Always, Never}
-use Rattle.check_words.specs.declared.request.FailOn.{FailOn}
-use Rattle.check_words.specs.declared.request.FailOn.TheVariants as fail_on
-use Rattle.check_words.specs.declared.request.Request.{Request}
-use Rattle.code_choice.specs.Choices.{code_choices_of}
-use Rattle.code_choice.specs.declared.choices.CodeChoices.{CodeChoices}
-use Rattle.checked_file.specs.declared.checked.Checked.{Checked}
-use Rattle.checked_file.specs.declared.status.Status.{Status}
-use Rattle.checked_file.specs.declared.status.Status.TheVariants as status
-use Rattle.checked_file.specs.Statuses.{forgiven}
+use Rattle.check_print.specs.check_words.declared.asked.Asked.{Asked}
+use Rattle.check_print.specs.check_words.declared.asked.Asked.TheVariants.{Check, Help, Version, Refused}
+use Rattle.check_print.specs.check_words.declared.request.Color.{Color}
+use Rattle.check_print.specs.check_words.declared.request.Color.TheVariants.{Auto, Always, Never}
+use Rattle.check_print.specs.check_words.declared.request.FailOn.{FailOn}
+use Rattle.check_print.specs.check_words.declared.request.FailOn.TheVariants as fail_on
+use Rattle.check_print.specs.check_words.declared.request.Request.{Request}
+use Rattle.refused_word.specs.code_choice.Choices.{code_choices_of}
+use Rattle.refused_word.specs.code_choice.declared.choices.CodeChoices.{CodeChoices}
+use Rattle.check_print.specs.checked_file.declared.checked.Checked.{Checked}
+use Rattle.check_print.specs.checked_file.declared.status.Status.{Status}
+use Rattle.check_print.specs.checked_file.declared.status.Status.TheVariants as status
+use Rattle.check_print.specs.checked_file.Statuses.{forgiven}
 use Rattle.refused_word.specs.Messages.{line_of}
-use Rattle.squawk_run.specs.declared.stop.Stop.{Stop}
-use Rattle.squawk_run.specs.declared.stop.Stop.TheVariants.{BadArguments, NotUtf8, TooLong, ReadFault, WriteFault, NoMemory}
-use Rattle.squawk_stream.specs.Faults.{Rose}
-use Rattle.squawk_stream.specs.Parts.{AppendsPart}
+use Rattle.refused_word.specs.squawk_run.declared.stop.Stop.{Stop}
+use Rattle.refused_word.specs.squawk_run.declared.stop.Stop.TheVariants.{BadArguments, NotUtf8, TooLong, ReadFault, WriteFault, NoMemory}
+use Rattle.refused_word.specs.devices.Faults.{Rose}
+use Rattle.refused_word.specs.devices.Parts.{AppendsPart}
 use Rattle.file_answer.specs.declared.linter.FileLinter.{FileLinter}
 use Rattle.file_answer.specs.Answers.{IsLintedAs}
 

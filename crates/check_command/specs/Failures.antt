@@ -2,13 +2,13 @@
 use Rattle.std.specs.Prelude.{◌≡◌, ℕ, List, ⊤}
 use Rattle.check_command.specs.declared.failure.Failure.{Failure}
 use Rattle.check_command.specs.declared.failure.Failure.TheVariants.{Stop, Refused}
-use Rattle.check_words.specs.declared.fault.WordFault.{WordFault}
-use Rattle.config_file.specs.declared.error.LoadError.{LoadError}
-use Rattle.config_file.specs.declared.error.LoadError.TheVariants as load
+use Rattle.check_print.specs.check_words.declared.fault.WordFault.{WordFault}
+use Rattle.check_setup.specs.config_file.declared.error.LoadError.{LoadError}
+use Rattle.check_setup.specs.config_file.declared.error.LoadError.TheVariants as load
 use Rattle.refused_word.specs.Messages as word
-use Rattle.squawk_run.specs.declared.stop.Stop.{Stop as AnyStop}
-use Rattle.squawk_run.specs.declared.stop.Stop.TheVariants as stop
-use Rattle.squawk_run.specs.Stops as stops
+use Rattle.refused_word.specs.squawk_run.declared.stop.Stop.{Stop as AnyStop}
+use Rattle.refused_word.specs.squawk_run.declared.stop.Stop.TheVariants as stop
+use Rattle.refused_word.specs.squawk_run.Stops as stops
 
 abbrev pub code_of : Failure → ℕ
 code_of (Stop stop) = stops.code_of stop

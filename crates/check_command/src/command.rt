@@ -1,33 +1,40 @@
 //! The run of the program, over any files, source and sinks.
 ghost use Rattle.std.specs.Prelude.{◌≡◌, IfErr, IfOk, OnOk};
 ghost use Rattle.std.specs.Io.KnownBytes.{Appends, Keeps};
-ghost use Rattle.check_words.specs.Asked.{asked_of};
-ghost use Rattle.checked_file.specs.declared.status.Status.TheVariants as status;
-ghost use Rattle.squawk_run.specs.declared.stop.Stop.TheVariants as stop;
-ghost use Rattle.squawk_stream.specs.Faults.{HasCause, Rose};
-ghost use Rattle.squawk_stream.specs.Parts.{AppendsPart};
+ghost use Rattle.check_print.specs.check_words.Asked.{asked_of};
+ghost use Rattle.check_print.specs.checked_file.declared.status.Status.TheVariants as status;
+ghost use Rattle.refused_word.specs.squawk_run.declared.stop.Stop.TheVariants as stop;
+ghost use Rattle.refused_word.specs.devices.Faults.{HasCause, Rose};
+ghost use Rattle.refused_word.specs.devices.Parts.{AppendsPart};
 ghost use Rattle.check_command.specs.Choosing.{IsChosenBy, IsUnchosen};
 ghost use Rattle.check_command.specs.Command.{DoneFor, HasChecked, StoppedFor, ended_by, fails_on, linter_by, status_by, style_of};
 ghost use Rattle.check_command.specs.Failures.{IsStop, failure_of, line_of};
+ghost use Rattle.check_print.specs.check_words.declared.request.Format.TheVariants as format;
+ghost use Rattle.law_printed_arrays.specs.Unique.{IsUnique, UniqueIssues};
+ghost use Rattle.law_printed_text.specs.Unique.{UniqueTexts};
+ghost use Rattle.law_printed_text.specs.law_printed_lines.Escapes.{HaveNoControl, UniqueEscapes};
+ghost use Rattle.law_printed_text.specs.law_printed_lines.Steering.{SteerNothing};
+ghost use Rattle.law_printed_text.specs.law_printed_lines.Unique.{UniqueCommands, UniqueConcise, UniqueGcc};
+ghost use Rattle.file_answer.specs.law_reports.CleanTexts.{CleanTextsWorkAlone};
+ghost use Rattle.file_answer.specs.law_reports.NotReported.{NotReportedIsNotFound};
+ghost use Rattle.file_answer.specs.law_reports.Order.{ReportsAscend};
 
 use crate::failure::{Failure, failure_of, say, word_failure};
 use crate::printer::RunPrinter;
-use check_config::{Config, linter_words};
-use check_print::Style;
-use check_run::{Progress, check};
-use check_setup::load_setup;
-use check_words::{Asked, Color, FailOn, HELP, Request, VERSION, read_asked};
-use checked_file::Status;
-use code_choice::{CodeChoices, read_code_choices};
-use file_answer::FileLinter;
-use file_store::FileStore;
-use squawk_linter::Linter;
-use squawk_run::Stop;
-use squawk_stream::{Sink, Source, write_all};
-use squawk_words::Words;
+use check_print::{
+    Asked, Color, FailOn, HELP, NoMemory, Request, Status, Style, VERSION, read_asked,
+};
+use check_setup::{Config, linter_words, load_setup};
+use file_answer::{FileLinter, Linter, Progress, TextLinter, check, reports_tell};
+use law_printed_arrays::{unique_arrays, unique_issues, unique_logs};
+use law_printed_text::{
+    have_no_control, steer_nothing, unique_commands, unique_concise, unique_escapes, unique_gcc,
+    unique_texts,
+};
+use refused_word::{
+    CodeChoices, FileStore, Sink, Source, Stop, Words, read_code_choices, write_all,
+};
 use std::alloc::Global;
-use text_pos::NoMemory;
-use text_reports::TextLinter;
 
 // The style that a request asks for, by whether colours are expected where it does not say.
 fn style_of(request: &Request, is_painted: bool) -> Style
@@ -226,9 +233,39 @@ fn work<F: FileStore, S: Source, K: Sink, G: Progress>(
     }
 }
 
+// What can be read back from each format.
+fn formats_read_back()
+    ensures text { UniqueTexts }
+    ensures concise { UniqueConcise }
+    ensures gcc { UniqueGcc }
+    ensures commands { UniqueCommands }
+    ensures json { IsUnique format.Json }
+    ensures sarif { IsUnique format.Sarif }
+    ensures gitlab { UniqueIssues }
+    ensures escapes { UniqueEscapes }
+    ensures controls { HaveNoControl }
+    ensures steering { SteerNothing }
+{
+    unique_texts();
+    unique_concise();
+    unique_gcc();
+    unique_commands();
+    unique_arrays();
+    unique_logs();
+    unique_issues();
+    unique_escapes();
+    have_no_control();
+    steer_nothing();
+}
+
 /// Does what the words after the program's name ask for: reads files, or the input, and writes to `out` what comes of them. Why nothing
 /// more was written goes to `err`, and a failure there changes nothing else. `is_painted` is whether colours are expected where no word
 /// says. The failures are a word, a configuration or a baseline that is refused, and the stops `BadArguments`, `WriteFault` and `NoMemory`.
+///
+/// The reports of a file are all that `text_reports` finds in it (`done`), less those that a baseline knows. They ascend (`order`); a hazard
+/// that is not reported is not there (`silence`); and where nothing at all is reported of a plain text without ignore comments, under the rules
+/// of the default set, no listed work is on a table that others know (`clean`). What is printed leads back to the reports: all of them in JSON
+/// (`json`) and SARIF (`sarif`), and as far as the format keeps them in the others (`text`, `concise`, `gcc`, `commands`, `gitlab`).
 pub fn run<F: FileStore, S: Source, K: Sink, E: Sink, G: Progress>(
     alloc: Global,
     words: &Words,
@@ -262,7 +299,22 @@ pub fn run<F: FileStore, S: Source, K: Sink, E: Sink, G: Progress>(
     ensures line { IfErr result (λ failure. AppendsPart (E.held err.old) (E.held err.new) (line_of failure)) }
     ensures whole_line { IfErr result (λ failure. ¬ (Rose (E.faults err.old) (E.faults err.new)) → Appends (E.held err.old) (E.held err.new) (line_of failure)) }
     ensures no_line { OnOk result (Keeps (E.held err.old) (E.held err.new)) }
+    ensures order { ReportsAscend }
+    ensures silence { NotReportedIsNotFound }
+    ensures clean { CleanTextsWorkAlone }
+    ensures text { UniqueTexts }
+    ensures concise { UniqueConcise }
+    ensures gcc { UniqueGcc }
+    ensures commands { UniqueCommands }
+    ensures json { IsUnique format.Json }
+    ensures sarif { IsUnique format.Sarif }
+    ensures gitlab { UniqueIssues }
+    ensures escapes { UniqueEscapes }
+    ensures controls { HaveNoControl }
+    ensures steering { SteerNothing }
 {
+    reports_tell();
+    formats_read_back();
     match work(alloc, words, is_painted, files, src, out, progress) {
         Ok(status) => Ok(status),
         Err(failure) => {

@@ -2,16 +2,13 @@
 ghost use Rattle.std.specs.Prelude.{◌≡◌};
 ghost use Rattle.std.specs.Io.KnownBytes.{Appends};
 ghost use Rattle.check_command.specs.Failures as spec;
-ghost use Rattle.squawk_stream.specs.Faults.{Rose};
-ghost use Rattle.squawk_stream.specs.Parts.{AppendsPart};
+ghost use Rattle.refused_word.specs.devices.Faults.{Rose};
+ghost use Rattle.refused_word.specs.devices.Parts.{AppendsPart};
 
-use check_words::WordFault;
-use config_file::LoadError;
-use refused_word::fault_line;
-use squawk_run::Stop;
-use squawk_stream::{Sink, write_all};
+use check_print::{NoMemory, WordFault};
+use check_setup::LoadError;
+use refused_word::{Sink, Stop, fault_line, write_all};
 use std::alloc::Global;
-use text_pos::NoMemory;
 
 /// Why a run gives no answer.
 #[derive(Debug, Drop)]

@@ -1,12 +1,10 @@
 //! What writes the answers of a run.
 ghost use Rattle.check_command.specs.Command.{printed_by};
 
-use check_baseline::written;
-use check_print::{Style, printed};
-use check_run::Printer;
-use checked_file::Checked;
+use check_print::{Checked, NoMemory, Style, printed};
+use check_setup::written;
+use file_answer::Printer;
 use std::alloc::Global;
-use text_pos::NoMemory;
 
 /// What writes answers in a style, or the baseline that knows them.
 #[derive(Clone, Copy, Debug)]

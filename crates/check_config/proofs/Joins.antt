@@ -3,7 +3,7 @@ use Rattle.std.proofs.Common.{◌≡◌, ◌∙◌, ◌+◌, ◌≤◌, ap, appe
 use Rattle.std.proofs.lemmas.List.{drop_all}
 use Rattle.std.specs.List.{join_with_byte}
 use Rattle.std.specs.Prelude.{flat_map, slice_get}
-use Rattle.squawk_words.specs.Words.{Text}
+use Rattle.squawk_run.specs.squawk_words.Words.{Text}
 use Rattle.check_config.proofs.Finds.{drop_at}
 
 -- each name after a comma

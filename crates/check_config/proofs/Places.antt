@@ -1,7 +1,7 @@
 -- The first place of a name, byte by byte.
 use Rattle.std.proofs.Common.{◌≡◌, ◌==◌, ◌+◌, ◌-◌, ◌<◌, ◌≤◌, ◌&&◌, ◌||◌, arith, refl, ℕ, Bool, true, false, ◌∷◌, Some, None, drop, get_or, length, take}
 use Rattle.std.proofs.lemmas.List.{drop_all, drop_more, length-drop, take_all}
-use Rattle.squawk_words.specs.Words.{Text}
+use Rattle.squawk_run.specs.squawk_words.Words.{Text}
 use Rattle.check_config.specs.Faults.{begins_with_name, place_from}
 
 -- the rest of a text, as a slice to its end

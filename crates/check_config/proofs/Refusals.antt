@@ -1,7 +1,7 @@
 -- A fault goes through to the end.
 use Rattle.std.proofs.Common.{◌≡◌, ◌∙◌, ◌≤◌, ap, arith, subst, sym, List, Option, Some, None, Result, Ok, Err, length}
 use Rattle.std.specs.Prelude.{find}
-use Rattle.squawk_words.specs.Words.{Text}
+use Rattle.squawk_run.specs.squawk_words.Words.{Text}
 use Rattle.toml.specs.Data.{Members}
 use Rattle.toml.specs.Errors.{IsMemory, IsWithin}
 use Rattle.toml.specs.Parse.{parse_document}

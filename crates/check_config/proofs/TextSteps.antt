@@ -1,7 +1,7 @@
 -- The texts of a list, one by one.
 use Rattle.std.proofs.Common.{◌≡◌, ◌+◌, ◌<◌, ◌≤◌, ap, append_assoc, append-nil, refl, sym, ℕ, List, [], ◌∷◌, ◌++◌, Option, Some, None, drop, get_or, length, option_map}
 use Rattle.std.proofs.lemmas.List.{drop_all}
-use Rattle.squawk_words.specs.Words.{Text}
+use Rattle.squawk_run.specs.squawk_words.Words.{Text}
 use Rattle.toml.specs.Data.{as_str}
 use Rattle.toml.specs.View.{items_view, view}
 use Rattle.toml.specs.declared.value.Value.{Value}

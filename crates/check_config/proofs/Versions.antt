@@ -3,7 +3,7 @@ use Rattle.std.proofs.Common.{◌≡◌, ◌≤◌, refl, List, length, map, Bor
 use Rattle.std.proofs.lemmas.List.{length-map}
 use Rattle.std.proofs.lemmas.List.Folds.{list_all-map}
 use Rattle.std.specs.List.{list_all}
-use Rattle.squawk_words.specs.Words.{Text}
+use Rattle.squawk_run.specs.squawk_words.Words.{Text}
 use Rattle.check_config.specs.Config.{is_part, is_version}
 
 pub short_version : (parts : List (Bor Text)) → length parts ≤ 3 → list_all (λ part. is_part part.now) parts ≡ is_version (map (λ part. part.now) parts)

@@ -4,7 +4,7 @@ use Rattle.std.specs.Char.{is_ascii_digit}
 use Rattle.std.specs.List.{list_all, slice_split}
 use Rattle.std.specs.Str.{bytes_eq}
 use Rattle.lint_report.specs.Codes.{code_named}
-use Rattle.squawk_words.specs.Words.{Text}
+use Rattle.squawk_run.specs.squawk_words.Words.{Text}
 use Rattle.toml.specs.Data.{Data, Items, no_items, item, Members, no_members, member, as_array, as_bool, as_str, get_member}
 use Rattle.check_config.specs.declared.config.Config.{Config}
 use Rattle.check_config.specs.declared.fault.ConfigError.{ConfigError}

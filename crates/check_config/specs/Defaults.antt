@@ -2,7 +2,7 @@
 use Rattle.std.specs.Prelude.{◌&&◌, Bool, not, if◌then◌else◌, List, [], ◌∷◌, ◌++◌, Option, Some, None, codes, slice_get}
 use Rattle.std.specs.List.{join_with_byte}
 use Rattle.squawk_run.specs.ForeignWords.{has_foreign_word}
-use Rattle.squawk_words.specs.Words.{Text}
+use Rattle.squawk_run.specs.squawk_words.Words.{Text}
 use Rattle.check_config.specs.declared.config.Config.{Config}
 
 -- `--name=value`

@@ -1,6 +1,6 @@
 -- What is read of a text, as far as the text says it.
 use Rattle.std.specs.Prelude.{◌≡◌, ◌≤◌, Option, Some, None, Result, Ok, Err, length, ⊤}
-use Rattle.squawk_words.specs.Words.{Text}
+use Rattle.squawk_run.specs.squawk_words.Words.{Text}
 use Rattle.toml.specs.Data.{Members}
 use Rattle.toml.specs.Errors.{IsMemory, span_start}
 use Rattle.toml.specs.Parse.{parse_document}

@@ -2,7 +2,7 @@
 ghost use Rattle.std.specs.Prelude.{◌≡◌};
 ghost use Rattle.check_config.specs.Config.{empty};
 
-use squawk_words::Words;
+use squawk_run::Words;
 use std::alloc::Global;
 
 /// What a configuration says.

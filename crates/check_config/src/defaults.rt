@@ -4,10 +4,9 @@ ghost use Rattle.std.specs.List.{join_with_byte};
 ghost use Rattle.check_config.specs.Defaults as spec;
 
 use crate::config::Config;
-use squawk_run::has_foreign_word;
-use squawk_words::Words;
+use lint_report::NoMemory;
+use squawk_run::{Words, has_foreign_word};
 use std::alloc::{AllocError, Global};
-use text_pos::NoMemory;
 
 // A copy of words.
 fn copied(alloc: Global, words: &Words) -> Result<Words, NoMemory>

@@ -2,7 +2,7 @@
 ghost use Rattle.std.specs.Prelude.{◌≡◌, ◌++◌, IfOk, string_bytes};
 ghost use Rattle.check_config.specs.Faults.{message_of};
 
-use lint_base::Text;
+use lint_report::Text;
 use std::alloc::{AllocError, Global};
 
 /// Why a configuration is refused.

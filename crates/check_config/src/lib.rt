@@ -19,3 +19,8 @@ pub use defaults::linter_words;
 pub use fault::{ConfigError, ConfigFault};
 pub use place::fault_place;
 pub use read::read_config;
+
+// What crates above reach through this one.
+pub use squawk_run::{
+    Choices, FileError, FileStore, FileWriter, Sink, Source, Stop, Words, text_in, write_all,
+};

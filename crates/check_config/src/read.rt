@@ -9,7 +9,7 @@ use crate::fault::{ConfigError, ConfigFault};
 use crate::rules::rules_at;
 use crate::texts::texts_at;
 use crate::version::{flag_at, version_at};
-use lint_base::Text;
+use lint_report::Text;
 use std::alloc::Global;
 use toml::Table;
 use toml::de::Error;

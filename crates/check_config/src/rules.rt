@@ -7,9 +7,8 @@ ghost use Rattle.check_config.specs.Readings.{IsRefused};
 
 use crate::fault::{ConfigError, ConfigFault};
 use crate::texts::texts_at;
-use lint_base::Text;
-use lint_report::code_named;
-use squawk_words::Words;
+use lint_report::{Text, code_named};
+use squawk_run::Words;
 use std::alloc::Global;
 use toml::Table;
 

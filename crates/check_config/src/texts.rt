@@ -6,10 +6,9 @@ ghost use Rattle.check_config.specs.Config as spec;
 ghost use Rattle.check_config.specs.Readings.{IsRefused};
 
 use crate::fault::{ConfigError, ConfigFault};
-use lint_base::Text;
-use squawk_words::Words;
+use lint_report::{NoMemory, Text};
+use squawk_run::Words;
 use std::alloc::Global;
-use text_pos::NoMemory;
 use toml::{Table, Value};
 
 /// The value of a key.

@@ -8,9 +8,9 @@ ghost use Rattle.check_config.specs.Readings.{IsRefused};
 
 use crate::fault::ConfigError;
 use crate::texts::{bad_value, value_at};
-use squawk_words::Words;
+use lint_report::NoMemory;
+use squawk_run::Words;
 use std::alloc::{AllocError, Global};
-use text_pos::NoMemory;
 use toml::{Table, Value};
 
 // The most digits of a part of a version.

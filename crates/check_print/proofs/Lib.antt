@@ -1,1 +1,2 @@
 mod Pushing
+pub use Rattle.hazard_base.proofs as of_hazard_base

@@ -3,8 +3,8 @@ use Rattle.std.proofs.Common.{◌≡◌, ◌∙◌, ◌+◌, ◌++◌, ◌<◌, 
 use Rattle.std.proofs.lemmas.List.{drop_all, drop_more}
 use Rattle.checked_file.specs.declared.checked.Checked.{Checked}
 use Rattle.checked_file.specs.Answers.{has_findings}
-use Rattle.lint_report.specs.declared.report.Report.{Report}
-use Rattle.source_file.specs.File.{FileValue}
+use Rattle.checked_file.specs.lint_report.declared.report.Report.{Report}
+use Rattle.checked_file.specs.source_file.File.{FileValue}
 use Rattle.check_print.specs.declared.style.Style.{Style}
 use Rattle.check_print.specs.Printed.{printed_file, printed_files, printed_reports, separated}
 

@@ -2,8 +2,8 @@
 use Rattle.std.specs.Prelude.{ℕ, Bool, List, [], ◌++◌, codes, if◌then◌else◌}
 use Rattle.check_words.specs.declared.request.Format.{Format}
 use Rattle.check_words.specs.declared.request.Format.TheVariants as format
-use Rattle.lint_report.specs.declared.report.Report.{Report}
-use Rattle.lint_report.specs.Codes.{name_of}
+use Rattle.checked_file.specs.lint_report.declared.report.Report.{Report}
+use Rattle.checked_file.specs.lint_report.Codes.{name_of}
 use Rattle.report_gitlab.specs.Issues as gitlab
 use Rattle.report_json.specs.Objects as json
 use Rattle.report_lines.specs.declared.concise.Order.{Order}
@@ -13,10 +13,10 @@ use Rattle.report_lines.specs.Github.{command, detail}
 use Rattle.report_sarif.specs.Results as sarif
 use Rattle.report_text.specs.Report as text
 use Rattle.serde_json.specs.Written.{compact_text}
-use Rattle.source_file.specs.declared.level.Level.TheVariants.{Warning, Error}
-use Rattle.source_file.specs.declared.refusal.Refusal.{Refusal}
-use Rattle.source_file.specs.File.{FileValue}
-use Rattle.source_file.specs.Refusals as refusals
+use Rattle.checked_file.specs.source_file.declared.level.Level.TheVariants.{Warning, Error}
+use Rattle.checked_file.specs.source_file.declared.refusal.Refusal.{Refusal}
+use Rattle.checked_file.specs.source_file.File.{FileValue}
+use Rattle.checked_file.specs.source_file.Refusals as refusals
 
 -- a report on a line
 abbrev pub report_line : Order → FileValue → Report → List ℕ

@@ -3,16 +3,16 @@ use Rattle.std.specs.Prelude.{ℕ, List, [], ◌∷◌, Option, Some, None, flat
 use Rattle.checked_file.specs.declared.answer.Answer.{Answer}
 use Rattle.checked_file.specs.declared.answer.Answer.TheVariants.{Reports, Refused}
 use Rattle.checked_file.specs.declared.checked.Checked.{Checked}
-use Rattle.lint_report.specs.declared.report.Report.{Report}
-use Rattle.lint_report.specs.declared.report.ReportFix.{ReportFix}
-use Rattle.lint_report.specs.Codes.{name_of}
-use Rattle.source_file.specs.declared.level.Level.{Level}
-use Rattle.source_file.specs.declared.level.Level.TheVariants as levels
-use Rattle.source_file.specs.declared.refusal.Refusal.{Refusal}
-use Rattle.source_file.specs.File.{FileValue}
-use Rattle.source_file.specs.Hints.{hint_of, text_of}
-use Rattle.source_file.specs.Refusals as refusals
-use Rattle.text_pos.specs.Range.{Range}
+use Rattle.checked_file.specs.lint_report.declared.report.Report.{Report}
+use Rattle.checked_file.specs.lint_report.declared.report.ReportFix.{ReportFix}
+use Rattle.checked_file.specs.lint_report.Codes.{name_of}
+use Rattle.checked_file.specs.source_file.declared.level.Level.{Level}
+use Rattle.checked_file.specs.source_file.declared.level.Level.TheVariants as levels
+use Rattle.checked_file.specs.source_file.declared.refusal.Refusal.{Refusal}
+use Rattle.checked_file.specs.source_file.File.{FileValue}
+use Rattle.checked_file.specs.source_file.Hints.{hint_of, text_of}
+use Rattle.checked_file.specs.source_file.Refusals as refusals
+use Rattle.checked_file.specs.text_pos.Range.{Range}
 use Rattle.check_print.specs.Printed.{source_of}
 
 -- A finding: its file, its range, its level, the name of its rule or hazard and its message; its note, its help, its fix and the range of

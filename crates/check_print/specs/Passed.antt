@@ -3,8 +3,8 @@ use Rattle.std.specs.Prelude.{ℕ, List, [], ◌++◌, Option, Some, None, codes
 use Rattle.checked_file.specs.declared.checked.Checked.{Checked}
 use Rattle.checked_file.specs.declared.checked.Passed.{Passed}
 use Rattle.checked_file.specs.Files.{readable_of}
-use Rattle.source_file.specs.File.{FileValue, line_number}
-use Rattle.source_file.specs.Escaped.{escaped_name}
+use Rattle.checked_file.specs.source_file.File.{FileValue, line_number}
+use Rattle.checked_file.specs.source_file.Escaped.{escaped_name}
 
 unfoldable pub passed_place : FileValue → Passed → List ℕ
 passed_place file p = codes "note: " ++ escaped_name file.name ++ codes ":" ++ decimal (line_number file.text p.first)

@@ -7,10 +7,10 @@ use Rattle.checked_file.specs.declared.answer.Answer.TheVariants.{Reports, Refus
 use Rattle.checked_file.specs.declared.checked.Checked.{Checked}
 use Rattle.checked_file.specs.Answers.{has_findings}
 use Rattle.checked_file.specs.Files.{readable_of}
-use Rattle.lint_report.specs.declared.report.Report.{Report}
+use Rattle.checked_file.specs.lint_report.declared.report.Report.{Report}
 use Rattle.report_sarif.specs.Log as sarif
 use Rattle.report_text.specs.Closing as text
-use Rattle.source_file.specs.File.{FileValue}
+use Rattle.checked_file.specs.source_file.File.{FileValue}
 use Rattle.check_print.specs.declared.style.Style.{Style}
 use Rattle.check_print.specs.Counted.{counts_of}
 use Rattle.check_print.specs.Findings.{printed_refusal, printed_report, separator}

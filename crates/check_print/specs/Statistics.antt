@@ -8,9 +8,9 @@ use Rattle.hazard_base.specs.Hazards.{all_hazards, same_hazard}
 use Rattle.lint_base.specs.declared.rule.Rule.{Rule}
 use Rattle.lint_base.specs.RuleNames.{same_rule}
 use Rattle.lint_base.specs.Rules.{all_rules}
-use Rattle.lint_report.specs.declared.code.Code.{Code}
-use Rattle.lint_report.specs.declared.code.Code.TheVariants as code
-use Rattle.lint_report.specs.Codes.{name_of}
+use Rattle.checked_file.specs.lint_report.declared.code.Code.{Code}
+use Rattle.checked_file.specs.lint_report.declared.code.Code.TheVariants as code
+use Rattle.checked_file.specs.lint_report.Codes.{name_of}
 use Rattle.check_print.specs.Counted.{capped}
 
 -- both are one rule, or one hazard

@@ -5,11 +5,8 @@ ghost use Rattle.check_print.specs.Printed.{printed_answer, printed_file, printe
 
 use crate::finding::{push_refusal, push_report, push_separator};
 use crate::style::Style;
-use checked_file::{Answer, Checked, readable};
-use lint_report::Report;
-use source_file::SourceFile;
+use checked_file::{Answer, Checked, NoMemory, Report, SourceFile, readable};
 use std::alloc::Global;
-use text_pos::NoMemory;
 
 // Adds a report with what is before it.
 #[tactic(auto, using(std::proofs::lemmas::List::append_assoc))]

@@ -10,11 +10,10 @@ use crate::passed::push_passed_lines;
 use crate::statistics::push_code_lines;
 use crate::style::Style;
 use check_words::Format;
-use checked_file::Checked;
+use checked_file::{Checked, NoMemory};
 use report_lines::push;
 use report_text::push_closing;
 use std::alloc::Global;
-use text_pos::NoMemory;
 
 // Whether one of two things is so.
 fn either(first: bool, second: bool) -> bool

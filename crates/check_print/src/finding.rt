@@ -2,16 +2,14 @@
 ghost use Rattle.std.specs.Prelude.{◌≡◌, ◌++◌, OnOk};
 ghost use Rattle.std.specs.Str.{IsCharBoundary};
 ghost use Rattle.checked_file.specs.Sound.{IsReportIn};
-ghost use Rattle.source_file.specs.Refusals.{place_of};
+ghost use Rattle.checked_file.specs.source_file.Refusals.{place_of};
 ghost use Rattle.check_print.specs.Findings.{array_separator, printed_refusal, printed_report, refusal_command, refusal_line, report_command, report_line, separator};
 
 use crate::style::Style;
 use check_words::Format;
-use lint_report::Report;
+use checked_file::{Level, NoMemory, Refusal, Report, SourceFile, TextRange};
 use report_lines::{Order, push, push_command, push_concise, push_detail};
-use source_file::{Level, Refusal, SourceFile};
 use std::alloc::Global;
-use text_pos::{NoMemory, TextRange};
 
 // Adds a report on a line.
 fn push_report_line(

@@ -14,3 +14,7 @@ mod style;
 
 pub use files::printed;
 pub use style::Style;
+
+// What crates above reach through this one.
+pub use check_words::{Asked, Color, FailOn, HELP, Request, VERSION, WordFault, read_asked};
+pub use checked_file::{Checked, NoMemory, Status};

@@ -3,11 +3,9 @@ ghost use Rattle.std.specs.Prelude.{◌≡◌, ◌++◌, All, OnOk, flat_map};
 ghost use Rattle.checked_file.specs.Sound.{IsSound};
 ghost use Rattle.check_print.specs.Passed.{passed_counts, passed_in, passed_line, passed_place};
 
-use checked_file::{Checked, Passed, readable};
+use checked_file::{Checked, NoMemory, Passed, SourceFile, push_escaped_name, readable};
 use report_lines::{push, push_number};
-use source_file::{SourceFile, push_escaped_name};
 use std::alloc::Global;
-use text_pos::NoMemory;
 
 // Adds where the first part is that was passed over.
 #[tactic(auto, unfolding(crate::specs::Passed::passed_place), using(std::proofs::lemmas::List::append_assoc))]

@@ -4,12 +4,10 @@ ghost use Rattle.hazard_base.specs.Hazards.{all_hazards};
 ghost use Rattle.lint_base.specs.Rules.{all_rules};
 ghost use Rattle.check_print.specs.Statistics.{code_line, code_lines, count_in, count_of, hazard_line, rule_line, same_code};
 
-use checked_file::{Answer, Checked};
+use checked_file::{Answer, Checked, Code, NoMemory, Report};
 use hazard_base::Hazard;
 use lint_base::Rule;
-use lint_report::{Code, Report};
 use report_lines::{push, push_number};
-use text_pos::NoMemory;
 
 // Whether two codes are one.
 #[tactic(auto, unfolding(lint_base::specs::RuleNames::same_rule))]

@@ -2,9 +2,8 @@
 ghost use Rattle.std.specs.Prelude.{◌≡◌, IfOk};
 ghost use Rattle.check_progress.specs.Lines.{progress_line};
 
-use report_lines::{push, push_number};
+use report_lines::{NoMemory, push, push_number};
 use std::alloc::Global;
-use text_pos::NoMemory;
 
 /// What writes over the line that no more files are to come.
 pub(crate) const CLEARED: &[u8] = b"\r\x1b[K";

@@ -1,11 +1,10 @@
 //! What shows how far a run is.
 ghost use Rattle.std.specs.Prelude.{◌≡◌};
 ghost use Rattle.check_progress.specs.Lines.{is_due};
-ghost use Rattle.squawk_stream.specs.Parts.{AppendsPart};
+ghost use Rattle.check_run.specs.devices.Parts.{AppendsPart};
 
 use crate::line::{CLEARED, progress_line};
-use check_run::Progress;
-use squawk_stream::{Sink, write_all};
+use check_run::{Progress, Sink, write_all};
 use std::alloc::Global;
 
 /// Shows on a sink how far a run over more than a hundred files is: at each tenth file. A write that fails shows nothing.

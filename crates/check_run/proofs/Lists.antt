@@ -8,10 +8,10 @@ use Rattle.checked_file.specs.declared.answer.Answer.TheVariants.{Reports, Refus
 use Rattle.checked_file.specs.declared.checked.Checked.{Checked}
 use Rattle.checked_file.specs.declared.checked.Linted.{Linted}
 use Rattle.checked_file.specs.Files.{linted_of}
-use Rattle.file_store.specs.Contents.{Content, KeepsContents}
-use Rattle.source_file.specs.declared.refusal.Refusal.TheVariants as refusal
-use Rattle.squawk_stream.specs.Faults.{Rose}
-use Rattle.squawk_words.specs.Words.{Text}
+use Rattle.sql_files.specs.devices.Contents.{Content, KeepsContents}
+use Rattle.checked_file.specs.source_file.declared.refusal.Refusal.TheVariants as refusal
+use Rattle.sql_files.specs.devices.Faults.{Rose}
+use Rattle.sql_files.specs.squawk_words.Words.{Text}
 use Rattle.check_run.specs.Checks.{Answers, AreChecked, IsChecked, IsUnread}
 
 -- ---- a longer time

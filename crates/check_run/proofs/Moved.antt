@@ -2,9 +2,9 @@
 use Rattle.std.proofs.Common.{◌≤◌, arith, ℕ, Bool, true, false, List, Option}
 use Rattle.checked_file.specs.declared.checked.Checked.{Checked}
 use Rattle.check_words.specs.declared.request.Request.{Request}
-use Rattle.file_store.specs.Contents.{Content, KeepsContents}
+use Rattle.sql_files.specs.devices.Contents.{Content, KeepsContents}
 use Rattle.sql_files.proofs.Moved.{named_moved}
-use Rattle.squawk_words.specs.Words.{Text}
+use Rattle.sql_files.specs.squawk_words.Words.{Text}
 use Rattle.check_run.specs.Checks.{Answers}
 use Rattle.check_run.specs.Inputs.{reads_input}
 use Rattle.check_run.specs.Runs.{AreAnswers, AreAnswersBy, AreFileAnswers}

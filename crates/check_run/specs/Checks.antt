@@ -1,17 +1,17 @@
 -- What comes of files.
 use Rattle.std.specs.Prelude.{◌≡◌, ◌≤◌, ◌⊎◌, ℕ, List, [], ◌∷◌, None}
-use Rattle.file_store.specs.Contents.{Content, IsBytes}
-use Rattle.file_store.specs.Refused.{MayBeLong, MayMiss}
-use Rattle.file_store.specs.declared.store.FileError.{FileError}
-use Rattle.file_store.specs.declared.store.FileError.TheVariants as error
+use Rattle.sql_files.specs.devices.Contents.{Content, IsBytes}
+use Rattle.sql_files.specs.devices.Refused.{MayBeLong, MayMiss}
+use Rattle.sql_files.specs.devices.declared.store.FileError.{FileError}
+use Rattle.sql_files.specs.devices.declared.store.FileError.TheVariants as error
 use Rattle.checked_file.specs.declared.answer.Answer.{Answer}
 use Rattle.checked_file.specs.declared.answer.Answer.TheVariants.{Reports, Refused}
 use Rattle.checked_file.specs.declared.checked.Checked.{Checked}
 use Rattle.checked_file.specs.declared.checked.Linted.{Linted}
 use Rattle.checked_file.specs.Files.{linted_of}
-use Rattle.source_file.specs.declared.refusal.Refusal.TheVariants as refusal
-use Rattle.squawk_stream.specs.Faults.{Rose}
-use Rattle.squawk_words.specs.Words.{Text}
+use Rattle.checked_file.specs.source_file.declared.refusal.Refusal.TheVariants as refusal
+use Rattle.sql_files.specs.devices.Faults.{Rose}
+use Rattle.sql_files.specs.squawk_words.Words.{Text}
 
 -- which answers there are for which bytes
 abbrev pub Answers : Type 1

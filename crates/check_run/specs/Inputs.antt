@@ -1,13 +1,13 @@
 -- The input of a run.
 use Rattle.std.specs.Prelude.{◌≡◌, ℕ, Bool, true, false, List, [], ◌∷◌, Option, Some, None, codes}
 use Rattle.std.specs.Str.{bytes_eq}
-use Rattle.file_store.specs.Contents.{Content, Unknown, File}
+use Rattle.sql_files.specs.devices.Contents.{Content, Unknown, File}
 use Rattle.checked_file.specs.declared.answer.Answer.{Answer}
 use Rattle.checked_file.specs.declared.answer.Answer.TheVariants.{Refused}
-use Rattle.source_file.specs.declared.refusal.Refusal.TheVariants as refusal
-use Rattle.squawk_run.specs.declared.stop.Stop.{Stop}
-use Rattle.squawk_run.specs.declared.stop.Stop.TheVariants.{BadArguments, NotUtf8, TooLong, ReadFault, WriteFault, NoMemory}
-use Rattle.squawk_words.specs.Words.{Text}
+use Rattle.checked_file.specs.source_file.declared.refusal.Refusal.TheVariants as refusal
+use Rattle.check_words.specs.squawk_run.declared.stop.Stop.{Stop}
+use Rattle.check_words.specs.squawk_run.declared.stop.Stop.TheVariants.{BadArguments, NotUtf8, TooLong, ReadFault, WriteFault, NoMemory}
+use Rattle.sql_files.specs.squawk_words.Words.{Text}
 
 -- no file is named, or `-` alone
 abbrev pub reads_input : List Text → Bool

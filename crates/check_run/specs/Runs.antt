@@ -8,13 +8,13 @@ use Rattle.checked_file.specs.declared.status.Status.{Status}
 use Rattle.checked_file.specs.Files.{worst}
 use Rattle.checked_file.specs.Sound.{IsSound}
 use Rattle.file_choice.specs.Choice.{chosen_of}
-use Rattle.file_store.specs.Contents.{Content}
+use Rattle.sql_files.specs.devices.Contents.{Content}
 use Rattle.sql_files.specs.Named.{AreNamed}
-use Rattle.squawk_run.specs.declared.stop.Stop.{Stop}
-use Rattle.squawk_run.specs.declared.stop.Stop.TheVariants.{BadArguments, NotUtf8, TooLong, ReadFault, WriteFault, NoMemory}
-use Rattle.squawk_stream.specs.Faults.{Rose}
-use Rattle.squawk_stream.specs.Parts.{AppendsPart}
-use Rattle.squawk_words.specs.Words.{Text}
+use Rattle.check_words.specs.squawk_run.declared.stop.Stop.{Stop}
+use Rattle.check_words.specs.squawk_run.declared.stop.Stop.TheVariants.{BadArguments, NotUtf8, TooLong, ReadFault, WriteFault, NoMemory}
+use Rattle.sql_files.specs.devices.Faults.{Rose}
+use Rattle.sql_files.specs.devices.Parts.{AppendsPart}
+use Rattle.sql_files.specs.squawk_words.Words.{Text}
 use Rattle.check_run.specs.Checks.{Answers, AreChecked, IsChecked}
 use Rattle.check_run.specs.Inputs.{input_content, reads_input}
 

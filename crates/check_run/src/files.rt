@@ -4,18 +4,14 @@ ghost use Rattle.std.specs.Str.{IsUtf8};
 ghost use Rattle.checked_file.specs.Files.{linted_of};
 ghost use Rattle.checked_file.specs.Sound.{IsSound};
 ghost use Rattle.checked_file.specs.declared.checked.Linted.{Linted};
-ghost use Rattle.file_store.specs.Contents.{KeepsContents};
+ghost use Rattle.sql_files.specs.devices.Contents.{KeepsContents};
 ghost use Rattle.check_run.specs.Checks.{AreChecked, IsChecked, IsEmpty, IsUnreadBy};
 
 use crate::lint::Lint;
 use crate::progress::Progress;
-use checked_file::{Answer, Checked, Linted};
-use file_store::{FileError, FileStore};
-use lint_base::Text;
-use source_file::Refusal;
-use squawk_words::Words;
+use checked_file::{Answer, Checked, Linted, NoMemory, Refusal, Text};
+use sql_files::{FileError, FileStore, Words};
 use std::alloc::Global;
-use text_pos::NoMemory;
 
 /// A file of a name, and what came of it. The error comes when memory runs out.
 pub(crate) fn named(alloc: Global, name: &str, linted: Linted) -> Result<Checked, NoMemory>

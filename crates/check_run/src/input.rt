@@ -2,18 +2,15 @@
 ghost use Rattle.std.specs.Prelude.{◌≡◌, IfOk};
 ghost use Rattle.checked_file.specs.Sound.{IsSound};
 ghost use Rattle.check_run.specs.Checks.{IsChecked, IsEmpty};
-ghost use Rattle.squawk_run.specs.Stops.{IsReadStop};
+ghost use Rattle.check_words.specs.squawk_run.Stops.{IsReadStop};
 ghost use Rattle.check_run.specs.Inputs.{IsStoppedBy, input_content, reads_input};
 
 use crate::files::{answered, named, unread_by};
 use crate::lint::Lint;
-use checked_file::Checked;
-use source_file::Refusal;
-use squawk_run::{Stop, read_input};
-use squawk_stream::Source;
-use squawk_words::Words;
+use check_words::{Stop, read_input};
+use checked_file::{Checked, NoMemory, Refusal};
+use sql_files::{Source, Words};
 use std::alloc::Global;
-use text_pos::NoMemory;
 
 /// Whether the input is to be checked, and no file: where no file is named, or `-` alone.
 pub fn reads_input(files: &Words) -> bool

@@ -19,3 +19,14 @@ pub use lint::Lint;
 pub use printer::Printer;
 pub use progress::Progress;
 pub use run::check;
+
+// What crates above reach through this one.
+pub use check_words::{
+    FileError, FileStore, MemFiles, MemSink, MemSource, Request, Sink, StdSink, StdSource,
+    SystemFiles, SystemWriter, say_stop, take_words, text_in, write_all,
+};
+pub use checked_file::{
+    Answer, Checked, Linted, NoMemory, Passed, Place, Refusal, SourceFile, TextSize, push_shown,
+    width,
+};
+pub use sql_files::Words;

@@ -3,9 +3,8 @@ ghost use Rattle.std.specs.Prelude.{ℕ, ◌<◌, ◌^◌, IfOk, List, length};
 ghost use Rattle.checked_file.specs.declared.checked.Linted.{Linted};
 ghost use Rattle.checked_file.specs.Sound.{IsSoundAnswer};
 
-use checked_file::Linted;
+use checked_file::{Linted, NoMemory};
 use std::alloc::Global;
-use text_pos::NoMemory;
 
 /// What lints the bytes of a file. `answers` says what comes of which bytes, and no call changes that.
 pub trait Lint {

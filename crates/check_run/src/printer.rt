@@ -3,9 +3,8 @@ ghost use Rattle.std.specs.Prelude.{◌≡◌, ℕ, All, IfOk, List};
 ghost use Rattle.checked_file.specs.declared.checked.Checked.{Checked};
 ghost use Rattle.checked_file.specs.Sound.{IsSound};
 
-use checked_file::Checked;
+use checked_file::{Checked, NoMemory};
 use std::alloc::Global;
-use text_pos::NoMemory;
 
 /// What writes the answers of a run. `printed` says which bytes that is.
 pub trait Printer {

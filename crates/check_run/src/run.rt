@@ -10,16 +10,11 @@ use crate::input::{check_input, reads_input};
 use crate::lint::Lint;
 use crate::printer::Printer;
 use crate::progress::Progress;
-use check_words::Request;
-use checked_file::{Checked, Status, worst};
+use check_words::{Request, Stop};
+use checked_file::{Checked, NoMemory, Status, worst};
 use file_choice::chosen;
-use file_store::FileStore;
-use sql_files::expanded;
-use squawk_run::Stop;
-use squawk_stream::{Sink, Source, write_all};
-use squawk_words::Words;
+use sql_files::{FileStore, Sink, Source, Words, expanded, write_all};
 use std::alloc::Global;
-use text_pos::NoMemory;
 
 // What comes of the input alone.
 fn check_one<S: Source, L: Lint>(

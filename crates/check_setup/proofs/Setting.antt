@@ -3,12 +3,12 @@ use Rattle.std.proofs.Common.{◌≡◌, ◌≤◌, inl, inr, subst, ℕ, Option
 use Rattle.baseline_file.specs.Loaded as baselines
 use Rattle.baseline_file.proofs.Later.{refused_earlier, refused_for}
 use Rattle.check_setup.specs.SetUp.{IsRefusedSetup, baseline_name}
-use Rattle.check_words.specs.declared.request.Request.{Request}
-use Rattle.config_file.specs.declared.error.LoadError.{LoadError}
-use Rattle.config_file.specs.declared.error.LoadError.TheVariants.{Refused, NoMemory}
-use Rattle.config_file.specs.Loaded as configs
-use Rattle.file_store.specs.Contents.{Content, KeepsContents}
-use Rattle.squawk_words.specs.Words.{Text}
+use Rattle.baseline_file.specs.check_words.declared.request.Request.{Request}
+use Rattle.baseline_file.specs.config_file.declared.error.LoadError.{LoadError}
+use Rattle.baseline_file.specs.config_file.declared.error.LoadError.TheVariants.{Refused, NoMemory}
+use Rattle.baseline_file.specs.config_file.Loaded as configs
+use Rattle.baseline_file.specs.devices.Contents.{Content, KeepsContents}
+use Rattle.baseline_file.specs.squawk_words.Words.{Text}
 
 pub config_refused : (content : Text → Content) (before now : ℕ) (request : Request) (e : LoadError) → configs.IsRefusedLoad content before now request.config e → IsRefusedSetup content before now request e
 config_refused content before now request (Refused line) h = inl h

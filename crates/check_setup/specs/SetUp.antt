@@ -2,12 +2,12 @@
 use Rattle.std.specs.Prelude.{◌⊎◌, ℕ, List, Option, None, if◌then◌else◌, ⊤}
 use Rattle.baseline_file.specs.Loaded as baselines
 use Rattle.check_setup.specs.declared.setup.Setup.{Setup}
-use Rattle.check_words.specs.declared.request.Request.{Request}
-use Rattle.config_file.specs.declared.error.LoadError.{LoadError}
-use Rattle.config_file.specs.declared.error.LoadError.TheVariants.{Refused, NoMemory}
-use Rattle.config_file.specs.Loaded as configs
-use Rattle.file_store.specs.Contents.{Content}
-use Rattle.squawk_words.specs.Words.{Text}
+use Rattle.baseline_file.specs.check_words.declared.request.Request.{Request}
+use Rattle.baseline_file.specs.config_file.declared.error.LoadError.{LoadError}
+use Rattle.baseline_file.specs.config_file.declared.error.LoadError.TheVariants.{Refused, NoMemory}
+use Rattle.baseline_file.specs.config_file.Loaded as configs
+use Rattle.baseline_file.specs.devices.Contents.{Content}
+use Rattle.baseline_file.specs.squawk_words.Words.{Text}
 
 -- the baseline that is read: the one that is named, but none where one is written
 abbrev pub baseline_name : Request → Option Text

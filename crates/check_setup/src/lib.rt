@@ -6,3 +6,6 @@
 mod setup;
 
 pub use setup::{Setup, load_setup};
+
+// What crates above reach through this one.
+pub use baseline_file::{Config, LoadError, linter_words, written};

@@ -1,13 +1,11 @@
 //! The configuration and the baseline of a request.
 ghost use Rattle.std.specs.Prelude.{◌≡◌, ◌≤◌, IfErr, IfOk, option_map};
 ghost use Rattle.check_setup.specs.SetUp.{IsRefusedSetup, IsSetUp, baseline_name};
-ghost use Rattle.file_store.specs.Contents.{KeepsContents};
+ghost use Rattle.baseline_file.specs.devices.Contents.{KeepsContents};
 
-use baseline_file::{BaselineFilter, load_filter};
-use check_config::Config;
-use check_words::Request;
-use config_file::{LoadError, load_config};
-use file_store::FileStore;
+use baseline_file::{
+    BaselineFilter, Config, FileStore, LoadError, Request, load_config, load_filter,
+};
 use std::alloc::Global;
 
 /// What is read before the files that are checked.

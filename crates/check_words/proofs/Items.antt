@@ -2,7 +2,7 @@
 use Rattle.std.proofs.Common.{◌≡◌, ◌∙◌, ◌+◌, ◌<◌, ◌≤◌, ℕ, Bool, List, [], Bor, ap, drop, get_or, length, map}
 use Rattle.std.proofs.lemmas.List.{drop_all, drop_more}
 use Rattle.std.specs.Prelude.{is_none, if◌then◌else◌}
-use Rattle.lint_report.specs.Codes.{code_named}
+use Rattle.code_choice.specs.lint_report.Codes.{code_named}
 use Rattle.check_words.specs.Steps.{first_unknown}
 
 -- what is found among the items from here on, by whether this one is found

@@ -2,8 +2,8 @@
 use Rattle.std.proofs.Common.{◌≡◌, ◌+◌, ◌<◌, ap, arith, ℕ, List, [], drop, length, Some}
 use Rattle.std.proofs.lemmas.List.{drop_all}
 use Rattle.std.specs.Prelude.{slice_get}
-use Rattle.squawk_words.specs.Words.{Text}
-use Rattle.squawk_words.proofs.Places.{drop_at}
+use Rattle.code_choice.specs.squawk_words.Words.{Text}
+use Rattle.code_choice.proofs.of_squawk_words.Places.{drop_at}
 use Rattle.check_words.specs.declared.step.Reader.{Reader}
 use Rattle.check_words.specs.Asked.{read_from, step_then}
 use Rattle.check_words.specs.Steps.{step}

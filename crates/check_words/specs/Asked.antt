@@ -2,7 +2,7 @@
 use Rattle.std.specs.Prelude.{◌&&◌, Bool, false, List, [], ◌∷◌, Option, Some, None, Result, Ok, Err, codes, drop, slice_get, if◌then◌else◌}
 use Rattle.std.specs.Str.{bytes_eq}
 use Rattle.help_words.specs.Help.{asks_for_help, asks_for_version}
-use Rattle.squawk_words.specs.Words.{Text}
+use Rattle.code_choice.specs.squawk_words.Words.{Text}
 use Rattle.check_words.specs.declared.asked.Asked.{Asked}
 use Rattle.check_words.specs.declared.asked.Asked.TheVariants.{Check, Help, Version, Refused}
 use Rattle.check_words.specs.declared.fault.WordFault.{WordFault}

@@ -1,7 +1,7 @@
 -- The names of options, and of their values.
 use Rattle.std.specs.Prelude.{Bool, List, Option, Some, None, codes, find, if◌then◌else◌}
 use Rattle.std.specs.Str.{bytes_eq}
-use Rattle.squawk_words.specs.Words.{Text}
+use Rattle.code_choice.specs.squawk_words.Words.{Text}
 use Rattle.check_words.specs.declared.names.Choice.{Choice}
 use Rattle.check_words.specs.declared.names.Choice.TheVariants as choice
 use Rattle.check_words.specs.declared.names.TheConstants.Choice as choices

@@ -1,10 +1,10 @@
 -- What one word adds to what the words before it ask for, or what is wrong with it.
 use Rattle.std.specs.Prelude.{◌++◌, Bool, true, false, List, [], ◌∷◌, Option, Some, None, Result, Ok, Err, codes, is_none, is_some, if◌then◌else◌}
 use Rattle.code_choice.specs.Choices.{code_choices_of}
-use Rattle.lint_report.specs.Codes.{code_named}
-use Rattle.squawk_run.specs.ForeignWords.{has_foreign_word}
-use Rattle.squawk_words.specs.Choices.{items_of}
-use Rattle.squawk_words.specs.Words.{Text, after_dashes, begins_with_dash, is_option, name_in, value_in}
+use Rattle.code_choice.specs.lint_report.Codes.{code_named}
+use Rattle.code_choice.specs.squawk_run.ForeignWords.{has_foreign_word}
+use Rattle.code_choice.specs.squawk_words.Choices.{items_of}
+use Rattle.code_choice.specs.squawk_words.Words.{Text, after_dashes, begins_with_dash, is_option, name_in, value_in}
 use Rattle.check_words.specs.declared.fault.WordFault.{WordFault}
 use Rattle.check_words.specs.declared.fault.WordFault.TheVariants as fault
 use Rattle.check_words.specs.declared.names.Choice.{Choice}

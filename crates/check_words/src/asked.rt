@@ -5,11 +5,9 @@ ghost use Rattle.check_words.specs.Asked.{asked_of, by_request, fault_in};
 use crate::fault::WordFault;
 use crate::read::read_request;
 use crate::request::Request;
+use code_choice::{NoMemory, Text, Words};
 use help_words::{asks_for_help, asks_for_version};
-use lint_base::Text;
-use squawk_words::Words;
 use std::alloc::Global;
-use text_pos::NoMemory;
 
 /// What the words after the program's name ask for.
 #[derive(Drop)]

@@ -1,7 +1,7 @@
 //! Why words are refused.
 
 use crate::names::{Choice, Flag};
-use lint_base::Text;
+use code_choice::Text;
 
 /// Why words are refused: what is wrong with the first one that is.
 #[derive(Debug, Drop)]

@@ -19,3 +19,11 @@ pub use fault::WordFault;
 pub use help::{HELP, VERSION};
 pub use names::{Choice, Flag};
 pub use request::{Color, FailOn, Format, Request};
+
+// What crates above reach through this one.
+pub use code_choice::{
+    CodeChoices, FileError, FileStore, MemFiles, MemSink, MemSource, Sink, Source, StdSink,
+    StdSource, Stop, SystemFiles, SystemWriter, read_code_choices, read_input, say_stop,
+    take_words, text_in, write_all,
+};
+pub use help_words::asks_for_help;

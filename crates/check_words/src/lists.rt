@@ -1,14 +1,11 @@
 //! Names in a list.
 ghost use Rattle.std.specs.Prelude.{◌≡◌, IfOk, is_none, map};
-ghost use Rattle.lint_report.specs.Codes.{code_named};
-ghost use Rattle.squawk_words.specs.Choices.{items_of};
+ghost use Rattle.code_choice.specs.lint_report.Codes.{code_named};
+ghost use Rattle.code_choice.specs.squawk_words.Choices.{items_of};
 ghost use Rattle.check_words.specs.Steps as spec;
 
-use lint_base::Text;
-use lint_report::code_named;
-use squawk_words::items_of;
+use code_choice::{NoMemory, Text, code_named, items_of};
 use std::alloc::Global;
-use text_pos::NoMemory;
 
 // Whether a text names nothing.
 fn names_nothing(text: &str) -> bool

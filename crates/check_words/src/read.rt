@@ -5,11 +5,8 @@ ghost use Rattle.check_words.specs.Asked.{are_apart, complete, ended, request_of
 use crate::fault::WordFault;
 use crate::request::{Color, FailOn, Format, Request};
 use crate::step::{Next, Reader, step};
-use lint_base::Text;
-use squawk_run::has_foreign_word;
-use squawk_words::Words;
+use code_choice::{NoMemory, Text, Words, has_foreign_word};
 use std::alloc::Global;
-use text_pos::NoMemory;
 
 // What no word asks for.
 fn start(alloc: Global) -> Reader

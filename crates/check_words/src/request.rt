@@ -1,7 +1,6 @@
 //! What the words of `check` ask for.
 
-use lint_base::Text;
-use squawk_words::Words;
+use code_choice::{Text, Words};
 
 /// How findings are written.
 #[derive(Clone, Copy, Debug, PartialEq, Eq)]

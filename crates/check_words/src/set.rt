@@ -7,12 +7,8 @@ use crate::fault::WordFault;
 use crate::lists::first_unknown;
 use crate::names::{Choice, Flag, color_named, fail_on_named, format_named};
 use crate::request::Request;
-use code_choice::read_code_choices;
-use lint_base::Text;
-use squawk_run::has_foreign_word;
-use squawk_words::Words;
+use code_choice::{NoMemory, Text, Words, has_foreign_word, read_code_choices};
 use std::alloc::{AllocError, Global};
-use text_pos::NoMemory;
 
 /// A copy of a text. The error comes when memory runs out.
 pub(crate) fn copied(alloc: Global, text: &str) -> Result<Text, AllocError>

@@ -6,9 +6,8 @@ use crate::fault::WordFault;
 use crate::names::{Choice, Flag, choice_named, flag_named};
 use crate::request::Request;
 use crate::set::{copied, set, set_flag};
-use squawk_words::{after_dashes, begins_with_dash, is_option, name_in, value_in};
+use code_choice::{NoMemory, after_dashes, begins_with_dash, is_option, name_in, value_in};
 use std::alloc::Global;
-use text_pos::NoMemory;
 
 /// What the next word is to be.
 #[derive(Clone, Copy, Debug, PartialEq, Eq)]

@@ -1,7 +1,7 @@
 -- Which findings are in a text.
 use Rattle.std.specs.Prelude.{ℕ, ◌<◌, ◌^◌, All, IfSome, List, length}
 use Rattle.std.specs.Str.{IsCharBoundary, IsUtf8}
-use Rattle.lint_base.specs.declared.edit.Edit.{Edit}
+use Rattle.lint_report.specs.lint_base.declared.edit.Edit.{Edit}
 use Rattle.lint_report.specs.declared.report.Report.{Report}
 use Rattle.source_file.specs.File.{IsRangeIn}
 use Rattle.source_file.specs.Refusals.{place_of}

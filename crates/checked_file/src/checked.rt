@@ -4,9 +4,9 @@ ghost use Rattle.checked_file.specs.Files.{readable_of, worst};
 
 use crate::answer::Answer;
 use crate::status::Status;
-use lint_base::Text;
+use lint_report::Text;
 use simdutf8::compat::from_utf8;
-use text_pos::TextSize;
+use source_file::TextSize;
 
 /// The lines of a file that are for psql and no SQL: they were read as blanks.
 #[derive(Clone, Copy, Debug, PartialEq, Eq)]

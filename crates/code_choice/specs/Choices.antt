@@ -2,20 +2,20 @@
 use Rattle.std.specs.Prelude.{◌||◌, Bool, true, false, List, [], ◌∷◌, Option, Some, None, codes, flat_map, if◌then◌else◌, is_some, not, option_and_then, option_map}
 use Rattle.std.specs.List.{list_any}
 use Rattle.std.specs.Str.{bytes_eq}
-use Rattle.hazard_base.specs.declared.hazard.Hazard.{Hazard}
-use Rattle.hazard_base.specs.declared.hazard.Hazard.TheVariants as hazard
-use Rattle.hazard_base.specs.declared.hazard_set.HazardSet.{HazardSet}
-use Rattle.hazard_base.specs.Hazards.{same_hazard}
-use Rattle.lint_base.specs.declared.rule.Rule.{Rule}
-use Rattle.lint_base.specs.RuleChoice.{is_chosen, is_named, rules_that}
-use Rattle.lint_base.specs.RuleSets.{Rules}
+use Rattle.lint_report.specs.hazard_base.declared.hazard.Hazard.{Hazard}
+use Rattle.lint_report.specs.hazard_base.declared.hazard.Hazard.TheVariants as hazard
+use Rattle.lint_report.specs.hazard_base.declared.hazard_set.HazardSet.{HazardSet}
+use Rattle.lint_report.specs.hazard_base.Hazards.{same_hazard}
+use Rattle.lint_report.specs.lint_base.declared.rule.Rule.{Rule}
+use Rattle.lint_report.specs.lint_base.RuleChoice.{is_chosen, is_named, rules_that}
+use Rattle.lint_report.specs.lint_base.RuleSets.{Rules}
 use Rattle.lint_report.specs.declared.code.Code.{Code}
 use Rattle.lint_report.specs.declared.code.Code.TheVariants as code
 use Rattle.lint_report.specs.Codes.{code_named}
 use Rattle.squawk_run.specs.ForeignWords.{has_foreign_word}
-use Rattle.squawk_words.specs.declared.choices.Choices.{Choices}
-use Rattle.squawk_words.specs.Choices.{Said, choices_by, each, items_of, read_or, said_of}
-use Rattle.squawk_words.specs.Words.{Text}
+use Rattle.squawk_run.specs.squawk_words.declared.choices.Choices.{Choices}
+use Rattle.squawk_run.specs.squawk_words.Choices.{Said, choices_by, each, items_of, read_or, said_of}
+use Rattle.squawk_run.specs.squawk_words.Words.{Text}
 use Rattle.code_choice.specs.declared.choices.CodeChoices.{CodeChoices}
 
 -- ---- lists

@@ -1,12 +1,11 @@
 //! What lists choose.
 ghost use Rattle.std.specs.Prelude.{◌≡◌, ◌&&◌, not, option_map};
 ghost use Rattle.std.specs.List.{list_any};
-ghost use Rattle.hazard_base.specs.Hazards.{same_hazard};
+ghost use Rattle.lint_report.specs.hazard_base.Hazards.{same_hazard};
 ghost use Rattle.code_choice.specs.Choices as spec;
 
-use hazard_base::{Hazard, HazardSet};
-use lint_base::{Rule, RuleSet};
-use squawk_words::Choices;
+use lint_report::{Hazard, HazardSet, Rule, RuleSet};
+use squawk_run::Choices;
 
 /// What words choose.
 #[derive(Debug, Drop)]

@@ -1,14 +1,11 @@
 //! Lists of names.
 ghost use Rattle.std.specs.Prelude.{◌≡◌, ◌++◌, [], IfOk, OnOk, option_map};
-ghost use Rattle.squawk_words.specs.Choices.{read_or};
+ghost use Rattle.squawk_run.specs.squawk_words.Choices.{read_or};
 ghost use Rattle.code_choice.specs.Choices as spec;
 
-use hazard_base::Hazard;
-use lint_base::Rule;
-use lint_report::{Code, code_named};
-use squawk_words::items_of;
+use lint_report::{Code, Hazard, NoMemory, Rule, code_named};
+use squawk_run::items_of;
 use std::alloc::{AllocError, Global};
-use text_pos::NoMemory;
 
 /// What a list names, between its commas, or `None` where an item names neither a rule nor a hazard. The error comes when memory runs out.
 pub fn code_list(alloc: Global, list: &str) -> Result<Option<Vec<Code>>, NoMemory>

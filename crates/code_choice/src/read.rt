@@ -1,15 +1,13 @@
 //! What words choose.
 ghost use Rattle.std.specs.Prelude.{◌≡◌, ◌++◌, IfOk, OnOk, option_map};
-ghost use Rattle.squawk_words.specs.Command.{said_by};
+ghost use Rattle.squawk_run.specs.squawk_words.Command.{said_by};
 ghost use Rattle.code_choice.specs.Choices as spec;
 
 use crate::choices::{CodeChoices, hazards_by, rules_by};
 use crate::lists::{code_list, codes_or_none, hazards_among, rules_among};
-use lint_report::Code;
-use squawk_run::has_foreign_word;
-use squawk_words::{Choices, Given, Words, choices_by, read_given};
+use lint_report::{Code, NoMemory};
+use squawk_run::{Choices, Given, Words, choices_by, has_foreign_word, read_given};
 use std::alloc::Global;
-use text_pos::NoMemory;
 
 // The choices with the rules and hazards of lists.
 fn with_lists(

@@ -2,8 +2,8 @@
 use Rattle.std.proofs.Common.{◌≡◌, ◌<◌, inl, inr, ap, arith, refl, subst, sym, ℕ, zero, suc, Bool, true, false, ◌++◌, Option, Some, None}
 use Rattle.std.specs.Prelude.{codes}
 use Rattle.config_file.specs.Found.{IsFound, config_in, top_in}
-use Rattle.file_store.specs.Contents.{Content, IsThere}
-use Rattle.squawk_words.specs.Words.{Text}
+use Rattle.check_config.specs.devices.Contents.{Content, IsThere}
+use Rattle.check_config.specs.squawk_words.Words.{Text}
 
 there_at : (content : Text → Content) (name other : Text) (there value : Bool) → name ≡ other → there ≡ value → IsThere (content name) there → IsThere (content other) value
 there_at content name other there value same is h = subst (λ (x : Text). IsThere (content x) value) same (subst (λ (b : Bool). IsThere (content name) b) is h)

@@ -1,7 +1,7 @@
 -- Which file is the configuration.
 use Rattle.std.specs.Prelude.{◌≡◌, ◌⊎◌, ℕ, zero, suc, true, false, [], ◌++◌, Option, Some, None, codes}
-use Rattle.file_store.specs.Contents.{Content, IsThere}
-use Rattle.squawk_words.specs.Words.{Text}
+use Rattle.check_config.specs.devices.Contents.{Content, IsThere}
+use Rattle.check_config.specs.squawk_words.Words.{Text}
 
 -- in how many folders it is looked for
 abbrev pub most_folders : ℕ

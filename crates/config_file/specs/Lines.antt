@@ -3,10 +3,10 @@ use Rattle.std.specs.Prelude.{◌≡◌, ◌⊎◌, ℕ, List, ◌++◌, codes, 
 use Rattle.std.specs.Str.{IsCharBoundary}
 use Rattle.check_config.specs.declared.fault.ConfigFault.{ConfigFault}
 use Rattle.check_config.specs.Faults.{fault_place, message_of}
-use Rattle.source_file.specs.declared.place.Place.{Place}
-use Rattle.source_file.specs.File.{location}
-use Rattle.source_file.specs.Escaped.{escaped, escaped_name}
-use Rattle.squawk_words.specs.Words.{Text}
+use Rattle.report_lines.specs.source_file.declared.place.Place.{Place}
+use Rattle.report_lines.specs.source_file.File.{location}
+use Rattle.report_lines.specs.source_file.Escaped.{escaped, escaped_name}
+use Rattle.check_config.specs.squawk_words.Words.{Text}
 
 -- the beginning of a line about a file: `error: .squawk.toml:`
 abbrev pub opening : Text → List ℕ

@@ -10,11 +10,11 @@ use Rattle.config_file.specs.declared.error.LoadError.{LoadError}
 use Rattle.config_file.specs.declared.error.LoadError.TheVariants.{Refused, NoMemory}
 use Rattle.config_file.specs.Found.{IsFound, IsNamed, most_folders}
 use Rattle.config_file.specs.Lines.{IsFaultLine, opening}
-use Rattle.file_store.specs.Contents.{Content, IsBytes}
-use Rattle.file_store.specs.declared.store.FileError.{FileError}
-use Rattle.file_store.specs.Refused.{RefusedFits}
-use Rattle.squawk_words.specs.Words.{Text}
-use Rattle.text_pos.specs.declared.memory.NoMemory.{NoMemory as MemoryError}
+use Rattle.check_config.specs.devices.Contents.{Content, IsBytes}
+use Rattle.check_config.specs.devices.declared.store.FileError.{FileError}
+use Rattle.check_config.specs.devices.Refused.{RefusedFits}
+use Rattle.check_config.specs.squawk_words.Words.{Text}
+use Rattle.report_lines.specs.text_pos.declared.memory.NoMemory.{NoMemory as MemoryError}
 
 -- ---- texts
 

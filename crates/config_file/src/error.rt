@@ -1,7 +1,7 @@
 //! Why a run has no configuration.
 ghost use Rattle.config_file.specs.Loaded.{IsRefusal};
 
-use text_pos::NoMemory;
+use report_lines::NoMemory;
 
 /// Why a run has no configuration.
 #[derive(Debug, Drop)]

@@ -1,10 +1,10 @@
 //! Which file is the configuration.
 ghost use Rattle.std.specs.Prelude.{◌≡◌, IfOk, option_map, string_bytes};
 ghost use Rattle.config_file.specs.Found as spec;
-ghost use Rattle.file_store.specs.Contents.{IsThere};
+ghost use Rattle.check_config.specs.devices.Contents.{IsThere};
 
-use file_store::FileStore;
-use lint_base::Text;
+use check_config::FileStore;
+use report_lines::Text;
 use std::alloc::{AllocError, Global};
 
 // In how many folders a configuration is looked for.

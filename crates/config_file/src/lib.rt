@@ -11,3 +11,9 @@ mod load;
 pub use error::{LoadError, refused};
 pub use line::{file_line, line_at};
 pub use load::{folder_config, load_config};
+
+// What crates above reach through this one.
+pub use check_config::{
+    Choices, Config, FileStore, FileWriter, Sink, Source, Stop, Words, linter_words, write_all,
+};
+pub use report_lines::{NoMemory, Refusal, TextSize};

@@ -3,10 +3,10 @@ ghost use Rattle.std.specs.Prelude.{◌≡◌, ◌++◌, ◌<◌, ◌^◌, IfOk,
 ghost use Rattle.config_file.specs.Lines.{IsFaultLine, IsPlaceOf, fault_line, opening};
 
 use check_config::{ConfigFault, fault_place};
-use report_lines::{push, push_number};
-use source_file::{Place, SourceFile, push_escaped, push_escaped_name};
+use report_lines::{
+    NoMemory, Place, SourceFile, TextSize, push, push_escaped, push_escaped_name, push_number,
+};
 use std::alloc::Global;
-use text_pos::{NoMemory, TextSize};
 
 // The beginning of a line about a file.
 fn opened(alloc: Global, name: &str) -> Result<Vec<u8>, NoMemory>

@@ -1,15 +1,13 @@
 //! From files to a configuration.
 ghost use Rattle.std.specs.Prelude.{◌≡◌, ◌<◌, ◌≤◌, ◌^◌, IfErr, IfOk, length, string_bytes};
-ghost use Rattle.file_store.specs.Contents.{KeepsContents};
+ghost use Rattle.check_config.specs.devices.Contents.{KeepsContents};
 ghost use Rattle.config_file.specs.Loaded.{AreRefused, AreTaken, IsLoaded, IsLoadedIn, IsRefusedFile, IsRefusedFolder, IsRefusedLoad, IsRefusedText, IsTaken, IsTextTaken};
 
 use crate::error::{LoadError, refused};
 use crate::find::{config_name, found};
 use crate::line::{file_line, text_line};
-use check_config::{Config, ConfigError, ConfigFault, read_config};
-use file_store::{FileError, FileStore};
-use lint_base::Text;
-use squawk_run::text_in;
+use check_config::{Config, ConfigError, ConfigFault, FileError, FileStore, read_config, text_in};
+use report_lines::Text;
 use std::alloc::Global;
 
 // The configuration of a text.

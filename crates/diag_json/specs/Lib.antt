@@ -8,3 +8,6 @@ pub mod Answers
 pub mod Putting
 pub mod PlaceValue
 pub mod MessageValue
+pub use Rattle.lint_base.specs as lint_base
+pub use Rattle.lint_base.specs.text_pos
+pub use Rattle.text_utf16.specs as text_utf16

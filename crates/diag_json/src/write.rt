@@ -7,10 +7,9 @@ ghost use Rattle.diag_json.specs.Json.{diagnostic_json, edit_json, fix_json, jso
 ghost use Rattle.diag_json.specs.Putting.{common_members, put_if};
 
 use crate::diagnostic::{DiagEdit, DiagFix, Diagnostic};
-use lint_base::Text;
+use lint_base::{NoMemory, Text};
 use serde_json::{Map, Value, json};
 use std::alloc::{AllocError, Global};
-use text_pos::NoMemory;
 use text_utf16::Pos;
 
 /// The number by which editors know a warning.

@@ -3,11 +3,8 @@ ghost use Rattle.std.specs.Prelude.{◌≡◌, ◌<◌, ◌^◌, All, IfSome, le
 ghost use Rattle.diag_report.specs.Diagnostics.{diagnostic_of, diagnostics_of, edit_of, fix_of};
 ghost use Rattle.diag_report.specs.Places.{EditIn, EditsIn, ReportIn};
 
-use diag_json::{DiagEdit, DiagFix, Diagnostic};
-use lint_base::{Edit, Fix, Violation};
+use diag_json::{DiagEdit, DiagFix, Diagnostic, Edit, Fix, NoMemory, PosIndex, Violation};
 use std::alloc::Global;
-use text_pos::NoMemory;
-use text_utf16::PosIndex;
 
 fn edit_of(index: &PosIndex<'_>, edit: Edit) -> DiagEdit
     requires { EditIn index.now edit }

@@ -1,9 +1,9 @@
 -- From what is known of the line of a refusal to what it says of the words.
 use Rattle.std.proofs.Common.{◌≡◌, ◌∙◌, ◌<◌, ℕ, Bool, List, Option, Some, None, Result, Ok, Err, IfErr, false, ap, cond, drop, length, option_map, slice_get, subst, sym}
-use Rattle.help_words.specs.Help.{asks_for_help}
+use Rattle.refused_word.specs.help_words.Help.{asks_for_help}
 use Rattle.rule_pages.specs.Pages.{code_page_of}
-use Rattle.squawk_run.specs.declared.stop.Stop.TheVariants.{BadArguments, NotUtf8, TooLong, ReadFault, WriteFault, NoMemory}
-use Rattle.squawk_words.specs.Words.{Text}
+use Rattle.refused_word.specs.squawk_run.declared.stop.Stop.TheVariants.{BadArguments, NotUtf8, TooLong, ReadFault, WriteFault, NoMemory}
+use Rattle.refused_word.specs.squawk_words.Words.{Text}
 use Rattle.explain_command.proofs.Words.{name_refused, names_refused}
 use Rattle.explain_command.specs.declared.failure.Failure.{Failure}
 use Rattle.explain_command.specs.declared.failure.Failure.TheVariants.{Stop, Refused}

@@ -1,9 +1,9 @@
 -- What words ask for, by how many they are.
 use Rattle.std.proofs.Common.{◌≡◌, ◌∙◌, ◌<◌, ◌+◌, ℕ, Bool, List, [], ◌∷◌, Some, None, true, false, ap, cond, find, length, drop, slice_get, refl, arith}
 use Rattle.std.proofs.lemmas.List.{drop_all}
-use Rattle.squawk_words.proofs.Places.{drop_at}
+use Rattle.refused_word.proofs.of_squawk_words.Places.{drop_at}
 use Rattle.rule_pages.specs.declared.list.TheConstants.{RULE_LIST}
-use Rattle.squawk_words.specs.Words.{Text, begins_with_dash}
+use Rattle.refused_word.specs.squawk_words.Words.{Text, begins_with_dash}
 use Rattle.explain_command.specs.Lines.{IsUnknownLine, one_name_line}
 use Rattle.explain_command.specs.Words.{AreRefused, first_option, folded, page_named, text_of_names}
 

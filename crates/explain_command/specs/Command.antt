@@ -1,10 +1,10 @@
 -- What a run does that the words ask for.
 use Rattle.std.specs.Prelude.{◌≡◌, ℕ, List, Option, Some}
 use Rattle.std.specs.Io.KnownBytes.{Appends, Keeps}
-use Rattle.squawk_run.specs.declared.stop.Stop.TheVariants.{BadArguments, NotUtf8, TooLong, ReadFault, WriteFault, NoMemory}
-use Rattle.squawk_stream.specs.Faults.{Rose}
-use Rattle.squawk_stream.specs.Parts.{AppendsPart}
-use Rattle.squawk_words.specs.Words.{Text}
+use Rattle.refused_word.specs.squawk_run.declared.stop.Stop.TheVariants.{BadArguments, NotUtf8, TooLong, ReadFault, WriteFault, NoMemory}
+use Rattle.refused_word.specs.devices.Faults.{Rose}
+use Rattle.refused_word.specs.devices.Parts.{AppendsPart}
+use Rattle.refused_word.specs.squawk_words.Words.{Text}
 use Rattle.explain_command.specs.declared.failure.Failure.{Failure}
 use Rattle.explain_command.specs.declared.failure.Failure.TheVariants.{Stop, Refused}
 use Rattle.explain_command.specs.Words.{IsRefusedFor, text_of}

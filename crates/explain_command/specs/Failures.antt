@@ -2,9 +2,9 @@
 use Rattle.std.specs.Prelude.{◌≡◌, ℕ, List, ⊤}
 use Rattle.explain_command.specs.declared.failure.Failure.{Failure}
 use Rattle.explain_command.specs.declared.failure.Failure.TheVariants.{Stop, Refused}
-use Rattle.squawk_run.specs.declared.stop.Stop.{Stop as AnyStop}
-use Rattle.squawk_run.specs.declared.stop.Stop.TheVariants.{BadArguments, NotUtf8, TooLong, ReadFault, WriteFault, NoMemory}
-use Rattle.squawk_run.specs.Stops as stops
+use Rattle.refused_word.specs.squawk_run.declared.stop.Stop.{Stop as AnyStop}
+use Rattle.refused_word.specs.squawk_run.declared.stop.Stop.TheVariants.{BadArguments, NotUtf8, TooLong, ReadFault, WriteFault, NoMemory}
+use Rattle.refused_word.specs.squawk_run.Stops as stops
 
 abbrev pub code_of : Failure → ℕ
 code_of (Stop stop) = stops.code_of stop

@@ -1,12 +1,12 @@
 -- What is said of words that are refused.
 use Rattle.std.specs.Prelude.{◌≡◌, ℕ, List, ◌++◌, codes}
-use Rattle.check_words.specs.declared.fault.WordFault.TheVariants.{UnknownWord}
-use Rattle.lint_report.specs.declared.code.Code.{Code}
-use Rattle.lint_report.specs.Codes.{name_of}
-use Rattle.nearest_code.specs.Nearest.{IsNearest}
+use Rattle.refused_word.specs.check_words.declared.fault.WordFault.TheVariants.{UnknownWord}
+use Rattle.refused_word.specs.lint_report.declared.code.Code.{Code}
+use Rattle.refused_word.specs.lint_report.Codes.{name_of}
+use Rattle.refused_word.specs.nearest_code.Nearest.{IsNearest}
 use Rattle.refused_word.specs.Messages.{line_of}
-use Rattle.source_file.specs.Escaped.{escaped}
-use Rattle.squawk_words.specs.Words.{Text}
+use Rattle.refused_word.specs.source_file.Escaped.{escaped}
+use Rattle.refused_word.specs.squawk_words.Words.{Text}
 
 -- `error: explain: unknown rule: ban-drop-tabel; the nearest name is ban-drop-table`
 abbrev pub unknown_line : Text → Code → List ℕ

@@ -2,14 +2,14 @@
 use Rattle.std.specs.Prelude.{◌≡◌, ◌==◌, ℕ, List, [], ◌∷◌, Option, Some, None, chars, codes, drop, encode_utf8_all, find, map, option_map, if◌then◌else◌}
 use Rattle.std.specs.Char.{to_ascii_lowercase}
 use Rattle.std.specs.Str.{bytes_eq}
-use Rattle.help_words.specs.Help.{asks_for_help}
-use Rattle.lint_base.specs.declared.rule.Rule.TheVariants as rule
-use Rattle.lint_report.specs.declared.code.Code.{Code}
-use Rattle.lint_report.specs.declared.code.Code.TheVariants as code
-use Rattle.lint_report.specs.Codes.{code_named}
+use Rattle.refused_word.specs.help_words.Help.{asks_for_help}
+use Rattle.refused_word.specs.lint_base.declared.rule.Rule.TheVariants as rule
+use Rattle.refused_word.specs.lint_report.declared.code.Code.{Code}
+use Rattle.refused_word.specs.lint_report.declared.code.Code.TheVariants as code
+use Rattle.refused_word.specs.lint_report.Codes.{code_named}
 use Rattle.rule_pages.specs.declared.list.TheConstants.{RULE_LIST}
 use Rattle.rule_pages.specs.Pages.{code_page_of}
-use Rattle.squawk_words.specs.Words.{Text, begins_with_dash}
+use Rattle.refused_word.specs.squawk_words.Words.{Text, begins_with_dash}
 use Rattle.explain_command.specs.declared.help.TheConstants.{HELP}
 use Rattle.explain_command.specs.Lines.{IsUnknownLine, one_name_line, option_line}
 

@@ -7,12 +7,8 @@ ghost use Rattle.explain_command.specs.Words.{AreRefused, IsRefusedFor, explaine
 use crate::failure::Failure;
 use crate::help::HELP;
 use crate::refusal::{no_name, several, unknown};
-use help_words::asks_for_help;
-use lint_base::Rule;
-use lint_report::{Code, code_named};
+use refused_word::{Code, Rule, Stop, Words, asks_for_help, begins_with_dash, code_named};
 use rule_pages::{RULE_LIST, code_page};
-use squawk_run::Stop;
-use squawk_words::{Words, begins_with_dash};
 use std::alloc::{AllocError, Global};
 
 // A character as the names have it.

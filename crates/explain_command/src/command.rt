@@ -1,17 +1,15 @@
 //! The run of the command, over any sinks.
 ghost use Rattle.std.specs.Prelude.{IfErr, OnOk};
 ghost use Rattle.std.specs.Io.KnownBytes.{Appends, Keeps};
-ghost use Rattle.squawk_run.specs.declared.stop.Stop.TheVariants as stop;
-ghost use Rattle.squawk_stream.specs.Faults.{HasCause, Rose};
-ghost use Rattle.squawk_stream.specs.Parts.{AppendsPart};
+ghost use Rattle.refused_word.specs.squawk_run.declared.stop.Stop.TheVariants as stop;
+ghost use Rattle.refused_word.specs.devices.Faults.{HasCause, Rose};
+ghost use Rattle.refused_word.specs.devices.Parts.{AppendsPart};
 ghost use Rattle.explain_command.specs.Command.{HasWritten, StoppedFor};
 ghost use Rattle.explain_command.specs.Failures.{IsStop, line_of};
 
 use crate::choice::text_of;
 use crate::failure::Failure;
-use squawk_run::Stop;
-use squawk_stream::{Sink, write_all};
-use squawk_words::Words;
+use refused_word::{Sink, Stop, Words, write_all};
 use std::alloc::Global;
 
 // Writes a text.

@@ -4,15 +4,9 @@ ghost use Rattle.explain_command.specs.Failures.{IsRefusal};
 ghost use Rattle.explain_command.specs.Lines.{IsUnknownLine, one_name_line, option_line, unknown_line};
 
 use crate::failure::Failure;
-use check_words::WordFault;
-use lint_base::Text;
-use lint_report::Code;
-use nearest_code::nearest_code;
-use refused_word::fault_line;
-use source_file::push_escaped;
-use squawk_run::Stop;
+use refused_word::nearest_code::nearest_code;
+use refused_word::{Code, NoMemory, Stop, Text, WordFault, fault_line, push_escaped};
 use std::alloc::Global;
-use text_pos::NoMemory;
 
 // The line about a name, with the name that is nearest.
 fn line_with(alloc: Global, name: &str, nearest: Code) -> Result<Vec<u8>, NoMemory>

@@ -5,19 +5,19 @@ use Rattle.std.proofs.lemmas.List.Elements.{All-weaker}
 use Rattle.std.proofs.lemmas.Str.{IsCharBoundary-end, utf8_valid_len-IsUtf8, utf8_valid_len_le}
 use Rattle.std.specs.Str.{IsCharBoundary, IsUtf8}
 use Rattle.std.specs.Str.Lossy.{utf8_valid_len}
-use Rattle.checked_file.specs.declared.answer.Answer.{Answer}
-use Rattle.checked_file.specs.Files.{readable_of}
-use Rattle.checked_file.specs.Sound.{AreEditsIn, IsIn, IsReportIn}
+use Rattle.check_run.specs.checked_file.declared.answer.Answer.{Answer}
+use Rattle.check_run.specs.checked_file.Files.{readable_of}
+use Rattle.check_run.specs.checked_file.Sound.{AreEditsIn, IsIn, IsReportIn}
 use Rattle.law_fault_places.proofs.Places.{open_between, syntax_between}
-use Rattle.lint_ignore.specs.Places.{IsPlace}
-use Rattle.lint_pass.specs.Laws.{AreEdits}
-use Rattle.lint_report.specs.declared.report.Report.{Report}
-use Rattle.lint_report.specs.declared.report.ReportFix.{ReportFix}
-use Rattle.source_file.specs.File.{IsRangeIn}
-use Rattle.sql_token.specs.Token.{OpenAt, Text}
-use Rattle.sql_tree.specs.Statement.{IsSyntaxAt}
-use Rattle.text_pos.specs.Range.{Range}
-use Rattle.text_reports.specs.Placed.{IsReportPlaced}
+use Rattle.law_reports.specs.lint_ignore.Places.{IsPlace}
+use Rattle.law_reports.specs.lint_pass.Laws.{AreEdits}
+use Rattle.law_reports.specs.lint_report.declared.report.Report.{Report}
+use Rattle.law_reports.specs.lint_report.declared.report.ReportFix.{ReportFix}
+use Rattle.check_run.specs.source_file.File.{IsRangeIn}
+use Rattle.law_reports.specs.sql_token.Token.{OpenAt, Text}
+use Rattle.law_reports.specs.sql_tree.Statement.{IsSyntaxAt}
+use Rattle.law_reports.specs.text_pos.Range.{Range}
+use Rattle.law_reports.specs.text_reports.Placed.{IsReportPlaced}
 
 place_in : (t : Text) (r : Range) → IsPlace t r → IsRangeIn t r
 place_in t r place = record { ordered = place.ordered; start = place.start; end = place.end }

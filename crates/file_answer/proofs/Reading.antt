@@ -1,13 +1,13 @@
 -- What is read of the bytes of a file.
 use Rattle.std.proofs.Common.{◌≡◌, ◌∙◌, ◌<◌, ◌^◌, ℕ, ap, List, Option, Some, None, inl, inr, length, refl, subst, false, sym}
 use Rattle.std.specs.Str.{IsUtf8}
-use Rattle.checked_file.specs.declared.checked.Passed.{Passed}
+use Rattle.check_run.specs.checked_file.declared.checked.Passed.{Passed}
 use Rattle.psql_text.proofs.Blanks.{all_stays}
 use Rattle.psql_text.specs.declared.blank.Blanked.{Blanked}
 use Rattle.psql_text.specs.declared.part.Part.{Part}
 use Rattle.psql_text.specs.Psql.{Passes, blank_all}
 use Rattle.psql_text.specs.Told.{IsAnswer}
-use Rattle.sql_token.specs.Token.{Text}
+use Rattle.law_reports.specs.sql_token.Token.{Text}
 use Rattle.file_answer.specs.declared.read.Read.{Read}
 use Rattle.file_answer.specs.Reading.{IsBlankedBy, IsPassed, IsReadAs, IsReadBy, IsTextIn}
 

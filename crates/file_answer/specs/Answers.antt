@@ -2,16 +2,16 @@
 use Rattle.std.specs.Prelude.{◌≡◌, Bool, List}
 use Rattle.std.specs.Str.{IsUtf8}
 use Rattle.std.specs.Str.Lossy.{utf8_valid_len}
-use Rattle.checked_file.specs.declared.answer.Answer.{Answer}
-use Rattle.checked_file.specs.declared.answer.Answer.TheVariants.{Reports, Refused}
-use Rattle.checked_file.specs.declared.checked.Linted.{Linted}
-use Rattle.lint_report.specs.declared.report.Report.{Report}
-use Rattle.source_file.specs.declared.refusal.Refusal.TheVariants as refusal
-use Rattle.sql_token.specs.Token.{Text, OpenAt}
-use Rattle.sql_read.specs.Cause.{IsTreeOf}
-use Rattle.sql_tree.specs.Statement.{IsSyntaxAt, Tree}
-use Rattle.text_reports.specs.declared.find.TextLinter.{TextLinter}
-use Rattle.text_reports.specs.Reports.{all_reports}
+use Rattle.check_run.specs.checked_file.declared.answer.Answer.{Answer}
+use Rattle.check_run.specs.checked_file.declared.answer.Answer.TheVariants.{Reports, Refused}
+use Rattle.check_run.specs.checked_file.declared.checked.Linted.{Linted}
+use Rattle.law_reports.specs.lint_report.declared.report.Report.{Report}
+use Rattle.check_run.specs.source_file.declared.refusal.Refusal.TheVariants as refusal
+use Rattle.law_reports.specs.sql_token.Token.{Text, OpenAt}
+use Rattle.law_reports.specs.sql_read.Cause.{IsTreeOf}
+use Rattle.law_reports.specs.sql_tree.Statement.{IsSyntaxAt, Tree}
+use Rattle.law_reports.specs.text_reports.declared.find.TextLinter.{TextLinter}
+use Rattle.law_reports.specs.text_reports.Reports.{all_reports}
 use Rattle.file_answer.specs.Reading.{IsReadBy}
 
 -- all that is reported of a text, which has one tree

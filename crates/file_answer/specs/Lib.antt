@@ -1,2 +1,4 @@
 pub mod Reading
 pub mod Answers
+pub use Rattle.check_run.specs as check_run
+pub use Rattle.law_reports.specs as law_reports

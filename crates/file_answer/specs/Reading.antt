@@ -2,12 +2,12 @@
 use Rattle.std.specs.Prelude.{◌≡◌, ◌⊎◌, ℕ, Bool, true, false, List, [], Option, Some, None}
 use Rattle.std.specs.String.{string_bytes}
 use Rattle.std.specs.Str.{IsUtf8}
-use Rattle.checked_file.specs.declared.checked.Passed.{Passed}
+use Rattle.check_run.specs.checked_file.declared.checked.Passed.{Passed}
 use Rattle.psql_text.specs.declared.blank.Blanked.{Blanked}
 use Rattle.psql_text.specs.declared.part.Part.{Part}
 use Rattle.psql_text.specs.Psql.{Passes, blank_all}
 use Rattle.psql_text.specs.Told.{IsAnswer, StartsAt, commands_in, data_in}
-use Rattle.sql_token.specs.Token.{Text}
+use Rattle.law_reports.specs.sql_token.Token.{Text}
 use Rattle.file_answer.specs.declared.read.Read.{Read}
 
 -- ---- what is passed over

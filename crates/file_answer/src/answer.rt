@@ -1,19 +1,16 @@
 //! What comes of the bytes of a file.
 ghost use Rattle.std.specs.Prelude.{◌≡◌, ◌<◌, ◌^◌, IfOk, length};
-ghost use Rattle.checked_file.specs.Files.{readable_of};
-ghost use Rattle.checked_file.specs.Sound.{IsIn, IsSoundAnswer};
-ghost use Rattle.sql_read.specs.Cause.{IsCause};
-ghost use Rattle.text_reports.specs.declared.find.TextLinter.{TextLinter};
+ghost use Rattle.check_run.specs.checked_file.Files.{readable_of};
+ghost use Rattle.check_run.specs.checked_file.Sound.{IsIn, IsSoundAnswer};
+ghost use Rattle.law_reports.specs.sql_read.Cause.{IsCause};
+ghost use Rattle.law_reports.specs.text_reports.declared.find.TextLinter.{TextLinter};
 ghost use Rattle.file_answer.specs.Answers.{IsAnswerOf, IsLintedAs};
 
 use crate::read::read_bytes;
-use checked_file::{Answer, Linted};
+use check_run::{Answer, Linted, Refusal};
+use law_reports::{LintError, NoMemory, TextLinter, TextSize, find_reports, parse};
 use simdutf8::compat::from_utf8;
-use source_file::Refusal;
-use sql_read::{LintError, parse};
 use std::alloc::Global;
-use text_pos::{NoMemory, TextSize};
-use text_reports::{TextLinter, find_reports};
 
 // What comes of a text that is refused.
 #[tactic(auto, using(crate::proofs::Placing::open_in, crate::proofs::Placing::syntax_in))]

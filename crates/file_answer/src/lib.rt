@@ -9,3 +9,7 @@ mod read;
 
 pub use answer::lint_bytes;
 pub use linter::FileLinter;
+
+// What crates above reach through this one.
+pub use check_run::{Printer, Progress, check};
+pub use law_reports::{Linter, TextLinter, reports_tell};

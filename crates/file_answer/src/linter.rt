@@ -3,11 +3,9 @@ ghost use Rattle.std.specs.Prelude.{◌≡◌};
 ghost use Rattle.file_answer.specs.Answers.{IsLintedAs};
 
 use crate::answer::lint_bytes;
-use check_run::Lint;
-use checked_file::Linted;
+use check_run::{Lint, Linted};
+use law_reports::{NoMemory, TextLinter};
 use std::alloc::Global;
-use text_pos::NoMemory;
-use text_reports::TextLinter;
 
 /// A linter that lints files.
 #[derive(Drop)]

@@ -3,11 +3,11 @@ ghost use Rattle.std.specs.Prelude.{◌≡◌, ◌<◌, ◌^◌, IfOk, IfSome, N
 ghost use Rattle.file_answer.specs.Reading as spec;
 ghost use Rattle.file_answer.specs.Reading.{IsReadAs};
 
-use checked_file::Passed;
+use check_run::Passed;
+use law_reports::{NoMemory, TextSize};
 use psql_text::{Blanked, without_psql};
 use simdutf8::compat::from_utf8;
 use std::alloc::Global;
-use text_pos::{NoMemory, TextSize};
 
 /// The bytes of a file as they were read, and what was passed over.
 #[derive(Drop)]

@@ -5,10 +5,9 @@ ghost use Rattle.std.specs.Str.{bytes_eq};
 ghost use Rattle.file_choice.specs.Choice as spec;
 
 use path_pattern::is_match;
-use squawk_words::Words;
+use squawk_words::{NoMemory, Words};
 use std::alloc::Global;
 use std::collections::BTreeSet;
-use text_pos::NoMemory;
 
 // What follows `./` at the start of a name.
 fn after_dot(name: &str) -> Option<&str>

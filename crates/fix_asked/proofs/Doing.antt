@@ -1,8 +1,8 @@
 -- From the parts of a run to what it does that words ask for.
 use Rattle.std.proofs.Common.{◌≤◌, inl, inr, refl, ℕ, List, Option}
 use Rattle.std.proofs.KnownBytes.{Keeps-refl}
-use Rattle.checked_file.specs.declared.status.Status.{Status}
-use Rattle.file_store.specs.Contents.{Content, KeepsContents}
+use Rattle.fix_run.specs.checked_file.declared.status.Status.{Status}
+use Rattle.config_file.specs.devices.Contents.{Content, KeepsContents}
 use Rattle.fix_asked.specs.Command.{AnswersBy, HasFailed, HasFailedFor, HasFixedFor, HasStoppedFor, IsNothing}
 use Rattle.fix_asked.specs.declared.failure.Failure.{Failure}
 use Rattle.fix_asked.specs.declared.failure.Failure.TheVariants.{Stop, Words, Config, File}
@@ -15,11 +15,11 @@ use Rattle.fix_run.specs.declared.stop.FixStop.TheVariants as fix_stop
 use Rattle.fix_run.specs.Giving.{Sinks}
 use Rattle.fix_run.specs.Inputs.{Devices}
 use Rattle.fix_run.specs.Runs.{HasFixed, HasStopped}
-use Rattle.fix_words.specs.declared.asked.Asked.{Asked}
-use Rattle.fix_words.specs.declared.asked.Asked.TheVariants.{Fix, Help, Refused}
-use Rattle.fix_words.specs.declared.request.Request.{Request}
-use Rattle.squawk_run.specs.declared.stop.Stop.TheVariants.{BadArguments, NotUtf8, TooLong, ReadFault, WriteFault, NoMemory}
-use Rattle.squawk_words.specs.Words.{Text}
+use Rattle.fix_run.specs.fix_words.declared.asked.Asked.{Asked}
+use Rattle.fix_run.specs.fix_words.declared.asked.Asked.TheVariants.{Fix, Help, Refused}
+use Rattle.fix_run.specs.fix_words.declared.request.Request.{Request}
+use Rattle.config_file.specs.squawk_run.declared.stop.Stop.TheVariants.{BadArguments, NotUtf8, TooLong, ReadFault, WriteFault, NoMemory}
+use Rattle.config_file.specs.squawk_words.Words.{Text}
 
 by_stop : {by : AnswersBy} {request : Request} {d : Devices} {old new : Sinks} (stop : FixStop) → HasStoppedFor by request d old new stop → HasFailedFor by request d old new (failure_by stop)
 by_stop (fix_stop.Any stop) h = inr h

@@ -1,19 +1,19 @@
 -- Why nothing is chosen.
 use Rattle.std.proofs.Common.{◌≡◌, ℕ, List, None, subst, sym}
-use Rattle.check_config.specs.declared.config.Config.{Config as AnyConfig}
-use Rattle.code_choice.specs.Choices.{code_choices_of}
+use Rattle.config_file.specs.check_config.declared.config.Config.{Config as AnyConfig}
+use Rattle.fix_run.specs.code_choice.Choices.{code_choices_of}
 use Rattle.config_file.specs.declared.error.LoadError.{LoadError}
 use Rattle.config_file.specs.declared.error.LoadError.TheVariants as load
 use Rattle.config_file.specs.Loaded.{IsLoaded, IsRefusedLoad}
-use Rattle.file_store.specs.Contents.{Content}
+use Rattle.config_file.specs.devices.Contents.{Content}
 use Rattle.fix_asked.specs.declared.failure.Failure.{Failure}
 use Rattle.fix_asked.specs.declared.failure.Failure.TheVariants.{Stop, Words, Config, File}
 use Rattle.fix_asked.specs.Failures.{failure_of}
 use Rattle.fix_asked.specs.Settled.{AreRefused, IsLineOf, IsUnchosen, IsUnsettled}
-use Rattle.fix_words.specs.declared.fault.Fault.TheVariants.{Linter}
-use Rattle.fix_words.specs.declared.request.Request.{Request}
-use Rattle.squawk_run.specs.declared.stop.Stop.TheVariants.{BadArguments, NotUtf8, TooLong, ReadFault, WriteFault, NoMemory}
-use Rattle.squawk_words.specs.Words.{Text}
+use Rattle.fix_run.specs.fix_words.declared.fault.Fault.TheVariants.{Linter}
+use Rattle.fix_run.specs.fix_words.declared.request.Request.{Request}
+use Rattle.config_file.specs.squawk_run.declared.stop.Stop.TheVariants.{BadArguments, NotUtf8, TooLong, ReadFault, WriteFault, NoMemory}
+use Rattle.config_file.specs.squawk_words.Words.{Text}
 
 -- the line of words that the linter refuses
 pub words_refused : (words : List Text) (failure : Failure) → code_choices_of words ≡ None → IsLineOf (Linter words) failure → AreRefused words failure

@@ -2,10 +2,10 @@
 use Rattle.std.specs.Prelude.{◌≡◌, ◌⊎◌, ℕ, Bool, List, []}
 use Rattle.std.specs.declared.option.Option.{Option}
 use Rattle.std.specs.Io.KnownBytes.{Appends, Keeps}
-use Rattle.checked_file.specs.declared.status.Status.{Status}
-use Rattle.checked_file.specs.declared.status.Status.TheVariants.{Clean}
+use Rattle.fix_run.specs.checked_file.declared.status.Status.{Status}
+use Rattle.fix_run.specs.checked_file.declared.status.Status.TheVariants.{Clean}
 use Rattle.config_file.specs.Loaded.{IsRefusedFor}
-use Rattle.file_store.specs.Contents.{KeepsContents}
+use Rattle.config_file.specs.devices.Contents.{KeepsContents}
 use Rattle.fix_asked.specs.declared.failure.Failure.{Failure}
 use Rattle.fix_asked.specs.declared.failure.Failure.TheVariants.{Stop, Words, Config, File}
 use Rattle.fix_asked.specs.declared.settled.Settled.{Settled}
@@ -16,14 +16,14 @@ use Rattle.fix_run.specs.Giving.{Sinks, StopsWriting}
 use Rattle.fix_run.specs.Inputs.{Devices}
 use Rattle.fix_run.specs.Outcomes.{Answers}
 use Rattle.fix_run.specs.Runs.{HasFixed, HasStopped}
-use Rattle.fix_words.specs.declared.asked.Asked.{Asked}
-use Rattle.fix_words.specs.declared.asked.Asked.TheVariants.{Fix, Help, Refused}
-use Rattle.fix_words.specs.declared.help.TheConstants.{HELP}
-use Rattle.fix_words.specs.declared.request.Request.{Request}
-use Rattle.squawk_run.specs.declared.stop.Stop.TheVariants.{NoMemory}
-use Rattle.squawk_stream.specs.Faults.{Rose}
-use Rattle.squawk_stream.specs.Parts.{AppendsPart}
-use Rattle.squawk_words.specs.declared.choices.Choices.{Choices}
+use Rattle.fix_run.specs.fix_words.declared.asked.Asked.{Asked}
+use Rattle.fix_run.specs.fix_words.declared.asked.Asked.TheVariants.{Fix, Help, Refused}
+use Rattle.fix_run.specs.fix_words.declared.help.TheConstants.{HELP}
+use Rattle.fix_run.specs.fix_words.declared.request.Request.{Request}
+use Rattle.config_file.specs.squawk_run.declared.stop.Stop.TheVariants.{NoMemory}
+use Rattle.config_file.specs.devices.Faults.{Rose}
+use Rattle.config_file.specs.devices.Parts.{AppendsPart}
+use Rattle.config_file.specs.squawk_words.declared.choices.Choices.{Choices}
 
 -- what comes of which text, by the rules and settings that are chosen and by whether unsafe fixes are made too
 abbrev pub AnswersBy : Type 1

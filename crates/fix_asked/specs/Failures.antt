@@ -6,8 +6,8 @@ use Rattle.fix_asked.specs.declared.failure.Failure.{Failure}
 use Rattle.fix_asked.specs.declared.failure.Failure.TheVariants.{Stop, Words, Config, File}
 use Rattle.fix_run.specs.declared.stop.FixStop.{FixStop}
 use Rattle.fix_run.specs.declared.stop.FixStop.TheVariants as fix_stop
-use Rattle.squawk_run.specs.declared.stop.Stop.TheVariants as stop
-use Rattle.squawk_run.specs.Stops as stops
+use Rattle.config_file.specs.squawk_run.declared.stop.Stop.TheVariants as stop
+use Rattle.config_file.specs.squawk_run.Stops as stops
 
 -- the exit status of a failure
 abbrev pub code_of : Failure → ℕ

@@ -1,20 +1,20 @@
 -- The linter that the words and the configuration choose.
 use Rattle.std.specs.Prelude.{◌≡◌, ℕ, List, Some, None, ⊤}
-use Rattle.check_config.specs.declared.config.Config.{Config as AnyConfig}
-use Rattle.check_config.specs.Defaults.{linter_words}
-use Rattle.code_choice.specs.Choices.{code_choices_of}
-use Rattle.code_choice.specs.declared.choices.CodeChoices.{CodeChoices}
+use Rattle.config_file.specs.check_config.declared.config.Config.{Config as AnyConfig}
+use Rattle.config_file.specs.check_config.Defaults.{linter_words}
+use Rattle.fix_run.specs.code_choice.Choices.{code_choices_of}
+use Rattle.fix_run.specs.code_choice.declared.choices.CodeChoices.{CodeChoices}
 use Rattle.config_file.specs.Loaded.{IsLoaded, IsRefusedFor}
-use Rattle.file_store.specs.Contents.{Content}
+use Rattle.config_file.specs.devices.Contents.{Content}
 use Rattle.fix_asked.specs.declared.failure.Failure.{Failure}
 use Rattle.fix_asked.specs.declared.failure.Failure.TheVariants.{Stop, Words, Config, File}
 use Rattle.fix_asked.specs.declared.settled.Settled.{Settled}
-use Rattle.fix_words.specs.declared.fault.Fault.{Fault}
-use Rattle.fix_words.specs.declared.fault.Fault.TheVariants.{Linter}
-use Rattle.fix_words.specs.declared.request.Request.{Request}
-use Rattle.fix_words.specs.Faults.{fault_line}
-use Rattle.squawk_run.specs.declared.stop.Stop.TheVariants.{BadArguments, NotUtf8, TooLong, ReadFault, WriteFault, NoMemory}
-use Rattle.squawk_words.specs.Words.{Text}
+use Rattle.fix_run.specs.fix_words.declared.fault.Fault.{Fault}
+use Rattle.fix_run.specs.fix_words.declared.fault.Fault.TheVariants.{Linter}
+use Rattle.fix_run.specs.fix_words.declared.request.Request.{Request}
+use Rattle.fix_run.specs.fix_words.Faults.{fault_line}
+use Rattle.config_file.specs.squawk_run.declared.stop.Stop.TheVariants.{BadArguments, NotUtf8, TooLong, ReadFault, WriteFault, NoMemory}
+use Rattle.config_file.specs.squawk_words.Words.{Text}
 
 -- the failure is the line of this fault, or there was no memory for it
 abbrev pub IsLineOf : Fault → Failure → Type 0

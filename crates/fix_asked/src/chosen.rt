@@ -1,8 +1,8 @@
 //! What is made by what words choose.
 ghost use Rattle.std.specs.Prelude.{◌≡◌, Bool};
-ghost use Rattle.squawk_words.specs.declared.choices.Choices.{Choices as AnyChoices};
+ghost use Rattle.config_file.specs.squawk_words.declared.choices.Choices.{Choices as AnyChoices};
 
-use squawk_words::Choices;
+use config_file::Choices;
 
 /// What is made by the rules and settings that words choose, and by whether unsafe fixes are made too. `by` says what that is.
 pub trait Chosen {

@@ -2,21 +2,14 @@
 ghost use Rattle.std.specs.Prelude.{IfErr, IfOk};
 ghost use Rattle.fix_asked.specs.Command as spec;
 ghost use Rattle.fix_asked.specs.Failures.{line_of};
-ghost use Rattle.fix_words.specs.Asked.{asked_of};
+ghost use Rattle.fix_run.specs.fix_words.Asked.{asked_of};
 
 use crate::chosen::Chosen;
 use crate::failure::{Failure, stopped};
 use crate::settled::{Settled, refused, settle};
-use checked_file::Status;
-use file_store::FileStore;
-use file_write::FileWriter;
-use fix_run::{Done, Fixer, fix};
-use fix_words::{Asked, HELP, Request, read_asked};
-use squawk_run::Stop;
-use squawk_stream::{Sink, Source, write_all};
-use squawk_words::Words;
+use config_file::{FileStore, FileWriter, NoMemory, Sink, Source, Stop, Words, write_all};
+use fix_run::{Asked, Done, Fixer, HELP, Request, Status, fix, read_asked};
 use std::alloc::Global;
-use text_pos::NoMemory;
 
 // A run over files, or over the input.
 fn fix_request<F: FileStore, W: FileWriter, S: Source, K: Sink, M: Fixer + Chosen + Drop>(

@@ -2,9 +2,8 @@
 ghost use Rattle.std.specs.Prelude.{◌≡◌};
 ghost use Rattle.fix_asked.specs.Failures as spec;
 
-use config_file::LoadError;
+use config_file::{LoadError, Stop};
 use fix_run::FixStop;
-use squawk_run::Stop;
 
 /// Why a run makes nothing, or stops.
 #[derive(Debug, Drop)]

@@ -13,3 +13,9 @@ mod settled;
 pub use chosen::Chosen;
 pub use command::run;
 pub use failure::Failure;
+
+// What crates above reach through this one.
+pub use config_file::{
+    Choices, FileStore, FileWriter, NoMemory, Refusal, Sink, Source, TextSize, Words,
+};
+pub use fix_run::{Fixer, Status, TextOutcome};

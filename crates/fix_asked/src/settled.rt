@@ -1,19 +1,13 @@
 //! The linter that the words and the configuration choose.
 ghost use Rattle.std.specs.Prelude.{◌≡◌, ◌≤◌, IfErr, IfOk};
-ghost use Rattle.file_store.specs.Contents.{KeepsContents};
+ghost use Rattle.config_file.specs.devices.Contents.{KeepsContents};
 ghost use Rattle.fix_asked.specs.Settled as spec;
 ghost use Rattle.fix_asked.specs.Settled.{IsChosenBy, IsSettled, IsUnchosen, IsUnsettled};
 
 use crate::failure::{Failure, failure_of};
-use check_config::{Config, linter_words};
-use code_choice::{CodeChoices, read_code_choices};
-use config_file::load_config;
-use file_store::FileStore;
-use fix_words::{Fault, Request, fault_line};
-use squawk_run::Stop;
-use squawk_words::Words;
+use config_file::{Config, FileStore, NoMemory, Stop, Words, linter_words, load_config};
+use fix_run::{CodeChoices, Fault, Request, fault_line, read_code_choices};
 use std::alloc::Global;
-use text_pos::NoMemory;
 
 /// What the words and the configuration choose. Hazards have no fixes.
 #[derive(Drop)]

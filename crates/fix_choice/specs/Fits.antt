@@ -2,11 +2,11 @@
 use Rattle.std.specs.Prelude.{◌≡◌, ◌<◌, ◌-◌, ◌^◌, ℕ, nat_lt, Bool, true, not, ◌&&◌, ◌||◌, ◌==◌, List, [], ◌∷◌, length, slice_index, if◌then◌else◌, Option, Some, None, IfSome}
 use Rattle.std.specs.List.{list_all}
 use Rattle.std.specs.Option.{option_map, option_or}
-use Rattle.sql_token.specs.Token.{Text, is_word}
-use Rattle.lint_base.specs.declared.edit.Edit.{Edit}
-use Rattle.lint_base.specs.declared.violation.Violation.{Violation}
-use Rattle.lint_base.specs.Fixes.{FixValue}
-use Rattle.law_fixes.specs.Edited.{edited}
+use Rattle.fix_edit.specs.sql_token.Token.{Text, is_word}
+use Rattle.fix_edit.specs.lint_base.declared.edit.Edit.{Edit}
+use Rattle.fix_edit.specs.lint_base.declared.violation.Violation.{Violation}
+use Rattle.fix_edit.specs.lint_base.Fixes.{FixValue}
+use Rattle.fix_edit.specs.law_fixes.Edited.{edited}
 use Rattle.fix_edit.specs.Faults.{AreGood}
 use Rattle.law_fix_steps.specs.Listed.{is_listed}
 

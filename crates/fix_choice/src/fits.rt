@@ -1,10 +1,10 @@
 //! Whether what an edit puts into a text joins the words beside it.
 ghost use Rattle.std.specs.Prelude.{◌≡◌};
 ghost use Rattle.std.specs.List.{list_all};
-ghost use Rattle.sql_token.specs.Token as token;
+ghost use Rattle.fix_edit.specs.sql_token.Token as token;
 ghost use Rattle.fix_choice.specs.Fits as spec;
 
-use lint_base::{Edit, Fix};
+use fix_edit::{Edit, Fix};
 
 // Whether a word goes on over this byte.
 fn is_word(byte: u8) -> bool

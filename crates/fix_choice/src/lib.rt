@@ -11,3 +11,7 @@ mod next;
 
 pub use listed::{is_followed, is_listed};
 pub use next::{made_by, next_text};
+
+// What crates above reach through this one.
+pub use fix_edit::{Found, Parse, find_ignores};
+pub use law_fix_steps::laws::load_is_small;

@@ -3,7 +3,7 @@ ghost use Rattle.std.specs.Prelude.{◌≡◌};
 ghost use Rattle.law_fix_steps.specs.Leaves as follow;
 ghost use Rattle.law_fix_steps.specs.Listed as spec;
 
-use lint_base::Rule;
+use fix_edit::Rule;
 
 /// Whether the fixes of this rule are made: those that put CONCURRENTLY into a text, set a timeout or write another column type.
 pub fn is_listed(rule: Rule) -> bool

@@ -5,10 +5,8 @@ ghost use Rattle.fix_choice.specs.Fits.{CanBeTried};
 
 use crate::fits::join_no_word;
 use crate::listed::is_listed;
-use fix_edit::{FixError, apply_fix};
-use lint_base::{Fix, Violation};
+use fix_edit::{Fix, FixError, NoMemory, Violation, apply_fix};
 use std::alloc::Global;
-use text_pos::NoMemory;
 
 /// The text with a fix made, if it fits. The error comes when memory runs out.
 pub fn made_by(alloc: Global, text: &str, fix: &Fix) -> Result<Option<String>, NoMemory>

@@ -3,8 +3,8 @@ use Rattle.std.proofs.Common.{◌≡◌, ℕ, ◌+◌, ◌<◌, ◌∙◌, ◌&&
 use Rattle.std.proofs.lemmas.List.{get_or_append_left}
 use Rattle.std.proofs.Math.Seq.{get_or-append_seam}
 use Rattle.std.specs.List.{list_any}
-use Rattle.sql_tree.specs.Statement.{Tree}
-use Rattle.lint_base.specs.declared.settings.LinterSettings.{LinterSettings}
+use Rattle.lint_ignore.specs.sql_tree.Statement.{Tree}
+use Rattle.lint_report.specs.lint_base.declared.settings.LinterSettings.{LinterSettings}
 use Rattle.lint_transaction.specs.Earlier.{any_below}
 use Rattle.lint_transaction.specs.Transaction.{is_open, stmt_at}
 use Rattle.fix_class.specs.declared.known.Known.{Known}

@@ -1,7 +1,7 @@
 -- One token more.
 use Rattle.std.proofs.Common.{◌≡◌, ℕ, ◌+◌, ◌-◌, ◌<◌, ◌≤◌, false, List, ap, suc, arith}
 use Rattle.std.specs.Prelude.{◌||◌}
-use Rattle.sql_tree.specs.Statement.{Tree}
+use Rattle.lint_ignore.specs.sql_tree.Statement.{Tree}
 use Rattle.fix_class.specs.Words.{is_word_at, says_from}
 
 pub one_more : (tree : Tree) (word : List ℕ) (i n : ℕ) → i < n → says_from tree word i (n - i) ≡ (is_word_at tree word i || says_from tree word (i + 1) (n - (i + 1)))

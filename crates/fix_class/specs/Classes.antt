@@ -1,13 +1,13 @@
 -- How far the fix of a report can be trusted, by its rule and by the statement that it changes.
 use Rattle.std.specs.Prelude.{ℕ, Bool, true, false, not, ◌||◌, length, codes, nat_lt, Option, Some, None, if◌then◌else◌}
-use Rattle.sql_tree.specs.declared.nodes.Body.{Body}
-use Rattle.sql_tree.specs.declared.nodes.Body.TheVariants as body
-use Rattle.sql_tree.specs.declared.nodes.Stmt.{Stmt}
-use Rattle.sql_tree.specs.Statement.{Tree}
-use Rattle.lint_base.specs.declared.rule.Rule.{Rule}
-use Rattle.lint_base.specs.declared.rule.Rule.TheVariants as rule
-use Rattle.lint_base.specs.declared.settings.LinterSettings.{LinterSettings}
-use Rattle.lint_base.specs.declared.violation.Violation.{Violation}
+use Rattle.lint_ignore.specs.sql_tree.declared.nodes.Body.{Body}
+use Rattle.lint_ignore.specs.sql_tree.declared.nodes.Body.TheVariants as body
+use Rattle.lint_ignore.specs.sql_tree.declared.nodes.Stmt.{Stmt}
+use Rattle.lint_ignore.specs.sql_tree.Statement.{Tree}
+use Rattle.lint_report.specs.lint_base.declared.rule.Rule.{Rule}
+use Rattle.lint_report.specs.lint_base.declared.rule.Rule.TheVariants as rule
+use Rattle.lint_report.specs.lint_base.declared.settings.LinterSettings.{LinterSettings}
+use Rattle.lint_report.specs.lint_base.declared.violation.Violation.{Violation}
 use Rattle.lint_report.specs.declared.fix_class.FixClass.{FixClass}
 use Rattle.lint_report.specs.declared.fix_class.FixClass.TheVariants.{Safe, Unsafe, Template}
 use Rattle.lint_transaction.specs.Transaction.{stmt_at}

@@ -1,16 +1,16 @@
 -- What is known of a statement by the text around it.
 use Rattle.std.specs.Prelude.{◌≡◌, ◌<◌, ℕ, Bool, true, false, not, ◌&&◌, ◌||◌, List, length, codes, slice_index_or, Option, Some, None}
 use Rattle.std.specs.List.{list_any}
-use Rattle.sql_token.specs.declared.token.Span.{Span}
-use Rattle.sql_tree.specs.declared.kinds.ActionKind.{ActionKind}
-use Rattle.sql_tree.specs.declared.kinds.ActionKind.TheVariants as action
-use Rattle.sql_tree.specs.declared.kinds.StmtKind.{StmtKind}
-use Rattle.sql_tree.specs.declared.kinds.StmtKind.TheVariants as stmt
-use Rattle.sql_tree.specs.declared.nodes.Body.{Body}
-use Rattle.sql_tree.specs.declared.nodes.Body.TheVariants as body
-use Rattle.sql_tree.specs.declared.nodes.Stmt.{Stmt}
-use Rattle.sql_tree.specs.Statement.{Tree}
-use Rattle.lint_base.specs.declared.settings.LinterSettings.{LinterSettings}
+use Rattle.lint_ignore.specs.sql_token.declared.token.Span.{Span}
+use Rattle.lint_ignore.specs.sql_tree.declared.kinds.ActionKind.{ActionKind}
+use Rattle.lint_ignore.specs.sql_tree.declared.kinds.ActionKind.TheVariants as action
+use Rattle.lint_ignore.specs.sql_tree.declared.kinds.StmtKind.{StmtKind}
+use Rattle.lint_ignore.specs.sql_tree.declared.kinds.StmtKind.TheVariants as stmt
+use Rattle.lint_ignore.specs.sql_tree.declared.nodes.Body.{Body}
+use Rattle.lint_ignore.specs.sql_tree.declared.nodes.Body.TheVariants as body
+use Rattle.lint_ignore.specs.sql_tree.declared.nodes.Stmt.{Stmt}
+use Rattle.lint_ignore.specs.sql_tree.Statement.{Tree}
+use Rattle.lint_report.specs.lint_base.declared.settings.LinterSettings.{LinterSettings}
 use Rattle.lint_ignore.specs.Comment.{has_disable_comment}
 use Rattle.lint_node.specs.Same.{same_kind}
 use Rattle.lint_transaction.specs.Earlier.{any_below}

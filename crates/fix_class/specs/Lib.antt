@@ -1,3 +1,8 @@
 pub mod Words
 pub mod Known
 pub mod Classes
+pub use Rattle.lint_report.specs as lint_report
+pub use Rattle.lint_ignore.specs.sql_token
+pub use Rattle.lint_ignore.specs.sql_tree
+pub use Rattle.statement_place.specs as statement_place
+pub use Rattle.lint_report.specs.text_pos

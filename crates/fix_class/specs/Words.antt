@@ -1,12 +1,12 @@
 -- Words of a statement that its tree does not keep, by the numbers of its tokens.
 use Rattle.std.specs.Prelude.{ℕ, zero, suc, ◌+◌, ◌-◌, Bool, true, false, ◌&&◌, ◌||◌, List, length, min}
 use Rattle.std.specs.Str.{str_eq_ignore_ascii_case}
-use Rattle.sql_token.specs.declared.token.TokKind.{TokKind}
-use Rattle.sql_token.specs.declared.token.TokKind.TheVariants as kinds
-use Rattle.sql_token.specs.Token.{text_of}
-use Rattle.sql_tree.specs.declared.nodes.Stmt.{Stmt}
-use Rattle.sql_tree.specs.Range.{token_at}
-use Rattle.sql_tree.specs.Statement.{Tree}
+use Rattle.lint_ignore.specs.sql_token.declared.token.TokKind.{TokKind}
+use Rattle.lint_ignore.specs.sql_token.declared.token.TokKind.TheVariants as kinds
+use Rattle.lint_ignore.specs.sql_token.Token.{text_of}
+use Rattle.lint_ignore.specs.sql_tree.declared.nodes.Stmt.{Stmt}
+use Rattle.lint_ignore.specs.sql_tree.Range.{token_at}
+use Rattle.lint_ignore.specs.sql_tree.Statement.{Tree}
 
 abbrev pub is_word_kind : TokKind → Bool
 is_word_kind kinds.Word = true

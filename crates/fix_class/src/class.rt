@@ -1,18 +1,16 @@
 //! The classes.
 ghost use Rattle.std.specs.Prelude.{◌≡◌, IfOk};
-ghost use Rattle.lint_base.specs.declared.settings.LinterSettings.{LinterSettings};
+ghost use Rattle.lint_report.specs.lint_base.declared.settings.LinterSettings.{LinterSettings};
 ghost use Rattle.fix_class.specs.Classes as spec;
 ghost use Rattle.fix_class.specs.Known.{AreKnown};
 ghost use Rattle.statement_place.specs.Statements.{number_behind};
 
 use crate::known::{Known, each_known};
 use crate::word::says;
-use lint_base::{LinterSettings, Rule, Violation};
-use lint_report::FixClass;
-use sql_tree::{Body, Parse, Stmt};
+use lint_ignore::{Body, Parse, Stmt};
+use lint_report::{FixClass, LinterSettings, NoMemory, Rule, Violation};
 use std::alloc::Global;
 use std::marker::Model;
-use text_pos::NoMemory;
 
 fn safe_unless(doubt: bool) -> FixClass
     ensures { result ≡ spec.safe_unless doubt }

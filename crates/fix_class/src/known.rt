@@ -7,14 +7,13 @@ ghost use Rattle.fix_class.specs.Known as spec;
 ghost use Rattle.fix_class.specs.Known.{AreKnown};
 
 use crate::word::says;
-use lint_base::LinterSettings;
-use lint_ignore::has_disable_assume_in_transaction;
+use lint_ignore::{
+    Action, ActionKind, Body, Parse, Span, Stmt, StmtKind, has_disable_assume_in_transaction,
+};
 use lint_node::same_kind;
+use lint_report::{LinterSettings, NoMemory};
 use lint_transaction::{OpenTransaction, is_one_name};
-use sql_token::Span;
-use sql_tree::{Action, ActionKind, Body, Parse, Stmt, StmtKind};
 use std::alloc::Global;
-use text_pos::NoMemory;
 
 /// What is known of a statement by the text around it.
 #[derive(Clone, Copy, Debug, PartialEq, Eq)]

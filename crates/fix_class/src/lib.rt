@@ -10,3 +10,8 @@ mod word;
 
 pub use class::FixClasses;
 pub use known::Known;
+
+// What crates above reach through this one.
+pub use lint_ignore::{Parse, has_disable_assume_in_transaction};
+pub use lint_report::{Code, FixClass, NoMemory, Report, ReportFix, TextRange};
+pub use statement_place::Cursor;

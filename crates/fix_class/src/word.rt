@@ -2,8 +2,7 @@
 ghost use Rattle.std.specs.Prelude.{◌≡◌, ◌<◌, length};
 ghost use Rattle.fix_class.specs.Words as spec;
 
-use sql_token::TokKind;
-use sql_tree::{Parse, Stmt};
+use lint_ignore::{Parse, Stmt, TokKind};
 
 fn is_word_kind(kind: TokKind) -> bool
     ensures { result ≡ spec.is_word_kind kind }

@@ -3,7 +3,7 @@ use Rattle.std.proofs.Common.{◌≡◌, ◌∙◌, ◌+◌, ◌≤◌, ap, arit
 use Rattle.std.proofs.lemmas.List.{take_all}
 use Rattle.std.proofs.lemmas.Option.{slice_get_within}
 use Rattle.std.specs.Prelude.{slice_get}
-use Rattle.squawk_words.specs.Words.{Text}
+use Rattle.fix_asked.specs.squawk_words.Words.{Text}
 
 take_at : (names : List Text) (k : ℕ) (name : Text) → slice_get names k ≡ Some name → take (k + 1) names ≡ take k names ++ name ∷ []
 take_at [] k name e = absurd (omega (arith, slice_get_within [] k name e))

@@ -2,8 +2,8 @@
 use Rattle.std.proofs.Common.{ℕ}
 use Rattle.std.specs.Str.{IsCharBoundary, IsUtf8}
 use Rattle.law_fault_places.proofs.Places.{open_between, syntax_between}
-use Rattle.sql_token.specs.Token.{OpenAt, Text}
-use Rattle.sql_tree.specs.Statement.{IsSyntaxAt}
+use Rattle.fix_text.specs.sql_token.Token.{OpenAt, Text}
+use Rattle.fix_text.specs.sql_tree.Statement.{IsSyntaxAt}
 
 pub open_in : (t : Text) (at : ℕ) → OpenAt t at → IsCharBoundary t at
 open_in t at h = open_between t at h

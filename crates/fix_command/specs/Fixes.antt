@@ -1,15 +1,15 @@
 -- What is made of a text.
 use Rattle.std.specs.Prelude.{◌≡◌, Bool, List}
 use Rattle.fix_asked.specs.Command.{AnswersBy}
-use Rattle.fix_run.specs.declared.fixer.TextOutcome.{TextOutcome}
-use Rattle.fix_run.specs.declared.fixer.TextOutcome.TheVariants.{Fixed, Refused}
+use Rattle.fix_asked.specs.fix_run.declared.fixer.TextOutcome.{TextOutcome}
+use Rattle.fix_asked.specs.fix_run.declared.fixer.TextOutcome.TheVariants.{Fixed, Refused}
 use Rattle.fix_text.specs.Fixing.{FixedValue, IsFixedText}
-use Rattle.other_fix.specs.declared.other.OtherFix.{OtherFix}
-use Rattle.source_file.specs.declared.refusal.Refusal.TheVariants as refusal
-use Rattle.sql_token.specs.Token.{OpenAt, Text}
-use Rattle.sql_tree.specs.Statement.{IsSyntaxAt}
-use Rattle.squawk_linter.specs.declared.linter.Linter.{Linter}
-use Rattle.squawk_words.specs.declared.choices.Choices.{Choices}
+use Rattle.fix_text.specs.other_fix.declared.other.OtherFix.{OtherFix}
+use Rattle.fix_asked.specs.source_file.declared.refusal.Refusal.TheVariants as refusal
+use Rattle.fix_text.specs.sql_token.Token.{OpenAt, Text}
+use Rattle.fix_text.specs.sql_tree.Statement.{IsSyntaxAt}
+use Rattle.fix_text.specs.squawk_linter.declared.linter.Linter.{Linter}
+use Rattle.fix_asked.specs.squawk_words.declared.choices.Choices.{Choices}
 
 -- The new text is reached from the old one by steps, each of which makes one fix that the classes allow, until no such fix is left: the safe
 -- fixes, and the unsafe ones too where `wide` says so. The others are the fixes of the old text that change the same bytes as one that comes first.

@@ -3,15 +3,10 @@ ghost use Rattle.std.specs.Prelude.{IfErr, IfOk};
 ghost use Rattle.fix_asked.specs.Command.{HasFailed, HasRun, HasSaid};
 ghost use Rattle.fix_asked.specs.Failures.{line_of};
 ghost use Rattle.fix_command.specs.Fixes.{fixes_by};
-ghost use Rattle.fix_words.specs.Asked.{asked_of};
+ghost use Rattle.fix_asked.specs.fix_words.Asked.{asked_of};
 
 use crate::fixer::FixLinter;
-use checked_file::Status;
-use file_store::FileStore;
-use file_write::FileWriter;
-use fix_asked::Failure;
-use squawk_stream::{Sink, Source};
-use squawk_words::Words;
+use fix_asked::{Failure, FileStore, FileWriter, Sink, Source, Status, Words};
 use std::alloc::Global;
 
 /// Does what the words after the program's name ask for, of which the first is `fix`: reads the files that they name, or the input, makes

@@ -1,19 +1,13 @@
 //! The linter as what fixes texts.
 ghost use Rattle.std.specs.Prelude.{◌≡◌, ◌<◌, ◌^◌, Bool, IfOk, length};
 ghost use Rattle.fix_command.specs.Fixes.{IsAnswerOf};
-ghost use Rattle.fix_run.specs.Outcomes.{IsPlacedIn};
-ghost use Rattle.squawk_linter.specs.declared.linter.Linter.{Linter as AnyLinter};
-ghost use Rattle.sql_read.specs.Cause.{IsCause};
+ghost use Rattle.fix_asked.specs.fix_run.Outcomes.{IsPlacedIn};
+ghost use Rattle.fix_text.specs.squawk_linter.declared.linter.Linter.{Linter as AnyLinter};
+ghost use Rattle.fix_text.specs.sql_read.Cause.{IsCause};
 
-use fix_asked::Chosen;
-use fix_run::{Fixer, TextOutcome};
-use fix_text::fix_text;
-use lint_base::{LinterSettings, Names, Text};
-use source_file::Refusal;
-use squawk_linter::{LintError, Linter};
-use squawk_words::Choices;
+use fix_asked::{Choices, Chosen, Fixer, NoMemory, Refusal, TextOutcome, TextSize};
+use fix_text::{LintError, Linter, LinterSettings, Names, Text, fix_text};
 use std::alloc::Global;
-use text_pos::{NoMemory, TextSize};
 
 /// A linter that fixes texts. No text changes it.
 #[derive(Drop)]

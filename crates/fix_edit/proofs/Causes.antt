@@ -2,13 +2,13 @@
 use Rattle.std.proofs.Common.{◌≡◌, ◌∙◌, ℕ, ◌<◌, ◌≤◌, List, length, ap, sym, refl, subst, arith, inl, inr}
 use Rattle.std.proofs.lemmas.Str.{IsUtf8-string_bytes}
 use Rattle.std.specs.Prelude.{◌↔◌, IfOk, IsUtf8, Result, Ok, Err, String, string_bytes}
-use Rattle.lint_base.specs.declared.edit.Edit.{Edit}
+use Rattle.law_type_fixes.specs.lint_base.declared.edit.Edit.{Edit}
 use Rattle.fix_edit.specs.Answer.{CanBeMade, IsAnswer, IsTooLong, OkOrNoMemory}
-use Rattle.law_fixes.specs.Edited.{edited}
+use Rattle.law_type_fixes.specs.law_fixes.Edited.{edited}
 use Rattle.fix_edit.specs.Faults.{AreGood, AreGoodBelow, IsBadAt, IsGoodAt, IsInText, IsOverlapAt}
 use Rattle.fix_edit.specs.declared.error.FixError.{FixError}
 use Rattle.fix_edit.specs.declared.error.FixError.TheVariants.{BadRange, Overlap, TooLong, NoMemory}
-use Rattle.fix_edit.proofs.Steps.{good_here, some_same}
+use Rattle.fix_edit.proofs.EditSteps.{good_here, some_same}
 use Rattle.std.proofs.lemmas.Bool.{cases_lt}
 use Rattle.std.proofs.lemmas.Option.{slice_get_within}
 

@@ -2,14 +2,14 @@
 use Rattle.std.proofs.Common.{◌≡◌, ◌∙◌, ◌<◌, ◌^◌, ℕ, List, [], ◌∷◌, length, sym, ap, subst, Some}
 use Rattle.std.proofs.lemmas.List.Elements.{All-nil, All-cons, All-weaker}
 use Rattle.std.specs.Prelude.{IfOk, Result, Ok, Err}
-use Rattle.sql_tree.specs.Statement.{Tree}
-use Rattle.lint_base.specs.Fixes.{FixValue}
-use Rattle.law_fixes.specs.Edited.{edited}
-use Rattle.law_fixes.specs.Mended.{FixesMend, FixMends, Mended, Table, WithWord, builds, dropped, rebuilt, detached}
-use Rattle.law_fixes.specs.Timeouts.{SetMended}
-use Rattle.law_fixes.proofs.Detached.{detached_mend}
-use Rattle.law_fixes.proofs.Fixed.{builds_mend, dropped_mend, rebuilt_mend}
-use Rattle.law_fixes.proofs.TimeoutFixes.{timeouts_mend}
+use Rattle.law_type_fixes.specs.sql_tree.Statement.{Tree}
+use Rattle.law_type_fixes.specs.lint_base.Fixes.{FixValue}
+use Rattle.law_type_fixes.specs.law_fixes.Edited.{edited}
+use Rattle.law_type_fixes.specs.law_fixes.Mended.{FixesMend, FixMends, Mended, Table, WithWord, builds, dropped, rebuilt, detached}
+use Rattle.law_type_fixes.specs.law_fixes.Timeouts.{SetMended}
+use Rattle.law_type_fixes.proofs.of_law_fixes.Detached.{detached_mend}
+use Rattle.law_type_fixes.proofs.of_law_fixes.Fixed.{builds_mend, dropped_mend, rebuilt_mend}
+use Rattle.law_type_fixes.proofs.of_law_fixes.TimeoutFixes.{timeouts_mend}
 use Rattle.law_type_fixes.specs.Mended.{AreApart, TypeFixesMend, TypeFixMends, WithRun}
 use Rattle.law_type_fixes.specs.Rules.{type_table, ints, smallints, timestamps, varchars}
 use Rattle.law_type_fixes.proofs.Fixes.{ints_mend, smallints_mend, timestamps_mend, varchars_mend}

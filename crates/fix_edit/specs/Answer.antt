@@ -1,7 +1,7 @@
 -- When each answer of a fix comes.
 use Rattle.std.specs.Prelude.{◌≡◌, ◌≤◌, ◌<◌, ◌^◌, ℕ, List, length, Result, Ok, Err}
-use Rattle.lint_base.specs.declared.edit.Edit.{Edit}
-use Rattle.law_fixes.specs.Edited.{edited}
+use Rattle.law_type_fixes.specs.lint_base.declared.edit.Edit.{Edit}
+use Rattle.law_type_fixes.specs.law_fixes.Edited.{edited}
 use Rattle.fix_edit.specs.Faults.{AreGood, IsBadAt, IsOverlapAt}
 use Rattle.fix_edit.specs.declared.error.FixError.{FixError}
 use Rattle.fix_edit.specs.declared.error.FixError.TheVariants.{BadRange, Overlap, TooLong, NoMemory}

@@ -2,8 +2,8 @@
 use Rattle.std.specs.Prelude.{◌≡◌, ℕ, zero, suc, ◌<◌, ◌≤◌, List, length, Some, slice_get}
 use Rattle.std.specs.Option.{option_map_or}
 use Rattle.std.specs.Str.{IsCharBoundary}
-use Rattle.lint_base.specs.declared.edit.Edit.{Edit}
-use Rattle.text_pos.specs.Range.{Range}
+use Rattle.law_type_fixes.specs.lint_base.declared.edit.Edit.{Edit}
+use Rattle.law_type_fixes.specs.text_pos.Range.{Range}
 
 -- the range begins and ends in the text, between two characters
 abbrev pub IsInText : List ℕ → Range → Type 0

@@ -1,13 +1,13 @@
 -- The law of fixes, for the text that is made.
 use Rattle.std.specs.Prelude.{◌≡◌, ℕ, List, [], ◌∷◌, All, Some}
-use Rattle.sql_tree.specs.Statement.{Tree, IsTree}
-use Rattle.lint_base.specs.declared.settings.LinterSettings.{LinterSettings}
-use Rattle.lint_base.specs.Fixes.{FixValue}
-use Rattle.lint_base.specs.RuleSets.{Rules}
-use Rattle.pass_session.specs.RequireTimeoutSettings.{reports_of_require_timeout_settings}
-use Rattle.law_fixes.specs.Edited.{edited}
-use Rattle.law_fixes.specs.Mended.{Table, Mended, WithWord, builds, dropped, rebuilt, detached}
-use Rattle.law_fixes.specs.Timeouts.{SetMended}
+use Rattle.law_type_fixes.specs.sql_tree.Statement.{Tree, IsTree}
+use Rattle.law_type_fixes.specs.lint_base.declared.settings.LinterSettings.{LinterSettings}
+use Rattle.law_type_fixes.specs.lint_base.Fixes.{FixValue}
+use Rattle.law_type_fixes.specs.lint_base.RuleSets.{Rules}
+use Rattle.law_type_fixes.specs.pass_session.RequireTimeoutSettings.{reports_of_require_timeout_settings}
+use Rattle.law_type_fixes.specs.law_fixes.Edited.{edited}
+use Rattle.law_type_fixes.specs.law_fixes.Mended.{Table, Mended, WithWord, builds, dropped, rebuilt, detached}
+use Rattle.law_type_fixes.specs.law_fixes.Timeouts.{SetMended}
 use Rattle.law_type_fixes.specs.Mended.{AreApart, WithRun}
 use Rattle.law_type_fixes.specs.Rules.{type_table, ints, smallints, timestamps, varchars}
 

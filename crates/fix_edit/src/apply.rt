@@ -1,7 +1,8 @@
 //! Making a fix.
 ghost use Rattle.std.specs.Prelude.{◌≡◌, ◌<◌, ◌^◌, ◌↔◌, ℕ, length, IfOk, IsUtf8, OnOk, string_bytes};
 ghost use Rattle.fix_edit.specs.Answer.{CanBeMade, IsAnswer, IsTooLong, OkOrNoMemory};
-ghost use Rattle.law_fixes.specs.Edited.{edited};
+ghost use Rattle.law_type_fixes.specs.law_fixes.Edited.{edited};
+ghost use Rattle.law_type_fixes.specs.Moves.{StatementsMove};
 ghost use Rattle.fix_edit.specs.Faults.{IsBadAt, IsOverlapAt};
 ghost use Rattle.fix_edit.specs.Mends.{IsMended};
 
@@ -9,7 +10,8 @@ use crate::build::build;
 use crate::error::FixError;
 use crate::examine::examine;
 use crate::measure::edited_len;
-use lint_base::Fix;
+use law_type_fixes::Fix;
+use law_type_fixes::laws::statements_move;
 use std::alloc::Global;
 
 // The edited text, or why there is none.
@@ -37,7 +39,8 @@ fn edited(alloc: Global, text: &str, fix: &Fix) -> Result<String, FixError>
 /// A fix that adds CONCURRENTLY, sets a timeout or writes another column type makes a text that is
 /// read again, and its rule is silent there (`mended`); other rules may report more. Of a type this
 /// holds if no byte of a word is right before or right after what is replaced: `varchar(10)not null`
-/// would become `textnot null`.
+/// would become `textnot null`. What stays of the tree has other numbers of tokens, under which each
+/// statement begins and ends transactions and creates tables where it did (`moved`).
 pub fn apply_fix(alloc: Global, text: &str, fix: &Fix) -> Result<String, FixError>
     requires text { length text.now < 2 ^ 32 }
     requires edits { length fix.now.edits < 2 ^ 32 }
@@ -45,6 +48,7 @@ pub fn apply_fix(alloc: Global, text: &str, fix: &Fix) -> Result<String, FixErro
     ensures good { OnOk result (CanBeMade text.now fix.now.edits) }
     ensures utf8 { IfOk result (λ made. IsUtf8 (string_bytes made)) }
     ensures mended { IfOk result (λ made. IsMended text.now fix.now (string_bytes made)) }
+    ensures moved { StatementsMove }
 
     // No clause says when memory runs out.
     ensures valid { CanBeMade text.now fix.now.edits
@@ -54,5 +58,6 @@ pub fn apply_fix(alloc: Global, text: &str, fix: &Fix) -> Result<String, FixErro
     ensures too_long { (result ≡ Err FixError.TooLong) ↔ IsTooLong text.now fix.now.edits }
     ensures no_memory { result ≡ Err FixError.NoMemory → CanBeMade text.now fix.now.edits }
 {
+    statements_move();
     edited(alloc, text, fix)
 }

@@ -2,11 +2,11 @@
 ghost use Rattle.std.specs.Prelude.{◌≡◌, ◌++◌, ◌≤◌, IfErr, IfOk, OnOk, length, slice_range, string_bytes};
 ghost use Rattle.std.specs.Str.{IsCharBoundary};
 ghost use Rattle.fix_edit.specs.Answer.{CanBeMade, IsCause};
-ghost use Rattle.law_fixes.specs.Edited.{edited, put_by};
+ghost use Rattle.law_type_fixes.specs.law_fixes.Edited.{edited, put_by};
 
 use crate::error::FixError;
 use crate::measure::put_by;
-use lint_base::Edit;
+use law_type_fixes::Edit;
 use std::alloc::{AllocError, Global};
 
 // Adds the bytes from a place to an edit's range, and what the edit puts there.

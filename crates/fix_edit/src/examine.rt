@@ -4,8 +4,7 @@ ghost use Rattle.fix_edit.specs.Answer.{IsCause};
 ghost use Rattle.fix_edit.specs.Faults.{AreGood, IsInText};
 
 use crate::error::FixError;
-use lint_base::Edit;
-use text_pos::TextRange;
+use law_type_fixes::{Edit, TextRange};
 
 // Whether a range begins and ends in the text, between two characters.
 fn is_in_text(text: &str, range: TextRange) -> bool

@@ -1,9 +1,9 @@
 //! How long an edited text is.
 ghost use Rattle.std.specs.Prelude.{◌≡◌, ◌+◌, ◌<◌, ◌≤◌, ◌^◌, length, IfNone, IfSome};
-ghost use Rattle.law_fixes.specs.Edited.{edited, put_by};
+ghost use Rattle.law_type_fixes.specs.law_fixes.Edited.{edited, put_by};
 ghost use Rattle.fix_edit.specs.Faults.{AreGood};
 
-use lint_base::Edit;
+use law_type_fixes::Edit;
 
 /// What an edit puts in the place of its range.
 pub fn put_by(edit: &Edit) -> &str

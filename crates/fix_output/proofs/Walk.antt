@@ -1,15 +1,15 @@
 -- One file after another.
 use Rattle.std.proofs.Common.{◌≡◌, ℕ, zero, suc, ◌+◌, ◌<◌, ◌≤◌, Bool, true, false, List, [], ◌∷◌, length, get_or, take, refl, sym, ◌∙◌, subst, arith}
 use Rattle.std.proofs.lemmas.Option.{slice_get_read}
-use Rattle.file_store.specs.Contents.{Content, KeepsContents}
-use Rattle.file_write.specs.declared.writer.WriteError.{WriteError}
-use Rattle.file_write.specs.declared.writer.WriteError.TheVariants as error
-use Rattle.file_write.specs.Writes.{IsRefusal}
+use Rattle.devices.specs.Contents.{Content, KeepsContents}
+use Rattle.devices.specs.declared.writer.WriteError.{WriteError}
+use Rattle.devices.specs.declared.writer.WriteError.TheVariants as error
+use Rattle.devices.specs.Writes.{IsRefusal}
 use Rattle.fix_output.specs.declared.file.FixedFile.{FixedFile}
 use Rattle.fix_output.specs.Differences.{HasDiffIf, HasDiffs, is_changed}
 use Rattle.fix_output.specs.declared.write.WriteStop.{WriteStop}
 use Rattle.fix_output.specs.Writing.{AreWritten, HasStopped, IsWrittenIf, IsWrittenUpTo, stop_at}
-use Rattle.squawk_stream.specs.Faults.{Rose}
+use Rattle.devices.specs.Faults.{Rose}
 
 -- the differences of the first files, and of one more
 pub diffs_more : (files : List FixedFile) (i : ℕ) (file : FixedFile) (first before after : List ℕ) → i < length files → file ≡ get_or files i file

@@ -1,14 +1,14 @@
 -- What is written of files in which fixes were made.
 use Rattle.std.specs.Prelude.{◌≡◌, ℕ, Bool, true, false, List, [], ◌∷◌, slice_get, take, Some}
-use Rattle.file_store.specs.Contents.{Content, KeepsContents}
-use Rattle.file_write.specs.declared.writer.WriteError.{WriteError}
-use Rattle.file_write.specs.declared.writer.WriteError.TheVariants as error
-use Rattle.file_write.specs.Writes.{Writes}
+use Rattle.devices.specs.Contents.{Content, KeepsContents}
+use Rattle.devices.specs.declared.writer.WriteError.{WriteError}
+use Rattle.devices.specs.declared.writer.WriteError.TheVariants as error
+use Rattle.devices.specs.Writes.{Writes}
 use Rattle.fix_output.specs.declared.file.FixedFile.{FixedFile}
 use Rattle.fix_output.specs.declared.write.WriteStop.{WriteStop}
 use Rattle.fix_output.specs.declared.write.WriteStop.TheVariants.{Fault, NoMemory}
 use Rattle.fix_output.specs.Differences.{is_changed}
-use Rattle.squawk_stream.specs.Faults.{Rose}
+use Rattle.devices.specs.Faults.{Rose}
 
 -- a file that is changed has its new text, and nothing is written of another one
 abbrev pub IsWrittenIf : Bool → FixedFile → (List ℕ → Content) → (List ℕ → Content) → Type 0

@@ -3,9 +3,9 @@ ghost use Rattle.std.specs.Prelude.{OnOk};
 ghost use Rattle.fix_output.specs.Differences as spec;
 
 use crate::file::{FixedFile, is_changed};
+use devices::NoMemory;
 use std::alloc::Global;
 use text_diff::push_diff;
-use text_pos::NoMemory;
 
 // Adds the difference of a file, if it is changed.
 fn push_if(to: &mut Vec<u8>, alloc: Global, file: &FixedFile) -> Result<(), NoMemory>

@@ -2,8 +2,7 @@
 ghost use Rattle.std.specs.Prelude.{◌≡◌};
 ghost use Rattle.fix_output.specs.Differences.{is_changed};
 
-use lint_base::Text;
-use other_fix::OtherFix;
+use other_fix::{OtherFix, Text};
 
 /// A file, and what is made of it.
 #[derive(Debug, Drop)]

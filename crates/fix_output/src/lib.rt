@@ -10,3 +10,7 @@ mod write;
 pub use diffs::push_diffs;
 pub use file::FixedFile;
 pub use write::{WriteStop, write_changed};
+
+// What crates above reach through this one.
+pub use devices::{FileError, FileStore, FileWriter, NoMemory, Sink, Source, TextSize, write_all};
+pub use other_fix::{OtherFix, Text};

@@ -1,12 +1,12 @@
 //! Files that are written.
 ghost use Rattle.std.specs.Prelude.{◌≡◌, ◌≤◌, true, IfErr, OnErr, OnOk};
-ghost use Rattle.file_store.specs.Contents.{KeepsContents};
-ghost use Rattle.file_write.specs.Writes.{IsRefusal};
+ghost use Rattle.devices.specs.Contents.{KeepsContents};
+ghost use Rattle.devices.specs.Writes.{IsRefusal};
 ghost use Rattle.fix_output.specs.Differences.{is_changed};
 ghost use Rattle.fix_output.specs.Writing as spec;
 
 use crate::file::{FixedFile, is_changed};
-use file_write::{FileWriter, WriteError};
+use devices::{FileWriter, WriteError};
 use std::alloc::Global;
 
 /// Why files are not written.

@@ -1,23 +1,23 @@
 -- What came of a name, by how it came.
 use Rattle.std.proofs.Common.{◌≡◌, ◌^◌, inl, inr, subst, sym, ℕ, List, [], Option, Some, None}
 use Rattle.std.specs.Str.{IsUtf8}
-use Rattle.file_store.specs.Contents.{Content, IsBytes}
-use Rattle.file_store.specs.declared.store.FileError.{FileError}
-use Rattle.file_store.specs.declared.store.FileError.TheVariants as error
-use Rattle.file_store.specs.Refused.{MayBeLong, RefusedFits}
+use Rattle.fix_output.specs.devices.Contents.{Content, IsBytes}
+use Rattle.fix_output.specs.devices.declared.store.FileError.{FileError}
+use Rattle.fix_output.specs.devices.declared.store.FileError.TheVariants as error
+use Rattle.fix_output.specs.devices.Refused.{MayBeLong, RefusedFits}
 use Rattle.fix_run.specs.declared.outcome.FileOutcome.{FileOutcome}
 use Rattle.fix_run.specs.declared.outcome.FileOutcome.TheVariants as outcome
 use Rattle.fix_run.specs.declared.fixer.TextOutcome.TheVariants.{Fixed, Refused}
 use Rattle.fix_run.specs.Inputs.{input_content}
 use Rattle.fix_run.specs.Outcomes.{Answers, IsOutcome, IsNoText, IsOfBytes, IsOfError, IsOfStop, IsOfText, IsStoppedBy}
 use Rattle.gate_files.specs.Read.{IsUnread, IsUnreadBy}
-use Rattle.source_file.specs.declared.refusal.Refusal.{Refusal}
-use Rattle.squawk_run.proofs.Runs.{took_fits}
-use Rattle.squawk_run.specs.declared.stop.Stop.{Stop}
-use Rattle.squawk_run.specs.declared.stop.Stop.TheVariants.{BadArguments, NotUtf8, TooLong, ReadFault, WriteFault, NoMemory}
-use Rattle.squawk_run.specs.Ends.{ReadFor, SourceCause, Stopped}
-use Rattle.squawk_stream.specs.Reading.{Took}
-use Rattle.squawk_words.specs.Words.{Text}
+use Rattle.gate_files.specs.source_file.declared.refusal.Refusal.{Refusal}
+use Rattle.fix_words.proofs.of_squawk_run.Runs.{took_fits}
+use Rattle.fix_words.specs.squawk_run.declared.stop.Stop.{Stop}
+use Rattle.fix_words.specs.squawk_run.declared.stop.Stop.TheVariants.{BadArguments, NotUtf8, TooLong, ReadFault, WriteFault, NoMemory}
+use Rattle.fix_words.specs.squawk_run.Ends.{ReadFor, SourceCause, Stopped}
+use Rattle.fix_output.specs.devices.Reading.{Took}
+use Rattle.gate_files.specs.squawk_words.Words.{Text}
 
 module _ (answers : Answers) (content : Content) (before now : ℕ) (name : Text) where
   -- ---- a text

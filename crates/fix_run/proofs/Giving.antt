@@ -1,7 +1,7 @@
 -- Why something was not printed.
 use Rattle.std.proofs.Common.{◌≡◌, ◌∙◌, ◌<◌, ℕ, List, Option, Some, ap, length, refl, sym}
 use Rattle.std.proofs.lemmas.Option.{slice_get_within}
-use Rattle.file_store.specs.Contents.{Content, KeepsContents}
+use Rattle.fix_output.specs.devices.Contents.{Content, KeepsContents}
 use Rattle.fix_output.specs.declared.file.FixedFile.{FixedFile}
 use Rattle.fix_output.specs.declared.write.WriteStop.TheVariants.{Fault}
 use Rattle.fix_output.specs.Writing.{HasStopped, IsWrittenUpTo}
@@ -9,9 +9,9 @@ use Rattle.fix_run.specs.declared.stop.FixStop.{FixStop}
 use Rattle.fix_run.specs.declared.stop.FixStop.TheVariants.{Any, File}
 use Rattle.fix_run.specs.Giving.{AreDiffs, StopsDiffs, StopsFiles, StopsWriting}
 use Rattle.fix_run.specs.Stops.{IsAny, IsFailedAt, failed_line}
-use Rattle.squawk_run.specs.declared.stop.Stop.{Stop}
-use Rattle.squawk_run.specs.declared.stop.Stop.TheVariants.{BadArguments, NotUtf8, TooLong, ReadFault, WriteFault, NoMemory}
-use Rattle.squawk_words.specs.Words.{Text}
+use Rattle.fix_words.specs.squawk_run.declared.stop.Stop.{Stop}
+use Rattle.fix_words.specs.squawk_run.declared.stop.Stop.TheVariants.{BadArguments, NotUtf8, TooLong, ReadFault, WriteFault, NoMemory}
+use Rattle.gate_files.specs.squawk_words.Words.{Text}
 
 pub diffs_stopped : (files : List FixedFile) (bytes : List ℕ) (old new : Option (List ℕ)) (before now : ℕ) (stop : Stop) → AreDiffs files bytes
     → StopsWriting stop bytes old new before now → StopsDiffs stop files old new before now

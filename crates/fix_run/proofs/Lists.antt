@@ -4,17 +4,17 @@ use Rattle.std.proofs.lemmas.List.{take_all}
 use Rattle.std.proofs.lemmas.List.Elements.{All-push}
 use Rattle.std.proofs.lemmas.Option.{slice_get_within}
 use Rattle.std.specs.Prelude.{slice_get}
-use Rattle.file_store.specs.Contents.{Content, KeepsContents}
+use Rattle.fix_output.specs.devices.Contents.{Content, KeepsContents}
 use Rattle.fix_output.specs.declared.file.FixedFile.{FixedFile}
 use Rattle.fix_run.specs.declared.outcome.FileOutcome.{FileOutcome}
 use Rattle.fix_run.specs.declared.outcome.FileOutcome.TheVariants as outcome
 use Rattle.fix_run.specs.Outcomes.{Answers, AreOutcomes, IsOutcome, HaveOutcomes, IsSound, IsSoundOutcome, IsSoundFile, fixed_of, unread_of}
 use Rattle.gate_files.specs.declared.read.Unread.{Unread}
 use Rattle.gate_files.specs.Read.{IsUnread}
-use Rattle.source_file.specs.declared.refusal.Refusal.{Refusal}
-use Rattle.source_file.specs.declared.refusal.Refusal.TheVariants as refusal
-use Rattle.squawk_stream.specs.Faults.{Rose}
-use Rattle.squawk_words.specs.Words.{Text}
+use Rattle.gate_files.specs.source_file.declared.refusal.Refusal.{Refusal}
+use Rattle.gate_files.specs.source_file.declared.refusal.Refusal.TheVariants as refusal
+use Rattle.fix_output.specs.devices.Faults.{Rose}
+use Rattle.gate_files.specs.squawk_words.Words.{Text}
 
 -- ---- a longer time
 

@@ -1,8 +1,8 @@
 -- A run over files that were used before.
 use Rattle.std.proofs.Common.{◌≤◌, arith, ℕ, Bool, true, false, List, Option}
-use Rattle.checked_file.specs.declared.status.Status.{Status}
-use Rattle.file_choice.specs.Choice.{chosen_of}
-use Rattle.file_store.specs.Contents.{Content, KeepsContents}
+use Rattle.gate_files.specs.checked_file.declared.status.Status.{Status}
+use Rattle.gate_files.specs.file_choice.Choice.{chosen_of}
+use Rattle.fix_output.specs.devices.Contents.{Content, KeepsContents}
 use Rattle.fix_output.specs.declared.file.FixedFile.{FixedFile}
 use Rattle.fix_run.specs.declared.stop.FixStop.{FixStop}
 use Rattle.fix_run.specs.Giving.{Sinks}
@@ -12,8 +12,8 @@ use Rattle.fix_run.specs.Runs.{AllOutcomes, AllOutcomesBy, Early, FilesOutcomes,
 use Rattle.fix_run.proofs.Lists.{have_moved}
 use Rattle.fix_words.specs.declared.request.Request.{Request}
 use Rattle.gate_files.specs.declared.read.Unread.{Unread}
-use Rattle.sql_files.proofs.Moved.{named_moved}
-use Rattle.squawk_words.specs.Words.{Text}
+use Rattle.gate_files.proofs.of_sql_files.Moved.{named_moved}
+use Rattle.gate_files.specs.squawk_words.Words.{Text}
 
 module _ (A : Answers) (content now : Text → Content) (before first last : ℕ) (left : Option (List ℕ)) (input input_now : ℕ) (patterns : List Text)
     (kept : KeepsContents content now) (later : before ≤ first) where

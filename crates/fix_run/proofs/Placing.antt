@@ -4,7 +4,7 @@ use Rattle.std.proofs.lemmas.List.{length-take-le}
 use Rattle.std.proofs.lemmas.Str.{IsCharBoundary-end, utf8_valid_len_le}
 use Rattle.std.specs.Str.{IsCharBoundary}
 use Rattle.std.specs.Str.Lossy.{utf8_valid_len}
-use Rattle.checked_file.specs.Files.{readable_of}
+use Rattle.gate_files.specs.checked_file.Files.{readable_of}
 
 pub end_in : (bytes : List ℕ) (at : ℕ) → at ≡ utf8_valid_len bytes → IsCharBoundary (readable_of bytes) at
 end_in bytes at e =

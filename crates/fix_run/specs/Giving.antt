@@ -3,11 +3,11 @@ use Rattle.std.specs.Prelude.{◌&&◌, ◌≡◌, ℕ, Bool, not, List, [], ◌
 use Rattle.std.specs.declared.option.Option.{Option}
 use Rattle.std.specs.Io.KnownBytes.{Appends, Keeps}
 use Rattle.std.specs.List.{list_any}
-use Rattle.checked_file.specs.declared.status.Status.{Status}
-use Rattle.checked_file.specs.declared.status.Status.TheVariants.{Clean, Found}
-use Rattle.checked_file.specs.Answers.{refused_status}
-use Rattle.checked_file.specs.Statuses.{worse}
-use Rattle.file_store.specs.Contents.{Content, KeepsContents}
+use Rattle.gate_files.specs.checked_file.declared.status.Status.{Status}
+use Rattle.gate_files.specs.checked_file.declared.status.Status.TheVariants.{Clean, Found}
+use Rattle.gate_files.specs.checked_file.Answers.{refused_status}
+use Rattle.gate_files.specs.checked_file.Statuses.{worse}
+use Rattle.fix_output.specs.devices.Contents.{Content, KeepsContents}
 use Rattle.fix_output.specs.declared.file.FixedFile.{FixedFile}
 use Rattle.fix_output.specs.Differences.{HasDiffs, is_changed}
 use Rattle.fix_output.specs.Writing.{AreWritten, IsWrittenUpTo, SomeAreWritten}
@@ -18,19 +18,19 @@ use Rattle.fix_run.specs.declared.stop.FixStop.TheVariants.{Any, File}
 use Rattle.fix_run.specs.Inputs.{reads_input}
 use Rattle.fix_run.specs.Stops.{IsAny, failed_line}
 use Rattle.fix_words.specs.declared.request.Request.{Request}
-use Rattle.lint_base.specs.Rules as rules
-use Rattle.source_file.specs.File.{FileValue}
+use Rattle.fix_output.specs.lint_base.Rules as rules
+use Rattle.gate_files.specs.source_file.File.{FileValue}
 use Rattle.gate_files.specs.declared.read.Unread.{Unread}
-use Rattle.other_fix.specs.declared.other.OtherFix.{OtherFix}
-use Rattle.report_lines.specs.Concise.{concise, place_part}
-use Rattle.report_lines.specs.declared.concise.Order.TheVariants.{RuleFirst}
-use Rattle.source_file.specs.declared.level.Level.TheVariants.{Error}
-use Rattle.source_file.specs.Refusals.{message_of, name_of, place_of}
-use Rattle.squawk_run.specs.declared.stop.Stop.{Stop}
-use Rattle.squawk_run.specs.declared.stop.Stop.TheVariants.{BadArguments, NotUtf8, TooLong, ReadFault, WriteFault, NoMemory}
-use Rattle.squawk_stream.specs.Faults.{Rose}
-use Rattle.squawk_stream.specs.Parts.{AppendsPart}
-use Rattle.squawk_words.specs.Words.{Text}
+use Rattle.fix_output.specs.other_fix.declared.other.OtherFix.{OtherFix}
+use Rattle.fix_words.specs.report_lines.Concise.{concise, place_part}
+use Rattle.fix_words.specs.report_lines.declared.concise.Order.TheVariants.{RuleFirst}
+use Rattle.gate_files.specs.source_file.declared.level.Level.TheVariants.{Error}
+use Rattle.gate_files.specs.source_file.Refusals.{message_of, name_of, place_of}
+use Rattle.fix_words.specs.squawk_run.declared.stop.Stop.{Stop}
+use Rattle.fix_words.specs.squawk_run.declared.stop.Stop.TheVariants.{BadArguments, NotUtf8, TooLong, ReadFault, WriteFault, NoMemory}
+use Rattle.fix_output.specs.devices.Faults.{Rose}
+use Rattle.fix_output.specs.devices.Parts.{AppendsPart}
+use Rattle.gate_files.specs.squawk_words.Words.{Text}
 
 -- ---- the notes about fixes that are not made
 

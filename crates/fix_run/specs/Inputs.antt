@@ -1,8 +1,8 @@
 -- What a run reads.
 use Rattle.std.specs.Prelude.{ℕ, Bool, true, false, List, [], ◌∷◌, Option, Some, None, codes}
 use Rattle.std.specs.Str.{bytes_eq}
-use Rattle.file_store.specs.Contents.{Content, Unknown, File}
-use Rattle.squawk_words.specs.Words.{Text}
+use Rattle.fix_output.specs.devices.Contents.{Content, Unknown, File}
+use Rattle.gate_files.specs.squawk_words.Words.{Text}
 
 -- no file is named, or `-` alone
 abbrev pub reads_input : List Text → Bool

@@ -1,22 +1,22 @@
 -- What comes of a file.
 use Rattle.std.specs.Prelude.{◌≡◌, ◌<◌, ◌≤◌, ◌^◌, ◌⊎◌, ℕ, All, List, [], ◌∷◌, length}
 use Rattle.std.specs.Str.{IsCharBoundary, IsUtf8}
-use Rattle.file_store.specs.Contents.{Content, IsBytes}
-use Rattle.file_store.specs.declared.store.FileError.{FileError}
+use Rattle.fix_output.specs.devices.Contents.{Content, IsBytes}
+use Rattle.fix_output.specs.devices.declared.store.FileError.{FileError}
 use Rattle.fix_output.specs.declared.file.FixedFile.{FixedFile}
 use Rattle.fix_run.specs.declared.outcome.FileOutcome.{FileOutcome}
 use Rattle.fix_run.specs.declared.outcome.FileOutcome.TheVariants as outcome
 use Rattle.fix_run.specs.declared.fixer.TextOutcome.{TextOutcome}
 use Rattle.fix_run.specs.declared.fixer.TextOutcome.TheVariants.{Fixed, Refused}
-use Rattle.other_fix.specs.declared.other.OtherFix.{OtherFix}
+use Rattle.fix_output.specs.other_fix.declared.other.OtherFix.{OtherFix}
 use Rattle.gate_files.specs.declared.read.Unread.{Unread}
 use Rattle.gate_files.specs.Read.{IsNotUtf8, IsUnread, IsUnreadBy}
-use Rattle.source_file.specs.declared.refusal.Refusal.{Refusal}
-use Rattle.source_file.specs.declared.refusal.Refusal.TheVariants as refusal
-use Rattle.source_file.specs.Refusals.{place_of}
-use Rattle.squawk_run.specs.declared.stop.Stop.{Stop}
-use Rattle.squawk_run.specs.declared.stop.Stop.TheVariants.{BadArguments, NotUtf8, TooLong, ReadFault, WriteFault, NoMemory}
-use Rattle.squawk_words.specs.Words.{Text}
+use Rattle.gate_files.specs.source_file.declared.refusal.Refusal.{Refusal}
+use Rattle.gate_files.specs.source_file.declared.refusal.Refusal.TheVariants as refusal
+use Rattle.gate_files.specs.source_file.Refusals.{place_of}
+use Rattle.fix_words.specs.squawk_run.declared.stop.Stop.{Stop}
+use Rattle.fix_words.specs.squawk_run.declared.stop.Stop.TheVariants.{BadArguments, NotUtf8, TooLong, ReadFault, WriteFault, NoMemory}
+use Rattle.gate_files.specs.squawk_words.Words.{Text}
 
 -- what comes of which text
 abbrev pub Answers : Type 1

@@ -2,9 +2,9 @@
 use Rattle.std.specs.Prelude.{◌≡◌, ℕ, Bool, true, false, List, [], ◌∷◌}
 use Rattle.std.specs.declared.option.Option.{Option}
 use Rattle.std.specs.Io.KnownBytes.{Keeps}
-use Rattle.checked_file.specs.declared.status.Status.{Status}
-use Rattle.file_choice.specs.Choice.{chosen_of}
-use Rattle.file_store.specs.Contents.{Content, KeepsContents}
+use Rattle.gate_files.specs.checked_file.declared.status.Status.{Status}
+use Rattle.gate_files.specs.file_choice.Choice.{chosen_of}
+use Rattle.fix_output.specs.devices.Contents.{Content, KeepsContents}
 use Rattle.fix_output.specs.declared.file.FixedFile.{FixedFile}
 use Rattle.fix_run.specs.declared.stop.FixStop.{FixStop}
 use Rattle.fix_run.specs.declared.stop.FixStop.TheVariants.{Any}
@@ -15,8 +15,8 @@ use Rattle.fix_words.specs.declared.request.Request.{Request}
 use Rattle.gate_files.specs.declared.order.Order.TheVariants.{Given}
 use Rattle.gate_files.specs.declared.read.Unread.{Unread}
 use Rattle.gate_files.specs.Named.{AreFilesOf}
-use Rattle.squawk_run.specs.declared.stop.Stop.TheVariants.{NoMemory}
-use Rattle.squawk_words.specs.Words.{Text}
+use Rattle.fix_words.specs.squawk_run.declared.stop.Stop.TheVariants.{NoMemory}
+use Rattle.gate_files.specs.squawk_words.Words.{Text}
 
 -- ---- what comes of the files
 

@@ -3,9 +3,9 @@ use Rattle.std.specs.Prelude.{◌≡◌, ◌++◌, ℕ, List, Some, codes, slice
 use Rattle.fix_output.specs.declared.file.FixedFile.{FixedFile}
 use Rattle.fix_run.specs.declared.stop.FixStop.{FixStop}
 use Rattle.fix_run.specs.declared.stop.FixStop.TheVariants.{Any, File}
-use Rattle.source_file.specs.Escaped.{escaped}
-use Rattle.squawk_run.specs.declared.stop.Stop.{Stop}
-use Rattle.squawk_run.specs.declared.stop.Stop.TheVariants.{NoMemory}
+use Rattle.gate_files.specs.source_file.Escaped.{escaped}
+use Rattle.fix_words.specs.squawk_run.declared.stop.Stop.{Stop}
+use Rattle.fix_words.specs.squawk_run.declared.stop.Stop.TheVariants.{NoMemory}
 
 -- `error: migrations/2.sql: write failed`
 abbrev pub failed_line : List ℕ → List ℕ

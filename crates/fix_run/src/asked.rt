@@ -3,20 +3,15 @@ ghost use Rattle.std.specs.Prelude.{◌≡◌, All, IfOk};
 ghost use Rattle.fix_run.specs.Outcomes as spec;
 ghost use Rattle.fix_run.specs.Inputs.{input_content, input_name, reads_input};
 ghost use Rattle.fix_run.specs.Runs.{AllOutcomes, FilesOutcomes, InputOutcomes};
-ghost use Rattle.squawk_run.specs.Stops.{IsReadStop};
+ghost use Rattle.fix_words.specs.squawk_run.Stops.{IsReadStop};
 
 use crate::files::{Files, fix_files, keep, no_files};
 use crate::fixer::Fixer;
 use crate::outcome::{FileOutcome, of_bytes, unread};
-use file_choice::chosen;
-use file_store::FileStore;
-use gate_files::{Order, named_files};
-use source_file::Refusal;
-use squawk_run::{Stop, read_input};
-use squawk_stream::Source;
-use squawk_words::Words;
+use fix_output::{FileStore, NoMemory, Source};
+use fix_words::{Stop, read_input};
+use gate_files::{Order, Refusal, Words, chosen, named_files};
 use std::alloc::Global;
-use text_pos::NoMemory;
 
 // What the input is called.
 const NAME: &str = "stdin";

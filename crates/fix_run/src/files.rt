@@ -1,16 +1,13 @@
 //! Files, one by one.
 ghost use Rattle.std.specs.Prelude.{◌≡◌, ◌≤◌, ◌++◌, ◌∷◌, [], All, IfOk, OnOk};
-ghost use Rattle.file_store.specs.Contents.{KeepsContents};
+ghost use Rattle.fix_output.specs.devices.Contents.{KeepsContents};
 ghost use Rattle.fix_run.specs.Outcomes as spec;
 
 use crate::fixer::Fixer;
 use crate::outcome::{FileOutcome, fix_file};
-use file_store::FileStore;
-use fix_output::FixedFile;
-use gate_files::Unread;
-use squawk_words::Words;
+use fix_output::{FileStore, FixedFile, NoMemory};
+use gate_files::{Unread, Words};
 use std::alloc::Global;
-use text_pos::NoMemory;
 
 /// What came of files: those of which something is made, and the others, both in order.
 #[derive(Drop)]

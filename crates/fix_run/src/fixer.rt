@@ -2,11 +2,9 @@
 ghost use Rattle.std.specs.Prelude.{ℕ, ◌<◌, ◌^◌, IfOk, List, length};
 ghost use Rattle.fix_run.specs.Outcomes.{IsPlacedIn};
 
-use lint_base::Text;
-use other_fix::OtherFix;
-use source_file::Refusal;
+use fix_output::{NoMemory, OtherFix, Text};
+use gate_files::Refusal;
 use std::alloc::Global;
-use text_pos::NoMemory;
 
 /// What comes of a text.
 #[derive(Drop)]

@@ -7,13 +7,11 @@ ghost use Rattle.fix_run.specs.Stops.{IsAny};
 
 use crate::asked::reads_input;
 use crate::stop::{FixStop, failed_at};
-use file_write::FileWriter;
-use fix_output::{FixedFile, WriteStop, push_diffs, write_changed};
-use fix_words::Request;
-use squawk_run::Stop;
-use squawk_stream::{Sink, write_all};
+use fix_output::{
+    FileWriter, FixedFile, NoMemory, Sink, WriteStop, push_diffs, write_all, write_changed,
+};
+use fix_words::{Request, Stop};
 use std::alloc::Global;
-use text_pos::NoMemory;
 
 /// What becomes of what is made.
 #[derive(Clone, Copy, Debug, PartialEq, Eq)]

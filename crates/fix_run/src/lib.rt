@@ -17,3 +17,9 @@ mod stop;
 pub use fixer::{Fixer, TextOutcome};
 pub use run::{Done, fix};
 pub use stop::FixStop;
+
+// What crates above reach through this one.
+pub use fix_words::{
+    Asked, CodeChoices, Fault, HELP, Request, fault_line, read_asked, read_code_choices,
+};
+pub use gate_files::Status;

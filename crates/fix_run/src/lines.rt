@@ -4,13 +4,10 @@ ghost use Rattle.std.specs.Str.{IsCharBoundary};
 ghost use Rattle.fix_run.specs.Giving as spec;
 ghost use Rattle.fix_run.specs.Outcomes.{ArePlacedIn, IsSound, IsSoundFile};
 
-use fix_output::FixedFile;
-use gate_files::Unread;
-use other_fix::OtherFix;
-use report_lines::{Order, push, push_concise, push_place};
-use source_file::{Level, SourceFile};
+use fix_output::{FixedFile, NoMemory, OtherFix};
+use fix_words::{Order, push, push_concise, push_place};
+use gate_files::{Level, SourceFile, Unread};
 use std::alloc::Global;
-use text_pos::NoMemory;
 
 // Adds `note[rule]: the fix of first ..`.
 fn push_note_part(to: &mut Vec<u8>, other: OtherFix) -> Result<(), NoMemory>

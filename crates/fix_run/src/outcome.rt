@@ -1,20 +1,14 @@
 //! What comes of a file.
 ghost use Rattle.std.specs.Prelude.{◌≡◌, ◌<◌, ◌≤◌, ◌^◌, IfOk, length};
-ghost use Rattle.file_store.specs.Contents.{KeepsContents};
+ghost use Rattle.fix_output.specs.devices.Contents.{KeepsContents};
 ghost use Rattle.fix_run.specs.Outcomes as spec;
 ghost use Rattle.gate_files.specs.Read.{IsUnreadAs, IsUnreadBy};
 
 use crate::fixer::{Fixer, TextOutcome};
-use checked_file::readable;
-use file_store::{FileError, FileStore};
-use fix_output::FixedFile;
-use gate_files::Unread;
-use lint_base::Text;
-use other_fix::OtherFix;
+use fix_output::{FileError, FileStore, FixedFile, NoMemory, OtherFix, Text, TextSize};
+use gate_files::{Refusal, Unread, readable};
 use simdutf8::compat::from_utf8;
-use source_file::Refusal;
 use std::alloc::Global;
-use text_pos::{NoMemory, TextSize};
 
 /// What came of a file.
 #[derive(Drop)]

@@ -11,15 +11,10 @@ use crate::give::{delivery_of, give};
 use crate::lines::lines_of;
 use crate::status::status_of;
 use crate::stop::FixStop;
-use checked_file::Status;
-use file_store::FileStore;
-use file_write::FileWriter;
-use fix_words::Request;
-use squawk_run::Stop;
-use squawk_stream::{Sink, Source};
-use squawk_words::Words;
+use fix_output::{FileStore, FileWriter, NoMemory, Sink, Source};
+use fix_words::{Request, Stop};
+use gate_files::{Status, Words};
 use std::alloc::Global;
-use text_pos::NoMemory;
 
 /// What a run says in the end.
 #[derive(Drop)]

@@ -1,14 +1,12 @@
 //! How a run ends that nothing stops.
 ghost use Rattle.std.specs.Prelude.{◌≡◌};
 ghost use Rattle.std.specs.List.{list_any};
-ghost use Rattle.checked_file.specs.Answers.{refused_status};
+ghost use Rattle.gate_files.specs.checked_file.Answers.{refused_status};
 ghost use Rattle.fix_output.specs.Differences.{is_changed};
 ghost use Rattle.fix_run.specs.Giving as spec;
 
-use checked_file::{Answer, Status};
 use fix_output::FixedFile;
-use gate_files::Unread;
-use source_file::Refusal;
+use gate_files::{Answer, Refusal, Status, Unread};
 
 // Whether a text is another one now.
 fn is_changed(file: &FixedFile) -> bool

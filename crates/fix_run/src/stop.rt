@@ -2,12 +2,10 @@
 ghost use Rattle.std.specs.Prelude.{◌≡◌, ◌<◌, IfOk, length};
 ghost use Rattle.fix_run.specs.Stops as spec;
 
-use fix_output::FixedFile;
-use report_lines::push;
-use source_file::push_escaped;
-use squawk_run::Stop;
+use fix_output::{FixedFile, NoMemory};
+use fix_words::{Stop, push};
+use gate_files::push_escaped;
 use std::alloc::Global;
-use text_pos::NoMemory;
 
 /// Why a run stops.
 #[derive(Debug, Drop)]

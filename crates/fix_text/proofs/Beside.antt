@@ -6,13 +6,13 @@ use Rattle.std.proofs.lemmas.Option.{slice_get-get_or, slice_get_read}
 use Rattle.std.specs.Prelude.{◌&&◌, reverse, slice_get, take}
 use Rattle.std.specs.List.{find}
 use Rattle.std.specs.Str.{IsCharBoundary}
-use Rattle.sql_token.specs.Token.{Text}
-use Rattle.sql_tree.specs.Statement.{Tree}
-use Rattle.lint_base.specs.declared.settings.LinterSettings.{LinterSettings}
-use Rattle.lint_base.specs.declared.violation.Violation.{Violation}
+use Rattle.fix_class.specs.sql_token.Token.{Text}
+use Rattle.fix_class.specs.sql_tree.Statement.{Tree}
+use Rattle.other_fix.specs.lint_base.declared.settings.LinterSettings.{LinterSettings}
+use Rattle.other_fix.specs.lint_base.declared.violation.Violation.{Violation}
 use Rattle.other_fix.specs.declared.other.OtherFix.{OtherFix}
-use Rattle.squawk_linter.specs.Placed.{IsPlaced}
-use Rattle.statement_place.specs.Statements.{number_behind}
+use Rattle.law_next_fix.specs.squawk_linter.Placed.{IsPlaced}
+use Rattle.fix_class.specs.statement_place.Statements.{number_behind}
 use Rattle.fix_text.specs.declared.others.Numbered.{Numbered}
 use Rattle.fix_text.specs.Others.{IsNumbered, is_beside, is_made, is_offered, is_same_part, other_by, other_for, others_back, others_of, replaces, with_other}
 

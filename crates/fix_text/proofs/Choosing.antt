@@ -1,10 +1,10 @@
 -- The first fix of the reports that are allowed.
 use Rattle.std.proofs.Common.{◌≡◌, Bool, true, false, cond, List, ◌∷◌, refl, Option, Some, None, filter}
 use Rattle.std.specs.Option.{option_map, option_or}
-use Rattle.sql_token.specs.Token.{Text}
-use Rattle.lint_base.specs.declared.violation.Violation.{Violation}
-use Rattle.lint_base.specs.Fixes.{FixValue}
-use Rattle.fix_choice.specs.Fits.{first_fitting, fitting, listed_fix, next_text, with_fix}
+use Rattle.fix_class.specs.sql_token.Token.{Text}
+use Rattle.other_fix.specs.lint_base.declared.violation.Violation.{Violation}
+use Rattle.other_fix.specs.lint_base.Fixes.{FixValue}
+use Rattle.law_next_fix.specs.fix_choice.Fits.{first_fitting, fitting, listed_fix, next_text, with_fix}
 use Rattle.fix_text.specs.Allowed.{made_if}
 
 -- a report with no fix to make is skipped

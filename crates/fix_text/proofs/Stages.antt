@@ -1,20 +1,20 @@
 -- The stages of repeated fixing by classes.
 use Rattle.std.proofs.Common.{◌≡◌, ℕ, ◌+◌, ◌<◌, ◌≤◌, Bool, List, sym, ap, ◌∙◌, subst, arith, add-one, Option, Some, None}
 use Rattle.std.proofs.lemmas.List.Elements.{All-filter}
-use Rattle.sql_token.specs.Token.{Text}
-use Rattle.sql_tree.specs.Statement.{Tree, IsTree, IsValid}
-use Rattle.sql_tree.proofs.TreeLaws.{one_tree}
-use Rattle.sql_read.specs.Cause.{IsTreeOf}
-use Rattle.lint_base.specs.declared.settings.LinterSettings.{LinterSettings}
-use Rattle.lint_base.specs.declared.violation.Violation.{Violation}
-use Rattle.lint_base.specs.Fixes.{FixValue}
-use Rattle.lint_base.specs.RuleSets.{Rules}
-use Rattle.law_fixes.specs.Edited.{edited}
-use Rattle.law_fix_steps.specs.Step.{Steps, load}
-use Rattle.law_answer_steps.proofs.Leaving.{stays}
-use Rattle.fix_choice.specs.Fits.{first_fitting, next_text, with_fix}
-use Rattle.squawk_linter.specs.Answers.{reports}
-use Rattle.squawk_linter.specs.Reports.{cleared}
+use Rattle.fix_class.specs.sql_token.Token.{Text}
+use Rattle.fix_class.specs.sql_tree.Statement.{Tree, IsTree, IsValid}
+use Rattle.fix_class.proofs.of_sql_tree.TreeLaws.{one_tree}
+use Rattle.law_next_fix.specs.sql_read.Cause.{IsTreeOf}
+use Rattle.other_fix.specs.lint_base.declared.settings.LinterSettings.{LinterSettings}
+use Rattle.other_fix.specs.lint_base.declared.violation.Violation.{Violation}
+use Rattle.other_fix.specs.lint_base.Fixes.{FixValue}
+use Rattle.other_fix.specs.lint_base.RuleSets.{Rules}
+use Rattle.law_next_fix.specs.law_fixes.Edited.{edited}
+use Rattle.law_next_fix.specs.law_fix_steps.Step.{Steps, load}
+use Rattle.law_next_fix.proofs.of_law_answer_steps.Leaving.{stays}
+use Rattle.law_next_fix.specs.fix_choice.Fits.{first_fitting, next_text, with_fix}
+use Rattle.law_next_fix.specs.squawk_linter.Answers.{reports}
+use Rattle.law_next_fix.specs.squawk_linter.Reports.{cleared}
 use Rattle.law_next_fix.specs.Fitting.{FittingFixesStep, IfFitting}
 use Rattle.law_next_fix.proofs.First.{chosen, cleared_again, of_first}
 use Rattle.fix_text.specs.Allowed.{allowed, is_allowed}

@@ -1,13 +1,13 @@
 -- Which fixes the classes allow.
 use Rattle.std.specs.Prelude.{Bool, true, false, List, filter, Option, Some, None, if◌then◌else◌}
-use Rattle.sql_token.specs.Token.{Text}
-use Rattle.sql_tree.specs.Statement.{Tree}
-use Rattle.lint_base.specs.declared.settings.LinterSettings.{LinterSettings}
-use Rattle.lint_base.specs.declared.violation.Violation.{Violation}
-use Rattle.lint_report.specs.declared.fix_class.FixClass.{FixClass}
-use Rattle.lint_report.specs.declared.fix_class.FixClass.TheVariants.{Safe, Unsafe, Template}
+use Rattle.fix_class.specs.sql_token.Token.{Text}
+use Rattle.fix_class.specs.sql_tree.Statement.{Tree}
+use Rattle.other_fix.specs.lint_base.declared.settings.LinterSettings.{LinterSettings}
+use Rattle.other_fix.specs.lint_base.declared.violation.Violation.{Violation}
+use Rattle.fix_class.specs.lint_report.declared.fix_class.FixClass.{FixClass}
+use Rattle.fix_class.specs.lint_report.declared.fix_class.FixClass.TheVariants.{Safe, Unsafe, Template}
 use Rattle.fix_class.specs.Classes.{class_of}
-use Rattle.fix_choice.specs.Fits.{made_for}
+use Rattle.law_next_fix.specs.fix_choice.Fits.{made_for}
 
 -- safe fixes, and unsafe ones where they are asked for; never one that is not offered, or that has a part to be filled in
 abbrev pub is_allowed_class : Bool → Option FixClass → Bool

@@ -1,17 +1,17 @@
 -- Repeated fixing by classes: which texts are reached from a text, and when it has ended.
 use Rattle.std.specs.Prelude.{◌≡◌, ◌≤◌, ℕ, zero, suc, Bool, List, Option, Some, None}
-use Rattle.sql_token.specs.Token.{Text}
-use Rattle.sql_tree.specs.Statement.{Tree}
-use Rattle.sql_read.specs.Cause.{IsTreeOf}
-use Rattle.lint_base.specs.declared.settings.LinterSettings.{LinterSettings}
-use Rattle.lint_base.specs.declared.violation.Violation.{Violation}
-use Rattle.lint_base.specs.Fixes.{FixValue}
-use Rattle.lint_base.specs.RuleSets.{Rules}
-use Rattle.law_fixes.specs.Edited.{edited}
-use Rattle.law_fix_steps.specs.Step.{load}
-use Rattle.fix_choice.specs.Fits.{first_fitting, next_text}
-use Rattle.squawk_linter.specs.Answers.{reports}
-use Rattle.squawk_linter.specs.Reports.{cleared}
+use Rattle.fix_class.specs.sql_token.Token.{Text}
+use Rattle.fix_class.specs.sql_tree.Statement.{Tree}
+use Rattle.law_next_fix.specs.sql_read.Cause.{IsTreeOf}
+use Rattle.other_fix.specs.lint_base.declared.settings.LinterSettings.{LinterSettings}
+use Rattle.other_fix.specs.lint_base.declared.violation.Violation.{Violation}
+use Rattle.other_fix.specs.lint_base.Fixes.{FixValue}
+use Rattle.other_fix.specs.lint_base.RuleSets.{Rules}
+use Rattle.law_next_fix.specs.law_fixes.Edited.{edited}
+use Rattle.law_next_fix.specs.law_fix_steps.Step.{load}
+use Rattle.law_next_fix.specs.fix_choice.Fits.{first_fitting, next_text}
+use Rattle.law_next_fix.specs.squawk_linter.Answers.{reports}
+use Rattle.law_next_fix.specs.squawk_linter.Reports.{cleared}
 use Rattle.fix_text.specs.Allowed.{allowed}
 use Rattle.fix_text.specs.Others.{others_of}
 use Rattle.other_fix.specs.declared.other.OtherFix.{OtherFix}

@@ -1,16 +1,16 @@
 -- Fixes that are not made, since another one changes the same bytes and comes first.
 use Rattle.std.specs.Prelude.{◌≡◌, ◌==◌, ◌&&◌, ◌++◌, Bool, false, List, [], ◌∷◌, reverse, slice_get, Option, Some, None, IfSome, is_some, if◌then◌else◌}
 use Rattle.std.specs.List.{find}
-use Rattle.text_pos.specs.Range.{Range}
-use Rattle.sql_tree.specs.Statement.{Tree}
-use Rattle.lint_base.specs.declared.edit.Edit.{Edit}
-use Rattle.lint_base.specs.declared.settings.LinterSettings.{LinterSettings}
-use Rattle.lint_base.specs.declared.violation.Violation.{Violation}
-use Rattle.lint_base.specs.Fixes.{FixValue}
-use Rattle.law_fix_steps.specs.Listed.{is_listed}
+use Rattle.fix_class.specs.text_pos.Range.{Range}
+use Rattle.fix_class.specs.sql_tree.Statement.{Tree}
+use Rattle.other_fix.specs.lint_base.declared.edit.Edit.{Edit}
+use Rattle.other_fix.specs.lint_base.declared.settings.LinterSettings.{LinterSettings}
+use Rattle.other_fix.specs.lint_base.declared.violation.Violation.{Violation}
+use Rattle.other_fix.specs.lint_base.Fixes.{FixValue}
+use Rattle.law_next_fix.specs.law_fix_steps.Listed.{is_listed}
 use Rattle.fix_class.specs.Classes.{class_of}
 use Rattle.other_fix.specs.declared.other.OtherFix.{OtherFix}
-use Rattle.statement_place.specs.Statements.{number_behind}
+use Rattle.fix_class.specs.statement_place.Statements.{number_behind}
 use Rattle.fix_text.specs.declared.others.Numbered.{Numbered}
 use Rattle.fix_text.specs.Allowed.{is_allowed, made_if}
 

@@ -1,19 +1,15 @@
 //! The next fix that is allowed.
 ghost use Rattle.std.specs.Prelude.{◌≡◌, ◌<◌, ◌^◌, All, IfOk, length, option_map, string_bytes};
-ghost use Rattle.lint_base.specs.declared.settings.LinterSettings.{LinterSettings};
-ghost use Rattle.fix_choice.specs.Fits.{ListedCanBeTried, next_text};
+ghost use Rattle.other_fix.specs.lint_base.declared.settings.LinterSettings.{LinterSettings};
+ghost use Rattle.law_next_fix.specs.fix_choice.Fits.{ListedCanBeTried, next_text};
 ghost use Rattle.fix_class.specs.Known.{AreKnown};
-ghost use Rattle.statement_place.specs.Statements.{number_behind};
+ghost use Rattle.fix_class.specs.statement_place.Statements.{number_behind};
 ghost use Rattle.fix_text.specs.Allowed as spec;
 
-use fix_choice::{is_listed, made_by};
-use fix_class::FixClasses;
-use lint_base::{LinterSettings, Violation};
-use lint_report::FixClass;
-use sql_tree::Parse;
-use statement_place::Cursor;
+use fix_class::{Cursor, FixClass, FixClasses, NoMemory, Parse};
+use law_next_fix::{is_listed, made_by};
+use other_fix::{LinterSettings, Violation};
 use std::alloc::Global;
-use text_pos::NoMemory;
 
 fn is_allowed_class(wide: bool, class: Option<FixClass>) -> bool
     ensures { result ≡ spec.is_allowed_class wide class }

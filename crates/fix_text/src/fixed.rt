@@ -1,27 +1,21 @@
 //! Fixing a text until no fix is left that is allowed and fits.
 ghost use Rattle.std.specs.Prelude.{◌≡◌, ◌↔◌, ◌≤◌, ◌<◌, ◌^◌, ℕ, All, length, Err, IfErr, IfOk, string_bytes};
 ghost use Rattle.std.specs.Str.{IsCharBoundary};
-ghost use Rattle.sql_token.specs.Token.{OpenAt};
-ghost use Rattle.sql_tree.specs.Statement.{IsSyntaxAt};
-ghost use Rattle.sql_read.specs.declared.error.LintError.TheVariants as LintError;
-ghost use Rattle.sql_read.specs.Cause.{ErrOrNoMemory, IsCause};
-ghost use Rattle.squawk_linter.specs.Reports.{cleared};
+ghost use Rattle.fix_class.specs.sql_token.Token.{OpenAt};
+ghost use Rattle.fix_class.specs.sql_tree.Statement.{IsSyntaxAt};
+ghost use Rattle.law_next_fix.specs.sql_read.declared.error.LintError.TheVariants as LintError;
+ghost use Rattle.law_next_fix.specs.sql_read.Cause.{ErrOrNoMemory, IsCause};
+ghost use Rattle.law_next_fix.specs.squawk_linter.Reports.{cleared};
 ghost use Rattle.fix_text.specs.Fixing.{IsFixed, IsFixedText};
 
 use crate::look::{Look, look_at};
 use crate::others::others_in;
-use law_fix_steps::laws::load_is_small;
+use fix_class::{NoMemory, Parse, has_disable_assume_in_transaction};
 use law_next_fix::laws::fitting_fixes_step;
-use lint_base::Violation;
-use lint_ignore::has_disable_assume_in_transaction;
-use other_fix::OtherFix;
-use sql_read::parse;
-use sql_tree::Parse;
-use squawk_linter::laws::second_answer;
-use squawk_linter::{LintError, Linter};
+use law_next_fix::{LintError, Linter, load_is_small, second_answer, sql_read_parse as parse};
+use other_fix::{OtherFix, Violation};
 use std::alloc::Global;
 use std::marker::Model;
-use text_pos::NoMemory;
 
 /// What fixing makes of a text.
 #[derive(Debug, Drop)]

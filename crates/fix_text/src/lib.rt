@@ -11,3 +11,7 @@ mod look;
 mod others;
 
 pub use fixed::{Fixed, fix_text};
+
+// What crates above reach through this one.
+pub use law_next_fix::{LintError, Linter};
+pub use other_fix::{LinterSettings, Names, Text};

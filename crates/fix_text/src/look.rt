@@ -1,15 +1,14 @@
 //! What is found of a text, and what comes of it.
 ghost use Rattle.std.specs.Prelude.{◌≡◌, IfOk, OnOk, option_map, string_bytes};
-ghost use Rattle.sql_tree.specs.Statement.{IsValid};
+ghost use Rattle.fix_class.specs.sql_tree.Statement.{IsValid};
 ghost use Rattle.fix_text.specs.Fixing.{IsLook};
 
 use crate::choose::next_allowed;
+use fix_class::NoMemory;
 use law_next_fix::laws::fitting_fixes_step;
-use lint_base::Violation;
-use sql_read::parse;
-use squawk_linter::{LintError, Linter};
+use law_next_fix::{LintError, Linter, sql_read_parse as parse};
+use other_fix::Violation;
 use std::alloc::Global;
-use text_pos::NoMemory;
 
 /// What is found of a text.
 #[derive(Drop)]

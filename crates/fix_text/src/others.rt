@@ -1,26 +1,21 @@
 //! Fixes that are not made, since another one changes the same bytes and comes first.
 ghost use Rattle.std.specs.Prelude.{◌≡◌, ◌++◌, ◌<◌, ◌^◌, if◌then◌else◌, [], All, IfOk, OnOk, length, slice_get};
 ghost use Rattle.std.specs.Str.{IsCharBoundary};
-ghost use Rattle.lint_base.specs.declared.settings.LinterSettings.{LinterSettings};
-ghost use Rattle.lint_pass.specs.Laws.{IsRead};
-ghost use Rattle.fix_choice.specs.Fits.{ListedCanBeTried};
+ghost use Rattle.other_fix.specs.lint_base.declared.settings.LinterSettings.{LinterSettings};
+ghost use Rattle.law_next_fix.specs.lint_pass.Laws.{IsRead};
+ghost use Rattle.law_next_fix.specs.fix_choice.Fits.{ListedCanBeTried};
 ghost use Rattle.fix_class.specs.Known.{AreKnown};
-ghost use Rattle.statement_place.specs.Statements.{number_behind};
+ghost use Rattle.fix_class.specs.statement_place.Statements.{number_behind};
 ghost use Rattle.fix_text.specs.Others as spec;
 ghost use Rattle.fix_text.specs.Others.{IsNumbered};
-ghost use Rattle.squawk_linter.specs.Answers.{reports};
+ghost use Rattle.law_next_fix.specs.squawk_linter.Answers.{reports};
 
 use crate::choose::made_if;
-use fix_choice::is_listed;
-use fix_class::FixClasses;
+use fix_class::{Cursor, FixClasses, NoMemory, Parse, TextRange};
 use law_next_fix::laws::fitting_fixes_step;
-use lint_base::{Edit, Fix, LinterSettings, Violation};
-use other_fix::OtherFix;
-use sql_tree::Parse;
-use squawk_linter::Linter;
-use statement_place::Cursor;
+use law_next_fix::{Linter, is_listed};
+use other_fix::{Edit, Fix, LinterSettings, OtherFix, Violation};
 use std::alloc::Global;
-use text_pos::{NoMemory, TextRange};
 
 /// A report and the statement that it begins in, by their numbers.
 #[derive(Clone, Copy)]

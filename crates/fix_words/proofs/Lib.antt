@@ -1,1 +1,2 @@
 pub mod Walk
+pub use Rattle.refused_word.proofs.of_squawk_run

@@ -3,8 +3,8 @@ use Rattle.std.proofs.Common.{◌≡◌, ◌+◌, ◌<◌, ap, arith, ℕ, List,
 use Rattle.std.proofs.lemmas.List.{drop_all}
 use Rattle.std.specs.Option.{option_map_or}
 use Rattle.std.specs.Prelude.{slice_get}
-use Rattle.squawk_words.specs.Words.{Text}
-use Rattle.squawk_words.proofs.Places.{drop_at}
+use Rattle.refused_word.specs.squawk_words.Words.{Text}
+use Rattle.refused_word.proofs.of_squawk_words.Places.{drop_at}
 use Rattle.fix_words.specs.declared.step.Reader.{Reader}
 use Rattle.fix_words.specs.Asked.{read_from, unknown_word}
 use Rattle.fix_words.specs.Steps.{step}

@@ -1,10 +1,10 @@
 -- What the words after the program's name ask for.
 use Rattle.std.specs.Prelude.{false, List, [], ◌∷◌, None, drop, if◌then◌else◌}
 use Rattle.std.specs.Option.{option_map_or}
-use Rattle.check_words.specs.declared.fault.WordFault.TheVariants.{UnknownWord, MissingValue}
-use Rattle.check_words.specs.declared.names.Choice.TheVariants as choice
-use Rattle.help_words.specs.Help.{asks_for_help}
-use Rattle.squawk_words.specs.Words.{Text}
+use Rattle.refused_word.specs.check_words.declared.fault.WordFault.TheVariants.{UnknownWord, MissingValue}
+use Rattle.refused_word.specs.check_words.declared.names.Choice.TheVariants as choice
+use Rattle.refused_word.specs.help_words.Help.{asks_for_help}
+use Rattle.refused_word.specs.squawk_words.Words.{Text}
 use Rattle.fix_words.specs.declared.asked.Asked.{Asked}
 use Rattle.fix_words.specs.declared.asked.Asked.TheVariants.{Fix, Help, Refused}
 use Rattle.fix_words.specs.declared.fault.Fault.TheVariants.{Word, Linter}

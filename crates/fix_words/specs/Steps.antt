@@ -1,7 +1,7 @@
 -- What one word adds to what the words before it ask for.
 use Rattle.std.specs.Prelude.{◌||◌, ◌++◌, Bool, true, false, [], ◌∷◌, Option, Some, None, codes, is_some, if◌then◌else◌}
 use Rattle.std.specs.Str.{bytes_eq}
-use Rattle.squawk_words.specs.Words.{Text, after_dashes, is_option, name_in, value_in}
+use Rattle.refused_word.specs.squawk_words.Words.{Text, after_dashes, is_option, name_in, value_in}
 use Rattle.fix_words.specs.declared.request.Request.{Request}
 use Rattle.fix_words.specs.declared.step.Next.{Next}
 use Rattle.fix_words.specs.declared.step.Next.TheVariants.{Any, ConfigValue, LinterValue, File}

@@ -2,10 +2,8 @@
 ghost use Rattle.std.specs.Prelude.{◌≡◌, IfOk};
 ghost use Rattle.fix_words.specs.Faults as spec;
 
-use check_words::WordFault;
-use squawk_words::Words;
+use refused_word::{NoMemory, WordFault, Words};
 use std::alloc::Global;
-use text_pos::NoMemory;
 
 /// Why words are refused.
 #[derive(Drop)]

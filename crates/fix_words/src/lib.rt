@@ -14,3 +14,8 @@ pub use asked::{Asked, read_asked};
 pub use fault::{Fault, fault_line};
 pub use help::HELP;
 pub use request::Request;
+
+// What crates above reach through this one.
+pub use refused_word::{
+    CodeChoices, Order, Stop, push, push_concise, push_place, read_code_choices, read_input,
+};

@@ -6,11 +6,8 @@ use crate::asked::Asked;
 use crate::fault::Fault;
 use crate::request::Request;
 use crate::step::{Next, Reader, step};
-use check_words::{Choice, WordFault};
-use lint_base::Text;
-use squawk_words::Words;
+use refused_word::{Choice, NoMemory, Text, WordFault, Words};
 use std::alloc::Global;
-use text_pos::NoMemory;
 
 // What no word asks for.
 fn start(alloc: Global) -> Reader

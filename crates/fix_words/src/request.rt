@@ -1,7 +1,6 @@
 //! What the words of `fix` ask for.
 
-use lint_base::Text;
-use squawk_words::Words;
+use refused_word::{Text, Words};
 
 /// What the words of `fix` ask for.
 #[derive(Drop)]

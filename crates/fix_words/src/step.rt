@@ -3,10 +3,8 @@ ghost use Rattle.std.specs.Prelude.{◌≡◌, IfOk, OnOk, option_map};
 ghost use Rattle.fix_words.specs.Steps as spec;
 
 use crate::request::Request;
-use lint_base::Text;
-use squawk_words::{after_dashes, is_option, name_in, value_in};
+use refused_word::{NoMemory, Text, after_dashes, is_option, name_in, value_in};
 use std::alloc::Global;
-use text_pos::NoMemory;
 
 /// What the next word is to be.
 #[derive(Clone, Copy, Debug, PartialEq, Eq)]

@@ -2,13 +2,13 @@
 use Rattle.std.proofs.Common.{◌≡◌, refl, subst, sym, ℕ, Bool, true, false, List, [], ◌∷◌, Option, Some, None, Result, Ok, Err, IfOk, IfErr, OnOk}
 use Rattle.std.specs.Io.KnownBytes.{Appends, Keeps}
 use Rattle.std.specs.Prelude.{◌&&◌}
-use Rattle.file_store.specs.Contents.{Content}
-use Rattle.squawk_linter.specs.declared.linter.Linter.{Linter}
-use Rattle.squawk_run.specs.declared.stop.Stop.{Stop as AnyStop}
-use Rattle.squawk_run.specs.declared.stop.Stop.TheVariants.{BadArguments, NotUtf8, TooLong, ReadFault, WriteFault, NoMemory}
-use Rattle.squawk_stream.specs.Faults.{HasCause}
-use Rattle.squawk_stream.specs.Parts.{AppendsPart}
-use Rattle.squawk_words.specs.Words.{Text}
+use Rattle.refused_word.specs.devices.Contents.{Content}
+use Rattle.gate_report.specs.squawk_linter.declared.linter.Linter.{Linter}
+use Rattle.refused_word.specs.squawk_run.declared.stop.Stop.{Stop as AnyStop}
+use Rattle.refused_word.specs.squawk_run.declared.stop.Stop.TheVariants.{BadArguments, NotUtf8, TooLong, ReadFault, WriteFault, NoMemory}
+use Rattle.refused_word.specs.devices.Faults.{HasCause}
+use Rattle.refused_word.specs.devices.Parts.{AppendsPart}
+use Rattle.refused_word.specs.squawk_words.Words.{Text}
 use Rattle.gate_command.specs.declared.failure.Failure.{Failure}
 use Rattle.gate_command.specs.declared.failure.Failure.TheVariants.{Stop, Words}
 use Rattle.gate_command.specs.declared.fault.Fault.{Fault}

@@ -2,16 +2,16 @@
 use Rattle.std.proofs.Common.{◌≡◌, ◌∙◌, refl, subst, sym, Bool, true, false, List, [], ◌∷◌, Ok}
 use Rattle.std.proofs.lemmas.List.Elements.{All-cons, All-nil}
 use Rattle.std.specs.Prelude.{All}
-use Rattle.lint_base.specs.declared.settings.LinterSettings.{LinterSettings}
-use Rattle.lint_base.specs.RuleSets.{Rules}
-use Rattle.sql_token.specs.Token.{Text}
-use Rattle.sql_tree.specs.Statement.{IsTree, Tree}
-use Rattle.squawk_linter.specs.declared.linter.Linter.{Linter}
-use Rattle.gate_machine.specs.declared.verdict.GateWork.{GateWork}
-use Rattle.gate_machine.specs.Laws.{SessionsAgree}
-use Rattle.gate_machine.specs.Run.{EndsOutside}
-use Rattle.gate_verdict.specs.Laws.{AreClean}
-use Rattle.gate_verdict.specs.Verdicts.{ArePassing, IsVerdict}
+use Rattle.refused_word.specs.lint_base.declared.settings.LinterSettings.{LinterSettings}
+use Rattle.refused_word.specs.lint_base.RuleSets.{Rules}
+use Rattle.gate_report.specs.sql_token.Token.{Text}
+use Rattle.gate_report.specs.sql_tree.Statement.{IsTree, Tree}
+use Rattle.gate_report.specs.squawk_linter.declared.linter.Linter.{Linter}
+use Rattle.gate_report.specs.migration_gate.declared.verdict.GateWork.{GateWork}
+use Rattle.gate_report.specs.migration_gate.MachineLaws.{SessionsAgree}
+use Rattle.gate_report.specs.migration_gate.Run.{EndsOutside}
+use Rattle.gate_report.specs.migration_gate.Laws.{AreClean}
+use Rattle.gate_report.specs.migration_gate.Verdicts.{ArePassing, IsVerdict}
 use Rattle.gate_command.specs.Open.{AllEndOutside}
 use Rattle.gate_report.specs.declared.cause.Cause.TheVariants.{Unread, Against, Open}
 use Rattle.gate_command.specs.declared.outcome.Outcome.{Outcome}

@@ -2,11 +2,11 @@
 use Rattle.std.proofs.Common.{◌≡◌, ◌<◌, ◌^◌, arith, subst, sym, ℕ, zero, suc, List, [], ◌∷◌, length, map}
 use Rattle.std.proofs.lemmas.List.Elements.{All-cons, All-nil, All-head, All-tail}
 use Rattle.std.specs.Prelude.{All, slice_index_or}
-use Rattle.file_store.specs.Contents.{Content}
-use Rattle.squawk_words.specs.Words.{Text}
+use Rattle.refused_word.specs.devices.Contents.{Content}
+use Rattle.refused_word.specs.squawk_words.Words.{Text}
 use Rattle.gate_files.specs.declared.read.MigrationFile.{MigrationFile}
 use Rattle.gate_files.specs.Read.{AreRead}
-use Rattle.squawk_linter.specs.declared.linter.Linter.{Linter}
+use Rattle.gate_report.specs.squawk_linter.declared.linter.Linter.{Linter}
 use Rattle.gate_command.specs.declared.outcome.Status.{Status}
 use Rattle.gate_command.specs.declared.request.Request.{Request}
 use Rattle.gate_command.specs.Answers.{IsToldOf}

@@ -1,10 +1,10 @@
 -- What was read of a store that was used before.
 use Rattle.std.proofs.Common.{◌≤◌, arith, subst, ℕ, List, [], ◌∷◌}
-use Rattle.file_store.specs.Contents.{Content, KeepsContents}
-use Rattle.source_file.specs.declared.refusal.Refusal.{Refusal}
-use Rattle.source_file.specs.declared.refusal.Refusal.TheVariants as refusal
-use Rattle.squawk_stream.specs.Faults.{Rose}
-use Rattle.squawk_words.specs.Words.{Text}
+use Rattle.refused_word.specs.devices.Contents.{Content, KeepsContents}
+use Rattle.refused_word.specs.source_file.declared.refusal.Refusal.{Refusal}
+use Rattle.refused_word.specs.source_file.declared.refusal.Refusal.TheVariants as refusal
+use Rattle.refused_word.specs.devices.Faults.{Rose}
+use Rattle.refused_word.specs.squawk_words.Words.{Text}
 use Rattle.gate_files.specs.declared.read.MigrationFile.{MigrationFile}
 use Rattle.gate_files.specs.declared.read.Reading.{Reading}
 use Rattle.gate_files.specs.declared.read.Reading.TheVariants.{Files, Unread as NotRead}

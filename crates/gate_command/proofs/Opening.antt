@@ -3,13 +3,13 @@ use Rattle.std.proofs.Common.{◌≡◌, ◌+◌, ◌≤◌, ap, arith, subst, s
 use Rattle.std.proofs.lemmas.List.{take_all}
 use Rattle.std.proofs.lemmas.Option.{slice_get_within}
 use Rattle.std.specs.Prelude.{slice_get}
-use Rattle.lint_transaction.specs.Transaction.{is_open}
-use Rattle.sql_token.specs.Token.{Text}
-use Rattle.sql_tree.specs.Statement.{Tree}
-use Rattle.sql_read.specs.Cause.{IsTreeOf}
-use Rattle.gate_bundle.specs.declared.file.GateFile.{GateFile}
-use Rattle.gate_machine.specs.Run.{EndsOutside}
-use Rattle.gate_machine.specs.Verdicts.{texts_of}
+use Rattle.gate_report.specs.lint_transaction.Transaction.{is_open}
+use Rattle.gate_report.specs.sql_token.Token.{Text}
+use Rattle.gate_report.specs.sql_tree.Statement.{Tree}
+use Rattle.gate_report.specs.sql_read.Cause.{IsTreeOf}
+use Rattle.gate_report.specs.migration_gate.declared.file.GateFile.{GateFile}
+use Rattle.gate_report.specs.migration_gate.Run.{EndsOutside}
+use Rattle.gate_report.specs.migration_gate.Verdict.{texts_of}
 use Rattle.gate_command.specs.Open.{AllEndOutside, IsFirstOpen, NeverInside, TellsOpen}
 
 -- what is told of the one tree of a text

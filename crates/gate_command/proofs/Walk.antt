@@ -2,8 +2,8 @@
 use Rattle.std.proofs.Common.{◌≡◌, ◌+◌, ◌<◌, ap, arith, ℕ, List, [], drop, length, Some}
 use Rattle.std.proofs.lemmas.List.{drop_all}
 use Rattle.std.specs.Prelude.{slice_get}
-use Rattle.squawk_words.specs.Words.{Text}
-use Rattle.squawk_words.proofs.Places.{drop_at}
+use Rattle.refused_word.specs.squawk_words.Words.{Text}
+use Rattle.refused_word.proofs.of_squawk_words.Places.{drop_at}
 use Rattle.gate_command.specs.declared.step.Reader.{Reader}
 use Rattle.gate_command.specs.Asked.{read_from, step_then}
 use Rattle.gate_command.specs.Steps.{step}

@@ -1,8 +1,8 @@
 -- The status of a run over files, and what is written of them.
 use Rattle.std.specs.Prelude.{◌≡◌, ℕ, List, map}
-use Rattle.squawk_linter.specs.declared.linter.Linter.{Linter}
-use Rattle.squawk_words.specs.Words.{Text}
-use Rattle.file_store.specs.Contents.{Content}
+use Rattle.gate_report.specs.squawk_linter.declared.linter.Linter.{Linter}
+use Rattle.refused_word.specs.squawk_words.Words.{Text}
+use Rattle.refused_word.specs.devices.Contents.{Content}
 use Rattle.gate_files.specs.declared.read.Reading.{Reading}
 use Rattle.gate_files.specs.declared.read.Reading.TheVariants.{Files, Unread as NotRead}
 use Rattle.gate_files.specs.declared.read.Unread.{Unread}

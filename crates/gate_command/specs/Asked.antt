@@ -1,7 +1,7 @@
 -- What the words after the program's name ask for.
 use Rattle.std.specs.Prelude.{false, List, [], ◌∷◌, Result, Ok, Err, drop, if◌then◌else◌}
-use Rattle.help_words.specs.Help.{asks_for_help}
-use Rattle.squawk_words.specs.Words.{Text}
+use Rattle.refused_word.specs.help_words.Help.{asks_for_help}
+use Rattle.refused_word.specs.squawk_words.Words.{Text}
 use Rattle.gate_files.specs.declared.order.Order.TheVariants.{Given}
 use Rattle.gate_command.specs.declared.asked.Asked.{Asked}
 use Rattle.gate_command.specs.declared.asked.Asked.TheVariants.{Gate, Help, Refused}

@@ -1,13 +1,13 @@
 -- What a run does that the words ask for.
 use Rattle.std.specs.Prelude.{◌≡◌, ℕ, Bool, ◌&&◌, true, false, List, [], ◌∷◌, Option, Some, None, ⊤}
 use Rattle.std.specs.Io.KnownBytes.{Appends, Keeps}
-use Rattle.file_store.specs.Contents.{Content}
-use Rattle.migration_gate.specs.Config.{linter_of}
-use Rattle.squawk_linter.specs.declared.linter.Linter.{Linter as AnyLinter}
-use Rattle.squawk_run.specs.declared.stop.Stop.TheVariants.{BadArguments, NotUtf8, TooLong, ReadFault, WriteFault, NoMemory}
-use Rattle.squawk_stream.specs.Faults.{Rose}
-use Rattle.squawk_stream.specs.Parts.{AppendsPart}
-use Rattle.squawk_words.specs.Words.{Text}
+use Rattle.refused_word.specs.devices.Contents.{Content}
+use Rattle.gate_report.specs.migration_gate.Config.{linter_of}
+use Rattle.gate_report.specs.squawk_linter.declared.linter.Linter.{Linter as AnyLinter}
+use Rattle.refused_word.specs.squawk_run.declared.stop.Stop.TheVariants.{BadArguments, NotUtf8, TooLong, ReadFault, WriteFault, NoMemory}
+use Rattle.refused_word.specs.devices.Faults.{Rose}
+use Rattle.refused_word.specs.devices.Parts.{AppendsPart}
+use Rattle.refused_word.specs.squawk_words.Words.{Text}
 use Rattle.gate_command.specs.declared.asked.Asked.{Asked}
 use Rattle.gate_command.specs.declared.asked.Asked.TheVariants.{Gate, Help, Refused}
 use Rattle.gate_command.specs.declared.failure.Failure.{Failure}

@@ -2,8 +2,8 @@
 use Rattle.std.specs.Prelude.{◌≡◌, ℕ, List}
 use Rattle.gate_command.specs.declared.failure.Failure.{Failure}
 use Rattle.gate_command.specs.declared.failure.Failure.TheVariants.{Stop, Words}
-use Rattle.squawk_run.specs.declared.stop.Stop.{Stop as AnyStop}
-use Rattle.squawk_run.specs.Stops as stops
+use Rattle.refused_word.specs.squawk_run.declared.stop.Stop.{Stop as AnyStop}
+use Rattle.refused_word.specs.squawk_run.Stops as stops
 
 abbrev pub code_of : Failure → ℕ
 code_of (Stop stop) = stops.code_of stop

@@ -1,8 +1,8 @@
 -- The line about words that are refused.
 use Rattle.std.specs.Prelude.{ℕ, List, ◌++◌, codes}
 use Rattle.refused_word.specs.Messages.{line_of, words_line}
-use Rattle.source_file.specs.Escaped.{escaped}
-use Rattle.squawk_words.specs.Words.{Text}
+use Rattle.refused_word.specs.source_file.Escaped.{escaped}
+use Rattle.refused_word.specs.squawk_words.Words.{Text}
 use Rattle.gate_command.specs.declared.fault.Fault.{Fault}
 use Rattle.gate_command.specs.declared.fault.Fault.TheVariants.{Word, UnknownOrder, NoOrder, NoFiles, Linter, Beside}
 

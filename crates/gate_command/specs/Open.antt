@@ -1,10 +1,10 @@
 -- Files that end inside a transaction.
 use Rattle.std.specs.Prelude.{◌≡◌, ℕ, Bool, true, false, List, [], ◌∷◌, drop, length, take, ⊤}
-use Rattle.lint_transaction.specs.Transaction.{is_open}
-use Rattle.sql_token.specs.Token.{Text}
-use Rattle.sql_tree.specs.Statement.{Tree}
-use Rattle.sql_read.specs.Cause.{IsTreeOf}
-use Rattle.gate_machine.specs.Run.{EndsOutside}
+use Rattle.gate_report.specs.lint_transaction.Transaction.{is_open}
+use Rattle.gate_report.specs.sql_token.Token.{Text}
+use Rattle.gate_report.specs.sql_tree.Statement.{Tree}
+use Rattle.gate_report.specs.sql_read.Cause.{IsTreeOf}
+use Rattle.gate_report.specs.migration_gate.Run.{EndsOutside}
 
 -- the text has a tree, and a transaction is open behind its last statement where none is open before the first
 pub record EndsInside (text : Text) : Type 0 where

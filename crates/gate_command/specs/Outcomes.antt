@@ -1,17 +1,17 @@
 -- What comes of files that were read.
 use Rattle.std.specs.Prelude.{◌≡◌, ℕ, Bool, true, false, All, List, Ok, Err, slice_index_or, []}
-use Rattle.lint_base.specs.declared.settings.LinterSettings.{LinterSettings}
-use Rattle.lint_base.specs.RuleSets.{Rules}
-use Rattle.sql_token.specs.Token.{Text}
-use Rattle.sql_tree.specs.Statement.{Tree}
-use Rattle.squawk_linter.specs.declared.linter.Linter.{Linter}
-use Rattle.gate_machine.specs.declared.verdict.GateWork.{GateWork}
-use Rattle.gate_machine.specs.Run.{EndsOutside, session}
+use Rattle.refused_word.specs.lint_base.declared.settings.LinterSettings.{LinterSettings}
+use Rattle.refused_word.specs.lint_base.RuleSets.{Rules}
+use Rattle.gate_report.specs.sql_token.Token.{Text}
+use Rattle.gate_report.specs.sql_tree.Statement.{Tree}
+use Rattle.gate_report.specs.squawk_linter.declared.linter.Linter.{Linter}
+use Rattle.gate_report.specs.migration_gate.declared.verdict.GateWork.{GateWork}
+use Rattle.gate_report.specs.migration_gate.Run.{EndsOutside, session}
 use Rattle.gate_report.specs.declared.cause.Cause.TheVariants.{Unread, Against, Open}
 use Rattle.gate_report.specs.Accepted.{printed_accepted}
 use Rattle.gate_report.specs.Report.{printed_refused}
-use Rattle.gate_verdict.specs.Laws.{AreClean, RunsClean}
-use Rattle.gate_verdict.specs.Verdicts.{ArePassing, IsVerdict}
+use Rattle.gate_report.specs.migration_gate.Laws.{AreClean, RunsClean}
+use Rattle.gate_report.specs.migration_gate.Verdicts.{ArePassing, IsVerdict}
 use Rattle.gate_command.specs.declared.outcome.Outcome.{Outcome}
 use Rattle.gate_command.specs.declared.outcome.Outcome.TheVariants.{Accepted, Refused}
 use Rattle.gate_command.specs.Open.{AllEndOutside, IsFirstOpen}

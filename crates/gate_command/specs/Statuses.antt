@@ -1,7 +1,7 @@
 -- The status of each end.
 use Rattle.std.specs.Prelude.{ℕ}
-use Rattle.source_file.specs.declared.refusal.Refusal.{Refusal}
-use Rattle.source_file.specs.declared.refusal.Refusal.TheVariants as refusal
+use Rattle.refused_word.specs.source_file.declared.refusal.Refusal.{Refusal}
+use Rattle.refused_word.specs.source_file.declared.refusal.Refusal.TheVariants as refusal
 use Rattle.gate_command.specs.declared.outcome.Outcome.{Outcome}
 use Rattle.gate_command.specs.declared.outcome.Outcome.TheVariants as outcome
 use Rattle.gate_command.specs.declared.outcome.Status.{Status}

@@ -1,8 +1,8 @@
 -- What one word adds to what the words before it ask for, or what is wrong with it.
 use Rattle.std.specs.Prelude.{◌||◌, ◌++◌, true, [], ◌∷◌, Option, Some, None, Result, Ok, Err, codes, is_some, if◌then◌else◌}
 use Rattle.std.specs.Str.{bytes_eq}
-use Rattle.check_words.specs.declared.fault.WordFault.TheVariants.{UnknownWord}
-use Rattle.squawk_words.specs.Words.{Text, after_dashes, begins_with_dash, name_in, value_in}
+use Rattle.refused_word.specs.check_words.declared.fault.WordFault.TheVariants.{UnknownWord}
+use Rattle.refused_word.specs.squawk_words.Words.{Text, after_dashes, begins_with_dash, name_in, value_in}
 use Rattle.gate_files.specs.declared.order.Order.{Order}
 use Rattle.gate_files.specs.declared.order.Order.TheVariants.{Given, Name}
 use Rattle.gate_command.specs.declared.fault.Fault.{Fault}

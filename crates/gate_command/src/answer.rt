@@ -1,22 +1,19 @@
 //! The status and the bytes of a run over files.
 ghost use Rattle.std.specs.Prelude.{◌≡◌, ◌<◌, ◌≤◌, ◌^◌, All, IfErr, IfOk, IfSome, [], false, length, map, true, slice_index_or};
-ghost use Rattle.law_clean.specs.Clean.{HasDefaults};
-ghost use Rattle.file_store.specs.Contents.{KeepsContents};
+ghost use Rattle.gate_report.specs.law_clean.Clean.{HasDefaults};
+ghost use Rattle.refused_word.specs.devices.Contents.{KeepsContents};
 ghost use Rattle.gate_files.specs.Read.{IsReading};
-ghost use Rattle.gate_machine.specs.Verdicts.{names_of, texts_of};
+ghost use Rattle.gate_report.specs.migration_gate.Verdict.{names_of, texts_of};
 ghost use Rattle.gate_command.specs.Answers as spec;
 ghost use Rattle.gate_command.specs.Outcomes.{IsOutcome, printed_outcome};
 
 use crate::judge::judged;
 use crate::outcome::{Outcome, Status, status_by, status_of};
 use crate::request::Request;
-use file_store::FileStore;
-use gate_bundle::GateFile;
 use gate_files::{MigrationFile, Reading, Unread, named_files, read_files};
-use gate_report::{Cause, print_accepted, print_refused};
-use squawk_linter::Linter;
+use gate_report::{Cause, GateFile, Linter, print_accepted, print_refused};
+use refused_word::{FileStore, NoMemory};
 use std::alloc::Global;
-use text_pos::NoMemory;
 
 /// What a run answers: the status, and what is written.
 #[derive(Drop)]

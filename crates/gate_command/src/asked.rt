@@ -5,10 +5,8 @@ ghost use Rattle.gate_command.specs.Asked.{asked_of};
 use crate::fault::Fault;
 use crate::read::read_request;
 use crate::request::Request;
-use help_words::asks_for_help;
-use squawk_words::Words;
+use refused_word::{NoMemory, Words, asks_for_help};
 use std::alloc::Global;
-use text_pos::NoMemory;
 
 /// What the words after the program's name ask for.
 #[derive(Drop)]

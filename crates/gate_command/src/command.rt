@@ -1,12 +1,12 @@
 //! The run of the command, over any files and sinks.
 ghost use Rattle.std.specs.Prelude.{◌≡◌, IfErr, IfOk, OnOk, Some};
 ghost use Rattle.std.specs.Io.KnownBytes.{Appends, Keeps};
-ghost use Rattle.squawk_run.specs.declared.stop.Stop.TheVariants as stop;
-ghost use Rattle.squawk_stream.specs.Faults.{HasCause, Rose};
-ghost use Rattle.squawk_stream.specs.Parts.{AppendsPart};
+ghost use Rattle.refused_word.specs.squawk_run.declared.stop.Stop.TheVariants as stop;
+ghost use Rattle.refused_word.specs.devices.Faults.{HasCause, Rose};
+ghost use Rattle.refused_word.specs.devices.Parts.{AppendsPart};
 ghost use Rattle.gate_command.specs.Asked.{asked_of};
-ghost use Rattle.law_clean.specs.Clean.{HasDefaults};
-ghost use Rattle.migration_gate.specs.Config.{linter_of};
+ghost use Rattle.gate_report.specs.law_clean.Clean.{HasDefaults};
+ghost use Rattle.gate_report.specs.migration_gate.Config.{linter_of};
 ghost use Rattle.gate_command.specs.Command as spec;
 ghost use Rattle.gate_command.specs.Failures.{IsStop, line_of};
 ghost use Rattle.gate_command.specs.declared.outcome.Status.TheVariants as status;
@@ -18,14 +18,9 @@ use crate::fault::{Fault, fault_line};
 use crate::help::HELP;
 use crate::outcome::Status;
 use crate::request::Request;
-use file_store::FileStore;
-use migration_gate::linter_of;
-use squawk_linter::Linter;
-use squawk_run::Stop;
-use squawk_stream::{Sink, write_all};
-use squawk_words::Words;
+use gate_report::{Linter, linter_of};
+use refused_word::{FileStore, NoMemory, Sink, Stop, Words, write_all};
 use std::alloc::Global;
-use text_pos::NoMemory;
 
 // The failure of words that are refused.
 fn refused(alloc: Global, fault: &Fault) -> Failure

@@ -2,7 +2,7 @@
 ghost use Rattle.std.specs.Prelude.{◌≡◌};
 ghost use Rattle.gate_command.specs.Failures as spec;
 
-use squawk_run::Stop;
+use refused_word::Stop;
 
 /// Why a run gives no answer.
 #[derive(Debug, Drop)]

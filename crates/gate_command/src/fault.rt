@@ -2,14 +2,8 @@
 ghost use Rattle.std.specs.Prelude.{◌≡◌, IfOk};
 ghost use Rattle.gate_command.specs.Faults as spec;
 
-use check_words::WordFault;
-use lint_base::Text;
-use refused_word::words_line;
-use report_lines::push;
-use source_file::push_escaped;
-use squawk_words::Words;
+use refused_word::{NoMemory, Text, WordFault, Words, push, push_escaped, words_line};
 use std::alloc::Global;
-use text_pos::NoMemory;
 
 /// Why words are refused.
 #[derive(Drop)]

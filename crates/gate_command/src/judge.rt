@@ -1,19 +1,14 @@
 //! What comes of files that were read.
 ghost use Rattle.std.specs.Prelude.{◌≡◌, ◌<◌, ◌^◌, All, IfOk, false, length, true};
-ghost use Rattle.law_clean.specs.Clean.{HasDefaults};
-ghost use Rattle.gate_machine.specs.Verdicts.{texts_of};
+ghost use Rattle.gate_report.specs.law_clean.Clean.{HasDefaults};
+ghost use Rattle.gate_report.specs.migration_gate.Verdict.{texts_of};
 ghost use Rattle.gate_command.specs.Outcomes.{IsOutcome, IsPassed};
 
 use crate::left_open::first_open;
 use crate::outcome::Outcome;
-use gate_bundle::GateFile;
-use gate_machine::laws::sessions_agree;
-use gate_machine::{GateWork, Verdict};
-use gate_report::Cause;
-use gate_verdict::gate;
-use squawk_linter::Linter;
+use gate_report::{Cause, GateFile, GateWork, Linter, Verdict, gate, sessions_agree};
+use refused_word::NoMemory;
 use std::alloc::Global;
-use text_pos::NoMemory;
 
 // What comes of files that pass, by whether one session runs them all.
 fn passed(

@@ -1,13 +1,11 @@
 //! Files that end inside a transaction.
 ghost use Rattle.std.specs.Prelude.{◌≡◌, ◌<◌, ◌^◌, All, IfOk, MatchOption, Some, length, slice_get};
-ghost use Rattle.gate_machine.specs.Verdicts.{texts_of};
+ghost use Rattle.gate_report.specs.migration_gate.Verdict.{texts_of};
 ghost use Rattle.gate_command.specs.Open.{AllEndOutside, IsFirstOpen, TellsOpen};
 
-use gate_bundle::GateFile;
-use gate_machine::ends_in_transaction;
-use sql_read::{LintError, parse};
+use gate_report::{GateFile, LintError, ends_in_transaction, parse};
+use refused_word::NoMemory;
 use std::alloc::Global;
-use text_pos::NoMemory;
 
 // Whether a text that has a tree ends inside a transaction.
 fn is_open(alloc: Global, text: &str) -> Result<bool, NoMemory>

@@ -25,3 +25,6 @@ pub use help::HELP;
 pub use judge::judged;
 pub use outcome::{Outcome, Status};
 pub use request::Request;
+
+// What crates above reach through this one.
+pub use gate_report::gate_run;

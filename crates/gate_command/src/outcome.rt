@@ -2,9 +2,8 @@
 ghost use Rattle.std.specs.Prelude.{◌≡◌};
 ghost use Rattle.gate_command.specs.Statuses as spec;
 
-use gate_machine::GateWork;
-use gate_report::Cause;
-use source_file::Refusal;
+use gate_report::{Cause, GateWork};
+use refused_word::Refusal;
 
 /// What comes of files that were read.
 #[derive(Debug, Drop)]

@@ -7,9 +7,8 @@ use crate::fault::Fault;
 use crate::request::Request;
 use crate::step::{Next, Reader, step};
 use gate_files::Order;
-use squawk_words::Words;
+use refused_word::{NoMemory, Words};
 use std::alloc::Global;
-use text_pos::NoMemory;
 
 // What no word asks for.
 fn start(alloc: Global) -> Reader

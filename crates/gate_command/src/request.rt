@@ -1,7 +1,7 @@
 //! What the words of `gate` ask for.
 
 use gate_files::Order;
-use squawk_words::Words;
+use refused_word::Words;
 
 /// What the words of `gate` ask for.
 #[derive(Drop)]
@@ -14,6 +14,6 @@ pub struct Request {
     pub one_session: bool,
     /// The files and folders, in order.
     pub files: Words,
-    /// The words that choose the linter, as `gate_words` reads them.
+    /// The words that choose the linter, as [`migration_gate::read_gate_choices`] reads them.
     pub linter: Words,
 }

@@ -4,12 +4,9 @@ ghost use Rattle.gate_command.specs.Steps as spec;
 
 use crate::fault::Fault;
 use crate::request::Request;
-use check_words::WordFault;
 use gate_files::Order;
-use lint_base::Text;
-use squawk_words::{after_dashes, begins_with_dash, name_in, value_in};
+use refused_word::{NoMemory, Text, WordFault, after_dashes, begins_with_dash, name_in, value_in};
 use std::alloc::Global;
-use text_pos::NoMemory;
 
 /// What the next word is to be.
 #[derive(Clone, Copy, Debug, PartialEq, Eq)]

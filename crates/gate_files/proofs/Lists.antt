@@ -7,11 +7,11 @@ use Rattle.std.specs.Prelude.{slice_get, String}
 use Rattle.std.specs.Str.Lossy.{utf8_valid_len}
 use Rattle.checked_file.specs.Files.{readable_of}
 use Rattle.std.specs.declared.alloc.Global.{Global}
-use Rattle.file_store.specs.Contents.{Content, KeepsContents}
-use Rattle.source_file.specs.declared.refusal.Refusal.{Refusal}
-use Rattle.source_file.specs.declared.refusal.Refusal.TheVariants as refusal
-use Rattle.squawk_stream.specs.Faults.{Rose}
-use Rattle.squawk_words.specs.Words.{Text}
+use Rattle.sql_files.specs.devices.Contents.{Content, KeepsContents}
+use Rattle.checked_file.specs.source_file.declared.refusal.Refusal.{Refusal}
+use Rattle.checked_file.specs.source_file.declared.refusal.Refusal.TheVariants as refusal
+use Rattle.sql_files.specs.devices.Faults.{Rose}
+use Rattle.sql_files.specs.squawk_words.Words.{Text}
 use Rattle.gate_files.specs.declared.read.MigrationFile.{MigrationFile}
 use Rattle.gate_files.specs.declared.read.Unread.{Unread}
 use Rattle.gate_files.specs.Read.{AreRead, IsFirstUnread, IsRead, IsUnread}

@@ -4,9 +4,9 @@ use Rattle.std.specs.declared.alloc.Global.{Global}
 use Rattle.std.specs.List.Sorted.{IsPermutation, IsSorted}
 use Rattle.std.specs.String.{string_cmp}
 use Rattle.file_choice.specs.Choice.{chosen_of}
-use Rattle.file_store.specs.Contents.{Content}
+use Rattle.sql_files.specs.devices.Contents.{Content}
 use Rattle.sql_files.specs.Named.{AreNamed}
-use Rattle.squawk_words.specs.Words.{Text}
+use Rattle.sql_files.specs.squawk_words.Words.{Text}
 use Rattle.gate_files.specs.declared.order.Order.{Order}
 use Rattle.gate_files.specs.declared.order.Order.TheVariants.{Given, Name}
 

@@ -3,14 +3,14 @@ use Rattle.std.specs.Prelude.{◌≡◌, ◌<◌, ◌^◌, ℕ, List, [], ◌∷
 use Rattle.std.specs.Str.{IsUtf8}
 use Rattle.std.specs.Str.Lossy.{utf8_valid_len}
 use Rattle.checked_file.specs.Files.{readable_of}
-use Rattle.file_store.specs.Contents.{Content, IsBytes}
-use Rattle.file_store.specs.Refused.{MayBeLong, MayMiss}
-use Rattle.file_store.specs.declared.store.FileError.{FileError}
-use Rattle.file_store.specs.declared.store.FileError.TheVariants as error
-use Rattle.source_file.specs.declared.refusal.Refusal.{Refusal}
-use Rattle.source_file.specs.declared.refusal.Refusal.TheVariants as refusal
-use Rattle.squawk_stream.specs.Faults.{Rose}
-use Rattle.squawk_words.specs.Words.{Text}
+use Rattle.sql_files.specs.devices.Contents.{Content, IsBytes}
+use Rattle.sql_files.specs.devices.Refused.{MayBeLong, MayMiss}
+use Rattle.sql_files.specs.devices.declared.store.FileError.{FileError}
+use Rattle.sql_files.specs.devices.declared.store.FileError.TheVariants as error
+use Rattle.checked_file.specs.source_file.declared.refusal.Refusal.{Refusal}
+use Rattle.checked_file.specs.source_file.declared.refusal.Refusal.TheVariants as refusal
+use Rattle.sql_files.specs.devices.Faults.{Rose}
+use Rattle.sql_files.specs.squawk_words.Words.{Text}
 use Rattle.gate_files.specs.declared.read.Outcome.{Outcome}
 use Rattle.gate_files.specs.declared.read.Outcome.TheVariants as came
 use Rattle.gate_files.specs.declared.read.MigrationFile.{MigrationFile}

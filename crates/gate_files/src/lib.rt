@@ -10,3 +10,8 @@ mod read;
 pub use named::named_files;
 pub use order::Order;
 pub use read::{MigrationFile, Reading, Unread, read_files};
+
+// What crates above reach through this one.
+pub use checked_file::{Answer, Level, Refusal, SourceFile, Status, push_escaped, readable};
+pub use file_choice::chosen;
+pub use sql_files::Words;

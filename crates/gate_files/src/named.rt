@@ -1,15 +1,13 @@
 //! The files that words stand for.
 ghost use Rattle.std.specs.Prelude.{◌≤◌, IfOk};
-ghost use Rattle.file_store.specs.Contents.{KeepsContents};
+ghost use Rattle.sql_files.specs.devices.Contents.{KeepsContents};
 ghost use Rattle.gate_files.specs.Named.{AreFilesOf};
 
 use crate::order::{Order, ordered};
+use checked_file::NoMemory;
 use file_choice::chosen;
-use file_store::FileStore;
-use sql_files::expanded;
-use squawk_words::Words;
+use sql_files::{FileStore, Words, expanded};
 use std::alloc::Global;
-use text_pos::NoMemory;
 
 /// The names of the files that words stand for, in an order: a folder stands for the files in it, at any depth, whose names end in `.sql`.
 /// A name that comes twice counts at its first place. The error comes when memory runs out.

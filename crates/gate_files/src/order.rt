@@ -2,9 +2,9 @@
 ghost use Rattle.std.specs.Prelude.{◌≡◌, ◌++◌, IfOk, OnOk, map, string_bytes};
 ghost use Rattle.gate_files.specs.Named.{AreSorted, IsOrdered};
 
-use squawk_words::Words;
+use checked_file::NoMemory;
+use sql_files::Words;
 use std::alloc::Global;
-use text_pos::NoMemory;
 
 /// The order in which files run.
 #[derive(Clone, Copy, Debug, PartialEq, Eq)]

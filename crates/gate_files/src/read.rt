@@ -1,16 +1,12 @@
 //! The texts of files.
 ghost use Rattle.std.specs.Prelude.{◌≡◌, ◌<◌, ◌≤◌, ◌^◌, IfOk, length};
-ghost use Rattle.file_store.specs.Contents.{KeepsContents};
+ghost use Rattle.sql_files.specs.devices.Contents.{KeepsContents};
 ghost use Rattle.gate_files.specs.Read.{IsOutcome, IsFile, IsReading, IsTextOf, IsUnreadAs, IsUnreadBy};
 
-use checked_file::readable;
-use file_store::{FileError, FileStore};
-use lint_base::Text;
+use checked_file::{NoMemory, Refusal, Text, TextSize, readable};
 use simdutf8::compat::from_utf8;
-use source_file::Refusal;
-use squawk_words::Words;
+use sql_files::{FileError, FileStore, Words};
 use std::alloc::Global;
-use text_pos::{NoMemory, TextSize};
 
 /// A migration file: its name and its text.
 #[derive(Debug, Drop)]

@@ -1,7 +1,7 @@
 -- What is written of accepted files.
 use Rattle.std.specs.Prelude.{ℕ, Bool, List, ◌++◌, length, codes, decimal, if◌then◌else◌}
-use Rattle.gate_machine.specs.declared.verdict.GateWork.{GateWork}
-use Rattle.gate_print.specs.PrintedVerdict.{printed_accepted as printed_works}
+use Rattle.migration_gate.specs.declared.verdict.GateWork.{GateWork}
+use Rattle.migration_gate.specs.PrintedVerdict.{printed_accepted as printed_works}
 
 -- how many files there are
 abbrev pub counted : ℕ → List ℕ

@@ -1,14 +1,14 @@
 -- The words for each cause.
 use Rattle.std.specs.Prelude.{ℕ, List, codes, Option, Some, None, if◌then◌else◌}
-use Rattle.lint_base.specs.declared.rule.Rule.{Rule}
-use Rattle.lint_base.specs.Rules.{name_of as rule_name}
-use Rattle.source_file.specs.declared.hints.Hint.TheVariants.{Statement, End, Utf8}
-use Rattle.source_file.specs.declared.refusal.Refusal.{Refusal}
-use Rattle.source_file.specs.declared.refusal.Refusal.TheVariants as refusal
-use Rattle.source_file.specs.Hints.{text_of}
-use Rattle.source_file.specs.Refusals as refusals
-use Rattle.gate_machine.specs.declared.verdict.Why.{Why}
-use Rattle.gate_machine.specs.declared.verdict.Why.TheVariants as why
+use Rattle.report_lines.specs.lint_base.declared.rule.Rule.{Rule}
+use Rattle.report_lines.specs.lint_base.Rules.{name_of as rule_name}
+use Rattle.report_lines.specs.source_file.declared.hints.Hint.TheVariants.{Statement, End, Utf8}
+use Rattle.report_lines.specs.source_file.declared.refusal.Refusal.{Refusal}
+use Rattle.report_lines.specs.source_file.declared.refusal.Refusal.TheVariants as refusal
+use Rattle.report_lines.specs.source_file.Hints.{text_of}
+use Rattle.report_lines.specs.source_file.Refusals as refusals
+use Rattle.migration_gate.specs.declared.verdict.Why.{Why}
+use Rattle.migration_gate.specs.declared.verdict.Why.TheVariants as why
 use Rattle.gate_report.specs.declared.cause.Cause.{Cause}
 use Rattle.gate_report.specs.declared.cause.Cause.TheVariants.{Unread, Against, Open}
 

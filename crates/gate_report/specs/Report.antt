@@ -1,13 +1,13 @@
 -- What is written of the file that is not accepted.
 use Rattle.std.specs.Prelude.{◌≡◌, ℕ, ◌+◌, List, [], ◌++◌, length, codes, decimal, replicate, Option, Some, None, Result, Ok, Err, ⊤}
-use Rattle.lint_base.specs.declared.rule.Rule.{Rule}
-use Rattle.lint_base.specs.Rules.{name_of as rule_name}
-use Rattle.source_file.specs.Columns.{width_of}
-use Rattle.source_file.specs.declared.place.Place.{Place}
-use Rattle.source_file.specs.File.{FileValue, line_number, location}
-use Rattle.source_file.specs.Line.{Text, block_of, front_of}
-use Rattle.source_file.specs.Escaped.{escaped}
-use Rattle.source_file.specs.Shown.{shown}
+use Rattle.report_lines.specs.lint_base.declared.rule.Rule.{Rule}
+use Rattle.report_lines.specs.lint_base.Rules.{name_of as rule_name}
+use Rattle.report_lines.specs.source_file.Columns.{width_of}
+use Rattle.report_lines.specs.source_file.declared.place.Place.{Place}
+use Rattle.report_lines.specs.source_file.File.{FileValue, line_number, location}
+use Rattle.report_lines.specs.source_file.Line.{Text, block_of, front_of}
+use Rattle.report_lines.specs.source_file.Escaped.{escaped}
+use Rattle.report_lines.specs.source_file.Shown.{shown}
 use Rattle.gate_report.specs.declared.cause.Cause.{Cause}
 use Rattle.gate_report.specs.Causes.{help_of, message_of, name_of, rule_of}
 use Rattle.gate_report.specs.Spots.{spot_of}

@@ -1,6 +1,6 @@
 -- Where in its text a cause is shown.
 use Rattle.std.specs.Prelude.{ℕ, ◌==◌, Bool, ◌||◌, length, nat_le, nat_lt, slice_index, Option, Some, None, if◌then◌else◌}
-use Rattle.source_file.specs.Line.{Text}
+use Rattle.report_lines.specs.source_file.Line.{Text}
 use Rattle.gate_report.specs.declared.cause.Cause.{Cause}
 use Rattle.gate_report.specs.Causes.{place_of}
 

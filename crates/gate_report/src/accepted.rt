@@ -1,14 +1,11 @@
 //! What is written of accepted files.
 ghost use Rattle.std.specs.Prelude.{◌≡◌, ◌<◌, ◌^◌, IfOk, length};
-ghost use Rattle.gate_machine.specs.Verdicts.{names_of};
+ghost use Rattle.migration_gate.specs.Verdict.{names_of};
 ghost use Rattle.gate_report.specs.Accepted.{counted, printed_accepted};
 
-use gate_bundle::GateFile;
-use gate_machine::{GateWork, Verdict};
-use gate_print::print_verdict;
-use report_lines::{push, push_number};
+use migration_gate::{GateFile, GateWork, Verdict, print_verdict};
+use report_lines::{NoMemory, push, push_number};
 use std::alloc::Global;
-use text_pos::NoMemory;
 
 // The line that counts the files.
 fn counted(alloc: Global, count: usize) -> Result<Vec<u8>, NoMemory>

@@ -2,10 +2,8 @@
 ghost use Rattle.std.specs.Prelude.{◌≡◌};
 ghost use Rattle.gate_report.specs.Causes as spec;
 
-use gate_machine::Why;
-use lint_base::Rule;
-use source_file::{Hint, Refusal};
-use text_pos::TextSize;
+use migration_gate::Why;
+use report_lines::{Hint, Refusal, Rule, TextSize};
 
 /// Why a file is not accepted.
 #[derive(Clone, Copy, Debug, PartialEq, Eq)]

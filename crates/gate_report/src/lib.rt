@@ -13,3 +13,10 @@ mod spot;
 pub use accepted::print_accepted;
 pub use cause::Cause;
 pub use report::print_refused;
+
+// What crates above reach through this one.
+pub use migration_gate::machine_laws::sessions_agree;
+pub use migration_gate::{
+    GateFile, GateWork, LintError, Linter, Verdict, ends_in_transaction, gate, gate_run, linter_of,
+    parse,
+};

@@ -6,11 +6,8 @@ ghost use Rattle.gate_report.specs.Report as spec;
 use crate::cause::Cause;
 use crate::rows::{push_help, push_name, push_placed, push_title};
 use crate::spot::spot_of;
-use lint_base::Rule;
-use report_lines::push;
-use source_file::SourceFile;
+use report_lines::{NoMemory, Rule, SourceFile, TextSize, push};
 use std::alloc::Global;
-use text_pos::{NoMemory, TextSize};
 
 // Adds where a cause is, and gives how many columns the number of the line has.
 fn push_where(

@@ -4,9 +4,10 @@ ghost use Rattle.std.specs.Str.{IsCharBoundary};
 ghost use Rattle.gate_report.specs.Report as spec;
 
 use itoa::Buffer;
-use report_lines::{push, push_number};
-use source_file::{Place, SourceFile, block, front, push_escaped, push_shown, width};
-use text_pos::{NoMemory, TextSize};
+use report_lines::{
+    NoMemory, Place, SourceFile, TextSize, block, front, push, push_escaped, push_number,
+    push_shown, width,
+};
 
 // How many digits a number has.
 fn digits(number: usize) -> usize

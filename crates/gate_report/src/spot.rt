@@ -4,7 +4,7 @@ ghost use Rattle.std.specs.Str.{IsCharBoundary};
 ghost use Rattle.gate_report.specs.Spots as spec;
 
 use crate::cause::Cause;
-use text_pos::TextSize;
+use report_lines::TextSize;
 
 // Whether a place of a text is between two characters.
 fn is_between(text: &[u8], at: usize) -> bool

@@ -1,8 +1,7 @@
 //! What is found of hazards.
 
 use crate::hazard::Hazard;
-use lint_base::Text;
-use text_pos::TextRange;
+use lint_base::{Text, TextRange};
 
 /// A part of a text that is a hazard.
 #[derive(Debug, Drop, PartialEq, Eq)]

@@ -12,3 +12,9 @@ pub mod laws;
 pub use finding::Finding;
 pub use hazard::{Hazard, hazard_named};
 pub use hazard_set::HazardSet;
+
+// What crates above reach through this one.
+pub use lint_base::{
+    Edit, Fix, LineIndex, LinterSettings, Names, NoMemory, Rule, RuleSet, Text, TextRange,
+    TextSize, Violation,
+};

@@ -1,3 +1,4 @@
 pub mod LookLaws
 pub mod SilenceLaws
 pub mod WalkLaws
+pub use Rattle.lint_transaction.proofs as of_lint_transaction

@@ -3,11 +3,11 @@ use Rattle.std.proofs.Common.{◌≡◌, ◌∙◌, sym, ap, ℕ, ◌+◌, ◌-�
 use Rattle.std.proofs.lemmas.List.{drop-take, drop_all, take_min, at_drop_more}
 use Rattle.std.specs.List.{position}
 use Rattle.std.specs.Option.{option_and_then, option_map}
-use Rattle.sql_keyword.specs.declared.words.Keyword.{Keyword}
-use Rattle.sql_token.specs.Terminal.{is_significant_token}
-use Rattle.sql_token.specs.declared.token.Tok.{Tok}
-use Rattle.sql_token.specs.Token.{Text, Leads}
-use Rattle.sql_tree.specs.Statement.{Tree, IsTree}
+use Rattle.lint_ignore.specs.sql_keyword.declared.words.Keyword.{Keyword}
+use Rattle.lint_ignore.specs.sql_token.Terminal.{is_significant_token}
+use Rattle.lint_ignore.specs.sql_token.declared.token.Tok.{Tok}
+use Rattle.lint_ignore.specs.sql_token.Token.{Text, Leads}
+use Rattle.lint_ignore.specs.sql_tree.Statement.{Tree, IsTree}
 use Rattle.hazard_find.specs.Look.{after_word, after_words, token_from}
 
 -- a token has a byte or more

@@ -5,11 +5,11 @@ use Rattle.std.specs.List.{flat_map, list_any}
 use Rattle.std.specs.Option.{option_map}
 use Rattle.std.proofs.lemmas.Bool.{cases_Bool, eqb-true, eqb-false, false≢true}
 use Rattle.std.proofs.lemmas.List.Folds.{list_any-append}
-use Rattle.sql_tree.specs.declared.nodes.Action.{Action}
-use Rattle.sql_tree.specs.declared.nodes.Constraint.{Constraint}
-use Rattle.sql_tree.specs.declared.nodes.Stmt.{Stmt}
-use Rattle.sql_tree.specs.Statement.{Tree}
-use Rattle.lint_base.specs.declared.settings.LinterSettings.{LinterSettings}
+use Rattle.lint_ignore.specs.sql_tree.declared.nodes.Action.{Action}
+use Rattle.lint_ignore.specs.sql_tree.declared.nodes.Constraint.{Constraint}
+use Rattle.lint_ignore.specs.sql_tree.declared.nodes.Stmt.{Stmt}
+use Rattle.lint_ignore.specs.sql_tree.Statement.{Tree}
+use Rattle.hazard_base.specs.lint_base.declared.settings.LinterSettings.{LinterSettings}
 use Rattle.lint_node.specs.Parts.{new_constraints, table_actions}
 use Rattle.lint_transaction.specs.Earlier.{concat_below}
 use Rattle.lint_transaction.specs.Transaction.{is_open, stmt_at}
@@ -23,7 +23,7 @@ use Rattle.hazard_find.specs.declared.here.Here.{Here}
 use Rattle.hazard_find.specs.Columns.{added_json, is_scanned}
 use Rattle.hazard_find.specs.Earlier.{is_assumed, is_dropped_index, is_made_view, is_old, is_under_timeout, refreshed_view}
 use Rattle.hazard_find.specs.Findings.{action_findings, action_range, action_rewrite_finding, built_under_timeout, builds, check_added, check_finding, check_findings, detach_finding, enabled_of, findings_at, findings_by, findings_of, in_transaction, index_kept, json_added, json_at, json_finding, keeps, kept_finding, refresh_blocks, refresh_finding, refreshes, refused_finding, refused_in, rewrite_finding, rewritten, serial_added, serial_finding, some_if, statement_findings, timeout_finding}
-use Rattle.sql_tree.specs.Range.{stmt_range_of}
+use Rattle.lint_ignore.specs.sql_tree.Range.{stmt_range_of}
 use Rattle.hazard_find.specs.Here.{has_more, index_of, known_at, table_of}
 use Rattle.hazard_find.specs.Laws.{BuildsAreUnlimited, ColumnsAreNoJson, ColumnsAreUnchecked, IndexesAreDroppedFirst, IsSilent, TablesAreKept, TransactionsAreKept, ViewsAreMadeFirst, is_of}
 use Rattle.hazard_find.specs.Refused.{detaches, refused}

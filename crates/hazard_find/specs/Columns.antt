@@ -1,13 +1,13 @@
 -- Columns that an ALTER TABLE adds (PostgreSQL manual, ALTER TABLE, CREATE TABLE, column_constraint, and section 8.14, "JSON Types").
 use Rattle.std.specs.Prelude.{ℕ, ◌+◌, Bool, false, not, ◌&&◌, List, [], ◌∷◌, codes, filter, is_some, Option, Some, None, if◌then◌else◌}
 use Rattle.std.specs.Option.{option_and_then, option_map}
-use Rattle.sql_keyword.specs.declared.words.TheConstants.Keyword as keyword
-use Rattle.sql_token.specs.declared.token.Span.{Span}
-use Rattle.sql_tree.specs.declared.nodes.Action.{Action}
-use Rattle.sql_tree.specs.declared.nodes.ColType.{ColType}
-use Rattle.sql_tree.specs.declared.nodes.ConKind.TheVariants as con
-use Rattle.sql_tree.specs.declared.nodes.Constraint.{Constraint}
-use Rattle.sql_tree.specs.Statement.{Tree}
+use Rattle.lint_ignore.specs.sql_keyword.declared.words.TheConstants.Keyword as keyword
+use Rattle.lint_ignore.specs.sql_token.declared.token.Span.{Span}
+use Rattle.lint_ignore.specs.sql_tree.declared.nodes.Action.{Action}
+use Rattle.lint_ignore.specs.sql_tree.declared.nodes.ColType.{ColType}
+use Rattle.lint_ignore.specs.sql_tree.declared.nodes.ConKind.TheVariants as con
+use Rattle.lint_ignore.specs.sql_tree.declared.nodes.Constraint.{Constraint}
+use Rattle.lint_ignore.specs.sql_tree.Statement.{Tree}
 use Rattle.lint_node.specs.ColumnTypes.{added_type}
 use Rattle.lint_node.specs.Same.{same_constraint}
 use Rattle.lint_transaction.specs.Names.{is_one_name}

@@ -1,12 +1,12 @@
 -- What is known of a statement by the settings and by the statements before it.
 use Rattle.std.specs.Prelude.{ℕ, pos, Bool, not, nat_lt, length, slice_index_or, Option, Some, None, if◌then◌else◌}
 use Rattle.std.specs.Int.Signed.{le_z}
-use Rattle.sql_token.specs.declared.token.Span.{Span}
-use Rattle.sql_tree.specs.declared.nodes.Body.{Body}
-use Rattle.sql_tree.specs.declared.nodes.Body.TheVariants as body
-use Rattle.sql_tree.specs.declared.nodes.Stmt.{Stmt}
-use Rattle.sql_tree.specs.Statement.{Tree}
-use Rattle.lint_base.specs.declared.settings.LinterSettings.{LinterSettings}
+use Rattle.lint_ignore.specs.sql_token.declared.token.Span.{Span}
+use Rattle.lint_ignore.specs.sql_tree.declared.nodes.Body.{Body}
+use Rattle.lint_ignore.specs.sql_tree.declared.nodes.Body.TheVariants as body
+use Rattle.lint_ignore.specs.sql_tree.declared.nodes.Stmt.{Stmt}
+use Rattle.lint_ignore.specs.sql_tree.Statement.{Tree}
+use Rattle.hazard_base.specs.lint_base.declared.settings.LinterSettings.{LinterSettings}
 use Rattle.lint_node.specs.Altered.{altered_path}
 use Rattle.lint_transaction.specs.Transaction.{is_open, stmt_at}
 use Rattle.hazard_find.specs.declared.here.Here.{Here}

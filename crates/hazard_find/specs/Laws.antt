@@ -1,10 +1,10 @@
 -- What it means that a hazard is enabled and not found in a text.
 use Rattle.std.specs.Prelude.{◌≡◌, ◌<◌, ℕ, Bool, true, false, length, None, Contains}
 use Rattle.std.specs.List.{list_any}
-use Rattle.sql_tree.specs.declared.nodes.Action.{Action}
-use Rattle.sql_tree.specs.declared.nodes.Constraint.{Constraint}
-use Rattle.sql_tree.specs.Statement.{Tree}
-use Rattle.lint_base.specs.declared.settings.LinterSettings.{LinterSettings}
+use Rattle.lint_ignore.specs.sql_tree.declared.nodes.Action.{Action}
+use Rattle.lint_ignore.specs.sql_tree.declared.nodes.Constraint.{Constraint}
+use Rattle.lint_ignore.specs.sql_tree.Statement.{Tree}
+use Rattle.hazard_base.specs.lint_base.declared.settings.LinterSettings.{LinterSettings}
 use Rattle.lint_node.specs.Parts.{new_constraints, table_actions}
 use Rattle.lint_transaction.specs.Transaction.{is_open, stmt_at}
 use Rattle.hazard_base.specs.declared.finding.Finding.{Finding}

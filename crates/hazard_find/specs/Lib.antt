@@ -8,3 +8,8 @@ pub mod Refused
 pub mod Rewrites
 pub mod Timeouts
 pub mod Walk
+pub use Rattle.hazard_base.specs as hazard_base
+pub use Rattle.hazard_base.specs.lint_base
+pub use Rattle.lint_ignore.specs as lint_ignore
+pub use Rattle.lint_node.specs as lint_node
+pub use Rattle.lint_transaction.specs as lint_transaction

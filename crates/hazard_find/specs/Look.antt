@@ -2,18 +2,18 @@
 use Rattle.std.specs.Prelude.{ℕ, ◌+◌, Bool, false, ◌||◌, List, [], ◌∷◌, drop, take, codes, position, is_some, Option, Some, None, if◌then◌else◌}
 use Rattle.std.specs.Option.{option_and_then, option_map, unwrap_or}
 use Rattle.std.specs.Str.{bytes_eq}
-use Rattle.sql_keyword.specs.declared.words.Keyword.{Keyword}
-use Rattle.sql_keyword.specs.declared.words.TheConstants.Keyword as keyword
-use Rattle.sql_keyword.specs.Same.{same_keyword}
-use Rattle.sql_keyword.specs.Find.{keyword_of}
-use Rattle.sql_token.specs.declared.token.Span.{Span}
-use Rattle.sql_token.specs.declared.token.TokKind.{TokKind}
-use Rattle.sql_token.specs.declared.token.TokKind.TheVariants as kinds
-use Rattle.sql_token.specs.Terminal.{is_significant_token}
-use Rattle.sql_token.specs.Token.{text_of}
-use Rattle.sql_tree.specs.declared.nodes.Stmt.{Stmt}
-use Rattle.sql_tree.specs.Range.{token_at}
-use Rattle.sql_tree.specs.Statement.{Tree}
+use Rattle.lint_ignore.specs.sql_keyword.declared.words.Keyword.{Keyword}
+use Rattle.lint_ignore.specs.sql_keyword.declared.words.TheConstants.Keyword as keyword
+use Rattle.lint_ignore.specs.sql_keyword.Same.{same_keyword}
+use Rattle.lint_ignore.specs.sql_keyword.Find.{keyword_of}
+use Rattle.lint_ignore.specs.sql_token.declared.token.Span.{Span}
+use Rattle.lint_ignore.specs.sql_token.declared.token.TokKind.{TokKind}
+use Rattle.lint_ignore.specs.sql_token.declared.token.TokKind.TheVariants as kinds
+use Rattle.lint_ignore.specs.sql_token.Terminal.{is_significant_token}
+use Rattle.lint_ignore.specs.sql_token.Token.{text_of}
+use Rattle.lint_ignore.specs.sql_tree.declared.nodes.Stmt.{Stmt}
+use Rattle.lint_ignore.specs.sql_tree.Range.{token_at}
+use Rattle.lint_ignore.specs.sql_tree.Statement.{Tree}
 
 -- ---- one token
 

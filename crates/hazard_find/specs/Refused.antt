@@ -3,18 +3,18 @@
 -- PREPARED). CREATE INDEX CONCURRENTLY is refused too, but a rule reports it.
 use Rattle.std.specs.Prelude.{ℕ, Bool, false, not, ◌&&◌, List, [], ◌∷◌, codes, Option, Some, None, if◌then◌else◌}
 use Rattle.std.specs.List.{list_any}
-use Rattle.sql_keyword.specs.declared.words.TheConstants.Keyword as keyword
-use Rattle.sql_token.specs.declared.token.Span.{Span}
-use Rattle.sql_tree.specs.declared.kinds.ActionKind.TheVariants as action
-use Rattle.sql_tree.specs.declared.kinds.StmtKind.{StmtKind}
-use Rattle.sql_tree.specs.declared.kinds.StmtKind.TheVariants as stmt
-use Rattle.sql_tree.specs.declared.nodes.Action.{Action}
-use Rattle.sql_tree.specs.declared.nodes.Body.{Body}
-use Rattle.sql_tree.specs.declared.nodes.Body.TheVariants as body
-use Rattle.sql_tree.specs.declared.nodes.ReindexTarget.{ReindexTarget}
-use Rattle.sql_tree.specs.declared.nodes.ReindexTarget.TheVariants as target
-use Rattle.sql_tree.specs.declared.nodes.Stmt.{Stmt}
-use Rattle.sql_tree.specs.Statement.{Tree}
+use Rattle.lint_ignore.specs.sql_keyword.declared.words.TheConstants.Keyword as keyword
+use Rattle.lint_ignore.specs.sql_token.declared.token.Span.{Span}
+use Rattle.lint_ignore.specs.sql_tree.declared.kinds.ActionKind.TheVariants as action
+use Rattle.lint_ignore.specs.sql_tree.declared.kinds.StmtKind.{StmtKind}
+use Rattle.lint_ignore.specs.sql_tree.declared.kinds.StmtKind.TheVariants as stmt
+use Rattle.lint_ignore.specs.sql_tree.declared.nodes.Action.{Action}
+use Rattle.lint_ignore.specs.sql_tree.declared.nodes.Body.{Body}
+use Rattle.lint_ignore.specs.sql_tree.declared.nodes.Body.TheVariants as body
+use Rattle.lint_ignore.specs.sql_tree.declared.nodes.ReindexTarget.{ReindexTarget}
+use Rattle.lint_ignore.specs.sql_tree.declared.nodes.ReindexTarget.TheVariants as target
+use Rattle.lint_ignore.specs.sql_tree.declared.nodes.Stmt.{Stmt}
+use Rattle.lint_ignore.specs.sql_tree.Statement.{Tree}
 use Rattle.lint_node.specs.Same.{same_action, same_kind}
 use Rattle.hazard_find.specs.Look.{begins, says}
 use Rattle.hazard_find.specs.Timeouts.{discards_all}

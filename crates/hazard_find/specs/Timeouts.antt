@@ -3,16 +3,16 @@
 use Rattle.std.specs.Prelude.{ℕ, ◌+◌, Bool, true, false, not, ◌&&◌, ◌||◌, List, [], ◌∷◌, codes, Option, Some, None, if◌then◌else◌}
 use Rattle.std.specs.Option.{option_and_then}
 use Rattle.std.specs.Str.{bytes_eq}
-use Rattle.sql_keyword.specs.declared.words.TheConstants.Keyword as keyword
-use Rattle.sql_token.specs.declared.token.Span.{Span}
-use Rattle.sql_token.specs.declared.token.TokKind.{TokKind}
-use Rattle.sql_token.specs.declared.token.TokKind.TheVariants as kinds
-use Rattle.sql_tree.specs.declared.kinds.StmtKind.TheVariants as stmt
-use Rattle.sql_tree.specs.declared.nodes.Body.{Body}
-use Rattle.sql_tree.specs.declared.nodes.Body.TheVariants as body
-use Rattle.sql_tree.specs.declared.nodes.Stmt.{Stmt}
-use Rattle.sql_tree.specs.Range.{token_at}
-use Rattle.sql_tree.specs.Statement.{Tree}
+use Rattle.lint_ignore.specs.sql_keyword.declared.words.TheConstants.Keyword as keyword
+use Rattle.lint_ignore.specs.sql_token.declared.token.Span.{Span}
+use Rattle.lint_ignore.specs.sql_token.declared.token.TokKind.{TokKind}
+use Rattle.lint_ignore.specs.sql_token.declared.token.TokKind.TheVariants as kinds
+use Rattle.lint_ignore.specs.sql_tree.declared.kinds.StmtKind.TheVariants as stmt
+use Rattle.lint_ignore.specs.sql_tree.declared.nodes.Body.{Body}
+use Rattle.lint_ignore.specs.sql_tree.declared.nodes.Body.TheVariants as body
+use Rattle.lint_ignore.specs.sql_tree.declared.nodes.Stmt.{Stmt}
+use Rattle.lint_ignore.specs.sql_tree.Range.{token_at}
+use Rattle.lint_ignore.specs.sql_tree.Statement.{Tree}
 use Rattle.lint_node.specs.Same.{same_kind}
 use Rattle.lint_transaction.specs.Names.{is_one_name}
 use Rattle.hazard_find.specs.Look.{is_word_at, path_after, says, text_at, token_from}

@@ -1,6 +1,6 @@
 -- What a walk over the statements of a tree keeps of the earlier ones.
 use Rattle.std.specs.Prelude.{◌≡◌, ℕ, Bool, List}
-use Rattle.sql_tree.specs.Statement.{Tree}
+use Rattle.lint_ignore.specs.sql_tree.Statement.{Tree}
 use Rattle.lint_transaction.specs.Created.{Created, IsKnown}
 use Rattle.lint_transaction.specs.SpanSet.{Spans, has_span}
 use Rattle.hazard_find.specs.Earlier.{is_dropped, is_limited, is_made, is_temporary, lock_timeout, statement_timeout}

@@ -4,11 +4,9 @@ ghost use Rattle.std.specs.Prelude.{◌≡◌, ◌<◌, length};
 ghost use Rattle.hazard_find.specs.Columns as spec;
 
 use crate::look::{after, after_optional, after_words, token_from};
+use lint_ignore::{Action, ColType, ConKind, Constraint, Keyword, Parse, Span};
 use lint_node::{added_type, same_constraint};
 use lint_transaction::is_one_name;
-use sql_keyword::Keyword;
-use sql_token::Span;
-use sql_tree::{Action, ColType, ConKind, Constraint, Parse};
 
 /// Whether NOT ENFORCED follows a bracket.
 fn is_excused_after(p: &Parse<'_>, close: usize, end: usize) -> bool

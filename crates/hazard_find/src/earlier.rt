@@ -2,8 +2,8 @@
 
 ghost use Rattle.std.specs.Prelude.{◌≡◌, ◌+◌, ◌||◌, ℕ, Bool, List, true, OnOk, OnErr};
 ghost use Rattle.std.specs.List.{list_any};
-ghost use Rattle.sql_tree.specs.Path.{path_cuts};
-ghost use Rattle.sql_tree.specs.Statement.{Tree};
+ghost use Rattle.lint_ignore.specs.sql_tree.Path.{path_cuts};
+ghost use Rattle.lint_ignore.specs.sql_tree.Statement.{Tree};
 ghost use Rattle.lint_transaction.specs.Created.{IsKnown};
 ghost use Rattle.lint_transaction.specs.SpanSet.{has_span};
 ghost use Rattle.lint_transaction.specs.Transaction.{is_open, is_path, same_path, stmt_at};
@@ -14,14 +14,12 @@ ghost use Rattle.hazard_find.specs.Walk.{IsKept};
 
 use crate::look::path_after;
 use crate::timeouts::is_set_after;
+use hazard_base::NoMemory;
+use lint_ignore::{Body, Keyword, Parse, Span, Stmt, StmtKind};
 use lint_node::same_kind;
 use lint_transaction::{CreatedTables, SpanKey, SpanSet};
-use sql_keyword::Keyword;
-use sql_token::Span;
-use sql_tree::{Body, Parse, Stmt, StmtKind};
 use std::alloc::Global;
 use std::marker::Model;
-use text_pos::NoMemory;
 
 const LOCK_TIMEOUT: &str = "lock_timeout";
 

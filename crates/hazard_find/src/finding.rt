@@ -1,18 +1,16 @@
 //! The findings of each hazard.
 
 ghost use Rattle.std.specs.Prelude.{◌≡◌, ◌&&◌, not};
-ghost use Rattle.text_pos.specs.Range.{Range};
+ghost use Rattle.hazard_base.specs.text_pos.Range.{Range};
 ghost use Rattle.hazard_find.specs.Findings as spec;
 
 use crate::columns::{added_json, is_scanned};
 use crate::here::Here;
 use crate::refused::{detaches, refused};
 use crate::rewrites::{action_rewrites, adds_serial, rewrites};
-use hazard_base::{Finding, Hazard};
-use lint_base::Text;
+use hazard_base::{Finding, Hazard, Text, TextRange};
+use lint_ignore::{Action, Body, Constraint, Parse, Stmt, StmtKind};
 use lint_node::same_kind;
-use sql_tree::{Action, Body, Constraint, Parse, Stmt, StmtKind};
-use text_pos::TextRange;
 
 const REFUSED_NOTE: &str = "the transaction is rolled back, each time the migration is run";
 

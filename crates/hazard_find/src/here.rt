@@ -7,11 +7,9 @@ ghost use Rattle.hazard_find.specs.Here as spec;
 ghost use Rattle.hazard_find.specs.Walk.{IsKept};
 
 use crate::earlier::{Earlier, refreshed_view};
-use lint_base::LinterSettings;
-use lint_ignore::has_disable_assume_in_transaction;
+use hazard_base::LinterSettings;
+use lint_ignore::{Body, Parse, Span, Stmt, has_disable_assume_in_transaction};
 use lint_node::altered_path;
-use sql_token::Span;
-use sql_tree::{Body, Parse, Stmt};
 
 /// The first version of PostgreSQL that has REPACK.
 const FIRST_VERSION: i32 = 19;

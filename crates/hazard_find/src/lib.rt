@@ -18,3 +18,7 @@ mod timeouts;
 mod walk;
 
 pub use walk::find;
+
+// What crates above reach through this one.
+pub use hazard_base::{Finding, Hazard, HazardSet, LinterSettings, Names, Violation};
+pub use lint_ignore::{Found, find_ignores};

@@ -1,12 +1,12 @@
 //! Words of a statement that its tree does not keep.
 
 ghost use Rattle.std.specs.Prelude.{◌≡◌, ◌+◌, ◌<◌, drop, length, IfSome};
-ghost use Rattle.sql_tree.specs.Range.{token_at};
+ghost use Rattle.lint_ignore.specs.sql_tree.Range.{token_at};
 ghost use Rattle.hazard_find.specs.Look as spec;
 
-use sql_keyword::{Keyword, keyword_of, same_keyword};
-use sql_token::{Span, TokKind, first_significant};
-use sql_tree::{Parse, Stmt};
+use lint_ignore::{
+    Keyword, Parse, Span, Stmt, TokKind, first_significant, keyword_of, same_keyword,
+};
 
 /// The number of the first token, from number `next` to before number `end`, that is no blank and no comment.
 #[tactic(auto, unfolding(crate::specs::Look::token_from))]

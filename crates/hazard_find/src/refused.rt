@@ -5,11 +5,9 @@ ghost use Rattle.hazard_find.specs.Refused as spec;
 
 use crate::look::{begins, says};
 use crate::timeouts::discards_all;
-use lint_base::Text;
+use hazard_base::Text;
+use lint_ignore::{Action, ActionKind, Body, Keyword, Parse, ReindexTarget, Span, Stmt, StmtKind};
 use lint_node::{same_action, same_kind};
-use sql_keyword::Keyword;
-use sql_token::Span;
-use sql_tree::{Action, ActionKind, Body, Parse, ReindexTarget, Stmt, StmtKind};
 
 const DROP_INDEX_CONCURRENTLY: &str = "`drop index concurrently` always fails inside a transaction";
 

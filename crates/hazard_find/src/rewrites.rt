@@ -7,12 +7,12 @@ ghost use Rattle.hazard_find.specs.Rewrites as spec;
 use crate::here::Here;
 use crate::look::begins;
 use crate::refused::moves;
-use lint_base::Text;
+use hazard_base::Text;
+use lint_ignore::{
+    Action, ActionKind, Body, ColType, Keyword, Parse, Piece, PieceKind, Span, Stmt,
+};
 use lint_node::{added_type, is_system, same_piece};
 use lint_transaction::is_one_name;
-use sql_keyword::Keyword;
-use sql_token::Span;
-use sql_tree::{Action, ActionKind, Body, ColType, Parse, Piece, PieceKind, Stmt};
 
 const VACUUM_FULL: &str =
     "`vacuum full` rewrites the whole table while nobody can read or write it";

@@ -1,16 +1,14 @@
 //! Timeouts that a text sets for its session.
 
 ghost use Rattle.std.specs.Prelude.{◌≡◌, ◌<◌, ◌+◌, ◌&&◌, ◌||◌, not, length, IfSome};
-ghost use Rattle.sql_tree.specs.Range.{token_at};
+ghost use Rattle.lint_ignore.specs.sql_tree.Range.{token_at};
 ghost use Rattle.hazard_find.specs.Look.{text_at};
 ghost use Rattle.hazard_find.specs.Timeouts as spec;
 
 use crate::look::{after, is_word_at, path_after, says, token_from};
+use lint_ignore::{Body, Keyword, Parse, Span, Stmt, StmtKind, TokKind};
 use lint_node::same_kind;
 use lint_transaction::is_one_name;
-use sql_keyword::Keyword;
-use sql_token::{Span, TokKind};
-use sql_tree::{Body, Parse, Stmt, StmtKind};
 
 fn is_parameter(p: &Parse<'_>, name: &str, path: Option<Span>) -> bool
     ensures { result ≡ spec.is_parameter p.now name.now path }

@@ -15,12 +15,10 @@ use crate::finding::{
     refresh_finding, refused_finding, rewrite_finding, serial_finding, timeout_finding,
 };
 use crate::here::{Here, is_assumed, known_at};
-use hazard_base::{Finding, HazardSet};
-use lint_base::LinterSettings;
+use hazard_base::{Finding, HazardSet, LinterSettings, NoMemory};
+use lint_ignore::{Action, Constraint, Parse, Stmt};
 use lint_node::{new_constraints, table_actions};
-use sql_tree::{Action, Constraint, Parse, Stmt};
 use std::alloc::Global;
-use text_pos::NoMemory;
 
 /// Adds a finding, if there is one and its hazard is enabled.
 fn push(

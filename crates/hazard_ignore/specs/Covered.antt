@@ -1,10 +1,10 @@
 -- Which findings the ignore comments of a text cover, and which names of hazards in them cover nothing.
 use Rattle.std.specs.Prelude.{◌≡◌, ℕ, ◌+◌, Bool, true, ◌==◌, ◌&&◌, ◌||◌, not, nat_le, List, [], ◌∷◌, Option, Some, None, if◌then◌else◌}
 use Rattle.std.specs.List.{flat_map, list_any}
-use Rattle.sql_token.specs.Token.{Text}
-use Rattle.sql_tree.specs.Statement.{Tree}
-use Rattle.text_pos.specs.Line.{line_feeds, line_of}
-use Rattle.text_pos.specs.Range.{Range}
+use Rattle.lint_ignore.specs.sql_token.Token.{Text}
+use Rattle.lint_ignore.specs.sql_tree.Statement.{Tree}
+use Rattle.hazard_base.specs.text_pos.Line.{line_feeds, line_of}
+use Rattle.hazard_base.specs.text_pos.Range.{Range}
 use Rattle.lint_base.specs.declared.rule.Rule.TheVariants as rule
 use Rattle.lint_base.specs.declared.violation.Violation.{Violation}
 use Rattle.lint_base.specs.Violations.{violation}

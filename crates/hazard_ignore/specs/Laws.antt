@@ -1,7 +1,7 @@
 -- Which reports of the linter are of names of hazards.
 use Rattle.std.specs.Prelude.{◌≡◌, ℕ, List, None}
-use Rattle.sql_token.specs.Token.{Text}
-use Rattle.text_pos.specs.Range.{Range}
+use Rattle.lint_ignore.specs.sql_token.Token.{Text}
+use Rattle.hazard_base.specs.text_pos.Range.{Range}
 use Rattle.lint_base.specs.declared.rule.Rule.TheVariants as rule
 use Rattle.lint_base.specs.Violations.{violation}
 use Rattle.lint_ignore.specs.declared.ignore.IgnorePiece.{IgnorePiece}

@@ -2,9 +2,9 @@
 
 ghost use Rattle.std.specs.Prelude.{◌≡◌, ◌++◌, ◌<◌, ◌^◌, List, ℕ, IfOk, OnOk, length};
 ghost use Rattle.std.specs.List.{flat_map, list_any};
-ghost use Rattle.sql_token.specs.Token.{Text as Bytes};
-ghost use Rattle.sql_tree.specs.Statement.{Tree};
-ghost use Rattle.text_pos.specs.Line.{line_feeds, line_of};
+ghost use Rattle.lint_ignore.specs.sql_token.Token.{Text as Bytes};
+ghost use Rattle.lint_ignore.specs.sql_tree.Statement.{Tree};
+ghost use Rattle.hazard_base.specs.text_pos.Line.{line_feeds, line_of};
 ghost use Rattle.lint_ignore.specs.Covered.{line_of_ignore};
 ghost use Rattle.lint_ignore.specs.Index.{is_bare_file};
 ghost use Rattle.lint_ignore.specs.Unused.{unused_message};
@@ -13,12 +13,10 @@ ghost use Rattle.hazard_ignore.specs.Covered as spec;
 ghost use Rattle.hazard_ignore.specs.Covered.{AreIgnoresOf, covers, is_covered, unused_names};
 
 use crate::hazard_names::hazard_of;
-use hazard_base::{Finding, Hazard, HazardSet};
+use hazard_base::{Finding, Hazard, HazardSet, LineIndex, NoMemory, TextRange};
 use lint_base::{Rule, Text, Violation};
-use lint_ignore::{Found, Ignore, IgnoreKind, find_ignores};
-use sql_tree::Parse;
+use lint_ignore::{Found, Ignore, IgnoreKind, Parse, find_ignores};
 use std::alloc::Global;
-use text_pos::{LineIndex, NoMemory, TextRange};
 
 /// A name of a hazard in an ignore comment.
 #[derive(Clone, Copy, Debug, PartialEq, Eq)]

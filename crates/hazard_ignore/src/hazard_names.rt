@@ -6,10 +6,9 @@ ghost use Rattle.hazard_base.specs.Hazards.{name_of};
 ghost use Rattle.hazard_ignore.specs.HazardNames as spec;
 ghost use Rattle.hazard_ignore.specs.HazardNames.{is_unknown};
 
-use hazard_base::Hazard;
+use hazard_base::{Hazard, NoMemory};
 use lint_base::{Rule, Violation};
 use std::alloc::Global;
-use text_pos::NoMemory;
 
 /// The linter's message of a name that is this hazard's.
 #[tactic(auto, unfolding(hazard_base::specs::Hazards::name_of))]

@@ -3,7 +3,7 @@ use Rattle.std.specs.Prelude.{◌||◌, Bool, List, [], ◌∷◌, codes}
 use Rattle.std.specs.List.{list_any}
 use Rattle.std.specs.Str.{bytes_eq}
 use Rattle.squawk_run.specs.ForeignWords.{has_foreign_word}
-use Rattle.squawk_words.specs.Words.{Text}
+use Rattle.squawk_run.specs.squawk_words.Words.{Text}
 
 -- one of the words is this one
 abbrev pub has_word : Text → List Text → Bool

@@ -2,8 +2,7 @@
 ghost use Rattle.std.specs.Prelude.{◌≡◌};
 ghost use Rattle.help_words.specs.Help as spec;
 
-use squawk_run::has_foreign_word;
-use squawk_words::Words;
+use squawk_run::{Words, has_foreign_word};
 
 // Whether one of the words is this one.
 fn has_word(words: &Words, wanted: &str) -> bool

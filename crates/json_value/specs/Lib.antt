@@ -1,1 +1,2 @@
 pub mod Values
+pub use Rattle.source_file.specs as source_file

@@ -8,3 +8,6 @@ mod values;
 
 pub use text::push_value;
 pub use values::{hint_value, text_value};
+
+// What crates above reach through this one.
+pub use source_file::{Level, Place, Refusal, SourceFile, hint_for};

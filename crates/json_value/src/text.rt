@@ -3,9 +3,9 @@ ghost use Rattle.std.specs.Prelude.{◌≡◌, ◌++◌, OnOk, false};
 ghost use Rattle.serde_json.specs.View.{view};
 ghost use Rattle.serde_json.specs.Written.{compact_text, has_float};
 
+use lint_base::NoMemory;
 use serde_json::Value;
 use std::alloc::Global;
-use text_pos::NoMemory;
 
 /// Adds the text of a value that has no float. The error comes when memory runs out.
 pub fn push_value(to: &mut Vec<u8>, alloc: Global, value: &Value) -> Result<(), NoMemory>

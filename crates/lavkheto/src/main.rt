@@ -1,12 +1,9 @@
 //! The program for people, editors and CI: `lavkheto check migrations`, `lavkheto explain RULE`, `lavkheto server`.
 #![tactic(auto)]
 
-use check_progress::Meter;
-use file_store::SystemFiles;
-use file_write::SystemWriter;
-use squawk_run::{say_stop, take_words};
-use squawk_stream::{StdSink, StdSource};
-use squawk_words::Words;
+use check_progress::{
+    Meter, StdSink, StdSource, SystemFiles, SystemWriter, Words, say_stop, take_words,
+};
 use std::io::IsTerminal;
 use std::process::ExitCode;
 

@@ -2,7 +2,7 @@
 use Rattle.std.proofs.Common.{◌≡◌, ℕ, ◌⊎◌, inl, inr, Bool, List, [], ◌∷◌}
 use Rattle.std.proofs.lemmas.List.Elements.{All-cons, All-nil, All-weaker}
 use Rattle.std.specs.Prelude.{All, Contains}
-use Rattle.lint_base.specs.declared.violation.Violation.{Violation}
+use Rattle.law_fix_steps.specs.lint_base.declared.violation.Violation.{Violation}
 use Rattle.law_fix_steps.specs.Kept.{Kept, SameAt}
 use Rattle.law_fix_steps.specs.Left.{Carried, Left}
 use Rattle.law_answer_steps.proofs.Ordered.{first_there, later_there}

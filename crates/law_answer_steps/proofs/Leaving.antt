@@ -5,27 +5,27 @@ use Rattle.std.proofs.lemmas.List.Elements.{All-cons, All-contains, All-head, Al
 use Rattle.std.specs.List.{list_any}
 use Rattle.std.specs.Prelude.{All, Contains, ◌&&◌, ◌||◌, is_some, not}
 use Rattle.std.specs.Str.{IsUtf8}
-use Rattle.sql_token.specs.declared.token.Tok.{Tok}
-use Rattle.sql_tree.specs.Statement.{Tree}
-use Rattle.lint_base.specs.declared.edit.Edit.{Edit}
-use Rattle.lint_base.specs.declared.rule.Rule.{Rule}
-use Rattle.lint_base.specs.declared.rule.Rule.TheVariants as rule
-use Rattle.lint_base.specs.declared.settings.LinterSettings.{LinterSettings}
-use Rattle.lint_base.specs.declared.violation.Violation.{Violation}
-use Rattle.lint_base.specs.Fixes.{FixValue}
-use Rattle.lint_base.specs.RuleSets.{Rules}
-use Rattle.lint_ignore.specs.Comment.{has_disable_comment, ignore_in_token}
-use Rattle.lint_pass.specs.Laws.{IsPlacedIn, IsRead}
-use Rattle.pass_groups.specs.OwnTable.{own_table}
-use Rattle.law_fixes.specs.Edited.{edited, place_moved}
-use Rattle.law_fixes.specs.Mended.{Table, builds, dropped, rebuilt, detached}
-use Rattle.law_type_fixes.specs.Rules.{type_table, ints, smallints, timestamps, varchars}
+use Rattle.law_fix_steps.specs.sql_token.declared.token.Tok.{Tok}
+use Rattle.law_fix_steps.specs.sql_tree.Statement.{Tree}
+use Rattle.law_fix_steps.specs.lint_base.declared.edit.Edit.{Edit}
+use Rattle.law_fix_steps.specs.lint_base.declared.rule.Rule.{Rule}
+use Rattle.law_fix_steps.specs.lint_base.declared.rule.Rule.TheVariants as rule
+use Rattle.law_fix_steps.specs.lint_base.declared.settings.LinterSettings.{LinterSettings}
+use Rattle.law_fix_steps.specs.lint_base.declared.violation.Violation.{Violation}
+use Rattle.law_fix_steps.specs.lint_base.Fixes.{FixValue}
+use Rattle.law_fix_steps.specs.lint_base.RuleSets.{Rules}
+use Rattle.law_fix_steps.specs.lint_ignore.Comment.{has_disable_comment, ignore_in_token}
+use Rattle.law_fix_steps.specs.lint_pass.Laws.{IsPlacedIn, IsRead}
+use Rattle.squawk_linter.specs.pass_groups.OwnTable.{own_table}
+use Rattle.law_fix_steps.specs.law_fixes.Edited.{edited, place_moved}
+use Rattle.law_fix_steps.specs.law_fixes.Mended.{Table, builds, dropped, rebuilt, detached}
+use Rattle.law_fix_steps.specs.law_type_fixes.Rules.{type_table, ints, smallints, timestamps, varchars}
 use Rattle.law_fix_steps.specs.Kept.{Kept, SameAt}
 use Rattle.law_fix_steps.specs.Leaves.{FixesLeave, FixLeaves, Leaves, followed_tables, is_followed}
 use Rattle.law_fix_steps.specs.Left.{Left}
 use Rattle.law_fix_steps.specs.Listed.{is_listed}
 use Rattle.law_fix_steps.specs.Step.{JoinNoWord, has_ignore_comment, listed_tables, timeouts}
-use Rattle.law_answers.specs.Tables.{IsInItsTable, mended_table}
+use Rattle.squawk_linter.specs.law_answers.Tables.{IsInItsTable, mended_table}
 use Rattle.squawk_linter.specs.Answers.{reports}
 use Rattle.squawk_linter.specs.Headline.{HasNoIgnoreComment}
 use Rattle.squawk_linter.specs.Mending.{AnswersAreInTheirTables}

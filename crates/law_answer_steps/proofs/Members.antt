@@ -2,29 +2,29 @@
 use Rattle.std.proofs.Common.{List, ◌++◌}
 use Rattle.std.proofs.lemmas.List.Elements.{Contains-append_left, Contains-append_right}
 use Rattle.std.specs.Prelude.{Contains}
-use Rattle.sql_tree.specs.Statement.{Tree}
-use Rattle.lint_base.specs.declared.rule.Rule.TheVariants as rule
-use Rattle.lint_base.specs.declared.settings.LinterSettings.{LinterSettings}
-use Rattle.lint_base.specs.declared.violation.Violation.{Violation}
-use Rattle.lint_base.specs.RuleSets.{Rules}
-use Rattle.pass_client.specs.DomainConstraints.{reports_of_ban_create_domain_with_constraint, reports_of_ban_alter_domain_with_add_constraint}
-use Rattle.pass_client.specs.RequireTableSchema.{reports_of_require_table_schema}
-use Rattle.pass_constraint.specs.AddedConstraints as added
-use Rattle.pass_constraint.specs.ConstraintMissingNotValid.{reports_of_constraint_missing_not_valid}
-use Rattle.pass_data_type.specs.PreferIdentity.{reports_of_prefer_identity}
-use Rattle.pass_data_type.specs.RequireEnumValueOrdering.{reports_of_require_enum_value_ordering}
-use Rattle.pass_drop.specs.BanTruncateCascade.{reports_of_ban_truncate_cascade}
-use Rattle.pass_client.specs.Renames.{rows_of_renaming_column, rows_of_renaming_table}
-use Rattle.pass_drop.specs.Objects.{rows_of_ban_drop_view, rows_of_ban_drop_function, rows_of_ban_drop_type}
-use Rattle.pass_history.specs.RobustStatements.{reports_of_prefer_robust_stmts}
-use Rattle.pass_name.specs.BanDuplicateColumnAssignments.{reports_of_ban_duplicate_column_assignments}
-use Rattle.pass_name.specs.IdentifierTooLong.{reports_of_identifier_too_long}
-use Rattle.pass_session.specs.BanUncommittedTransaction.{reports_of_ban_uncommitted_transaction}
-use Rattle.pass_session.specs.PreferRepack as repacks
-use Rattle.pass_session.specs.TransactionNesting.{reports_of_transaction_nesting}
-use Rattle.pass_groups.specs.OwnTable.{added_table, after_constraints, ban_table, before_builds, before_constraints, group1_table, group2_table, group3_table, group4_table, group5_table, group6_table, group7_table, group8_table, own_table, statement_table}
-use Rattle.law_fixes.specs.Mended.{Table, builds, dropped, rebuilt, detached}
-use Rattle.law_type_fixes.specs.Rules.{type_table, ints, smallints, timestamps, varchars}
+use Rattle.law_fix_steps.specs.sql_tree.Statement.{Tree}
+use Rattle.law_fix_steps.specs.lint_base.declared.rule.Rule.TheVariants as rule
+use Rattle.law_fix_steps.specs.lint_base.declared.settings.LinterSettings.{LinterSettings}
+use Rattle.law_fix_steps.specs.lint_base.declared.violation.Violation.{Violation}
+use Rattle.law_fix_steps.specs.lint_base.RuleSets.{Rules}
+use Rattle.squawk_linter.specs.pass_client.DomainConstraints.{reports_of_ban_create_domain_with_constraint, reports_of_ban_alter_domain_with_add_constraint}
+use Rattle.squawk_linter.specs.pass_client.RequireTableSchema.{reports_of_require_table_schema}
+use Rattle.squawk_linter.specs.pass_constraint.AddedConstraints as added
+use Rattle.squawk_linter.specs.pass_constraint.ConstraintMissingNotValid.{reports_of_constraint_missing_not_valid}
+use Rattle.law_fix_steps.specs.pass_data_type.PreferIdentity.{reports_of_prefer_identity}
+use Rattle.law_fix_steps.specs.pass_data_type.RequireEnumValueOrdering.{reports_of_require_enum_value_ordering}
+use Rattle.squawk_linter.specs.pass_drop.BanTruncateCascade.{reports_of_ban_truncate_cascade}
+use Rattle.squawk_linter.specs.pass_client.Renames.{rows_of_renaming_column, rows_of_renaming_table}
+use Rattle.squawk_linter.specs.pass_drop.Objects.{rows_of_ban_drop_view, rows_of_ban_drop_function, rows_of_ban_drop_type}
+use Rattle.squawk_linter.specs.pass_history.RobustStatements.{reports_of_prefer_robust_stmts}
+use Rattle.squawk_linter.specs.pass_name.BanDuplicateColumnAssignments.{reports_of_ban_duplicate_column_assignments}
+use Rattle.squawk_linter.specs.pass_name.IdentifierTooLong.{reports_of_identifier_too_long}
+use Rattle.law_fix_steps.specs.pass_session.BanUncommittedTransaction.{reports_of_ban_uncommitted_transaction}
+use Rattle.law_fix_steps.specs.pass_session.PreferRepack as repacks
+use Rattle.law_fix_steps.specs.pass_session.TransactionNesting.{reports_of_transaction_nesting}
+use Rattle.squawk_linter.specs.pass_groups.OwnTable.{added_table, after_constraints, ban_table, before_builds, before_constraints, group1_table, group2_table, group3_table, group4_table, group5_table, group6_table, group7_table, group8_table, own_table, statement_table}
+use Rattle.law_fix_steps.specs.law_fixes.Mended.{Table, builds, dropped, rebuilt, detached}
+use Rattle.law_fix_steps.specs.law_type_fixes.Rules.{type_table, ints, smallints, timestamps, varchars}
 use Rattle.law_fix_steps.specs.Step.{timeouts}
 
 module _ (tree : Tree) (rules : Rules) (settings : LinterSettings) (v : Violation) where

@@ -4,8 +4,8 @@ use Rattle.std.proofs.lemmas.Bool.{cases_lt, false≢true}
 use Rattle.std.proofs.lemmas.Bool.Decides.{nat_tests}
 use Rattle.std.proofs.lemmas.List.Elements.{All-append, All-contains, All-cons, All-head, All-nil, All-tail, All-weaker, Contains-append_left, Contains-append_right}
 use Rattle.std.specs.Prelude.{All, Contains, ◌==◌, filter}
-use Rattle.lint_base.specs.declared.violation.Violation.{Violation}
-use Rattle.pass_groups.specs.OwnTable.{own_table}
+use Rattle.law_fix_steps.specs.lint_base.declared.violation.Violation.{Violation}
+use Rattle.squawk_linter.specs.pass_groups.OwnTable.{own_table}
 use Rattle.squawk_linter.specs.ByStart.{by_key}
 use Rattle.squawk_linter.specs.Reports.{cleared, gathered, reports_from, start_of, with_unknown_names}
 use Rattle.law_answer_steps.specs.Leaves.{Ascend, AnswersAscend}

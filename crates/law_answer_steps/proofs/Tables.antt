@@ -3,17 +3,17 @@ use Rattle.std.proofs.Common.{◌≡◌, true, IfSome}
 use Rattle.std.proofs.lemmas.Bool.{false≢true}
 use Rattle.std.proofs.lemmas.List.Elements.{All-contains, All-weaker}
 use Rattle.std.specs.Prelude.{Contains}
-use Rattle.sql_tree.specs.Statement.{Tree, IsTree}
-use Rattle.lint_base.specs.declared.rule.Rule.{Rule}
-use Rattle.lint_base.specs.declared.rule.Rule.TheVariants as rule
-use Rattle.lint_base.specs.declared.settings.LinterSettings.{LinterSettings}
-use Rattle.lint_base.specs.declared.violation.Violation.{Violation}
-use Rattle.lint_base.specs.RuleSets.{Rules}
-use Rattle.law_fixes.specs.Mended.{Table, builds, dropped, rebuilt, detached}
-use Rattle.law_type_fixes.specs.Rules.{type_table, ints, smallints, timestamps, varchars}
+use Rattle.law_fix_steps.specs.sql_tree.Statement.{Tree, IsTree}
+use Rattle.law_fix_steps.specs.lint_base.declared.rule.Rule.{Rule}
+use Rattle.law_fix_steps.specs.lint_base.declared.rule.Rule.TheVariants as rule
+use Rattle.law_fix_steps.specs.lint_base.declared.settings.LinterSettings.{LinterSettings}
+use Rattle.law_fix_steps.specs.lint_base.declared.violation.Violation.{Violation}
+use Rattle.law_fix_steps.specs.lint_base.RuleSets.{Rules}
+use Rattle.law_fix_steps.specs.law_fixes.Mended.{Table, builds, dropped, rebuilt, detached}
+use Rattle.law_fix_steps.specs.law_type_fixes.Rules.{type_table, ints, smallints, timestamps, varchars}
 use Rattle.law_fix_steps.specs.Listed.{is_listed}
 use Rattle.law_fix_steps.specs.Step.{FixesStep, FixSteps, JoinNoWord, timeouts}
-use Rattle.law_answers.specs.Tables.{IsInItsTable, mended_table}
+use Rattle.squawk_linter.specs.law_answers.Tables.{IsInItsTable, mended_table}
 use Rattle.squawk_linter.specs.Answers.{reports}
 use Rattle.squawk_linter.specs.Mending.{AnswersAreInTheirTables}
 use Rattle.squawk_linter.specs.Reports.{cleared}

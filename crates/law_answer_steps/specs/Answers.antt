@@ -1,8 +1,8 @@
 -- Fixes of an answer as steps.
 use Rattle.std.specs.Prelude.{◌≡◌, true, All}
-use Rattle.sql_tree.specs.Statement.{Tree, IsTree}
-use Rattle.lint_base.specs.declared.settings.LinterSettings.{LinterSettings}
-use Rattle.lint_base.specs.RuleSets.{Rules}
+use Rattle.law_fix_steps.specs.sql_tree.Statement.{Tree, IsTree}
+use Rattle.law_fix_steps.specs.lint_base.declared.settings.LinterSettings.{LinterSettings}
+use Rattle.law_fix_steps.specs.lint_base.RuleSets.{Rules}
 use Rattle.law_fix_steps.specs.Listed.{is_listed}
 use Rattle.law_fix_steps.specs.Step.{FixSteps, JoinNoWord}
 use Rattle.squawk_linter.specs.Answers.{reports}

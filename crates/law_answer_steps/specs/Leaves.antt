@@ -1,14 +1,14 @@
 -- One fix of an answer, and the answer for the text that it makes.
 use Rattle.std.specs.Prelude.{◌≡◌, ◌≤◌, ◌<◌, ◌⊎◌, ◌^◌, ℕ, true, All, Contains, List, [], ◌∷◌, length, Some}
 use Rattle.std.specs.Str.{IsUtf8}
-use Rattle.sql_tree.specs.Statement.{Tree}
-use Rattle.lint_base.specs.declared.edit.Edit.{Edit}
-use Rattle.lint_base.specs.declared.settings.LinterSettings.{LinterSettings}
-use Rattle.lint_base.specs.declared.violation.Violation.{Violation}
-use Rattle.lint_base.specs.Fixes.{FixValue}
-use Rattle.lint_base.specs.RuleSets.{Rules}
-use Rattle.lint_pass.specs.Laws.{IsRead}
-use Rattle.law_fixes.specs.Edited.{edited, place_moved}
+use Rattle.law_fix_steps.specs.sql_tree.Statement.{Tree}
+use Rattle.law_fix_steps.specs.lint_base.declared.edit.Edit.{Edit}
+use Rattle.law_fix_steps.specs.lint_base.declared.settings.LinterSettings.{LinterSettings}
+use Rattle.law_fix_steps.specs.lint_base.declared.violation.Violation.{Violation}
+use Rattle.law_fix_steps.specs.lint_base.Fixes.{FixValue}
+use Rattle.law_fix_steps.specs.lint_base.RuleSets.{Rules}
+use Rattle.law_fix_steps.specs.lint_pass.Laws.{IsRead}
+use Rattle.law_fix_steps.specs.law_fixes.Edited.{edited, place_moved}
 use Rattle.law_fix_steps.specs.Kept.{SameAt}
 use Rattle.law_fix_steps.specs.Leaves.{is_followed}
 use Rattle.law_fix_steps.specs.Left.{FixFollows}

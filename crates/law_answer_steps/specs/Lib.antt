@@ -1,2 +1,4 @@
 pub mod Answers
 pub mod Leaves
+pub use Rattle.squawk_linter.specs.sql_read
+pub use Rattle.squawk_linter.specs as squawk_linter

@@ -4,9 +4,9 @@ ghost use Rattle.law_answer_steps.specs.Answers.{AnswersStep};
 ghost use Rattle.law_answer_steps.specs.Leaves.{AnswersAscend, AnswersLeave};
 ghost use Rattle.squawk_linter.specs.Placed.{IsPlacedPass};
 
+use law_fix_steps::StepPass;
 use law_fix_steps::laws::{fixes_leave, fixes_step};
-use lint_pass::StepPass;
-use pass_groups::OwnPasses;
+use squawk_linter::OwnPasses;
 use squawk_linter::laws::answered_fixes_mend;
 
 /// The fix of each report of a listed rule that a linter answers makes a text that has a tree, if it joins no word. No

@@ -4,17 +4,17 @@ use Rattle.std.proofs.lemmas.Bool.{and_parts, cases_eq, false≢true, not-true, 
 use Rattle.std.proofs.lemmas.List.Elements.{All-contains, All-contains_itself, All-weaker}
 use Rattle.std.specs.List.{list_all}
 use Rattle.std.specs.Prelude.{not, All, Contains}
-use Rattle.sql_tree.specs.Statement.{Tree}
-use Rattle.lint_base.specs.declared.rule.Rule.{Rule}
-use Rattle.lint_base.specs.declared.rule.Rule.TheVariants as rule
-use Rattle.lint_base.specs.declared.settings.LinterSettings.{LinterSettings}
-use Rattle.lint_base.specs.declared.violation.Violation.{Violation}
-use Rattle.lint_base.specs.Rules.{number_of}
-use Rattle.lint_base.specs.RuleSets.{Rules, has, no_rules, with_rule}
-use Rattle.lint_base.proofs.RuleSets.{has-both_rules, has-no_rules, has-with_rule_other, rule_from_number}
-use Rattle.lint_pass.specs.Laws.{IsOf}
-use Rattle.pass_session.specs.RequireTimeoutSettings.{timeout_rules}
-use Rattle.law_fixes.specs.Mended.{Table}
+use Rattle.law_type_fixes.specs.sql_tree.Statement.{Tree}
+use Rattle.law_type_fixes.specs.lint_base.declared.rule.Rule.{Rule}
+use Rattle.law_type_fixes.specs.lint_base.declared.rule.Rule.TheVariants as rule
+use Rattle.law_type_fixes.specs.lint_base.declared.settings.LinterSettings.{LinterSettings}
+use Rattle.law_type_fixes.specs.lint_base.declared.violation.Violation.{Violation}
+use Rattle.law_type_fixes.specs.lint_base.Rules.{number_of}
+use Rattle.law_type_fixes.specs.lint_base.RuleSets.{Rules, has, no_rules, with_rule}
+use Rattle.law_type_fixes.proofs.of_lint_base.RuleSets.{has-both_rules, has-no_rules, has-with_rule_other, rule_from_number}
+use Rattle.law_type_fixes.specs.lint_pass.Laws.{IsOf}
+use Rattle.law_type_fixes.specs.pass_session.RequireTimeoutSettings.{timeout_rules}
+use Rattle.law_type_fixes.specs.law_fixes.Mended.{Table}
 use Rattle.law_answers.specs.Tables.{AllAreInTheirTables, IsCoded, IsInItsTable, has_none, mended_rules, mended_table, timeouts}
 
 contrary : (b : Bool) → b ≡ false → b ≡ true → ⊥

@@ -1,7 +1,7 @@
 -- Sums of tables.
 use Rattle.std.proofs.lemmas.List.Elements.{All-append}
 use Rattle.std.specs.Prelude.{◌++◌}
-use Rattle.law_fixes.specs.Mended.{Table}
+use Rattle.law_type_fixes.specs.law_fixes.Mended.{Table}
 use Rattle.law_answers.specs.Tables.{AllAreInTheirTables, IsInItsTable}
 
 -- the entries of one table and then of another one

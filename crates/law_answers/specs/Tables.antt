@@ -1,16 +1,16 @@
 -- The table that an entry is in, by its rule.
 use Rattle.std.specs.List.{list_all}
 use Rattle.std.specs.Prelude.{Bool, not, All, List, [], ◌∷◌, Contains, Option, Some, None, IfSome}
-use Rattle.sql_tree.specs.Statement.{Tree}
-use Rattle.lint_base.specs.declared.rule.Rule.{Rule}
-use Rattle.lint_base.specs.declared.rule.Rule.TheVariants as rule
-use Rattle.lint_base.specs.declared.settings.LinterSettings.{LinterSettings}
-use Rattle.lint_base.specs.declared.violation.Violation.{Violation}
-use Rattle.lint_base.specs.RuleSets.{Rules, has}
-use Rattle.lint_pass.specs.Laws.{IsOf}
+use Rattle.law_type_fixes.specs.sql_tree.Statement.{Tree}
+use Rattle.law_type_fixes.specs.lint_base.declared.rule.Rule.{Rule}
+use Rattle.law_type_fixes.specs.lint_base.declared.rule.Rule.TheVariants as rule
+use Rattle.law_type_fixes.specs.lint_base.declared.settings.LinterSettings.{LinterSettings}
+use Rattle.law_type_fixes.specs.lint_base.declared.violation.Violation.{Violation}
+use Rattle.law_type_fixes.specs.lint_base.RuleSets.{Rules, has}
+use Rattle.law_type_fixes.specs.lint_pass.Laws.{IsOf}
 use Rattle.pass_groups.specs.OwnTable.{own_table}
-use Rattle.pass_session.specs.RequireTimeoutSettings.{reports_of_require_timeout_settings}
-use Rattle.law_fixes.specs.Mended.{Table, builds, dropped, rebuilt, detached}
+use Rattle.law_type_fixes.specs.pass_session.RequireTimeoutSettings.{reports_of_require_timeout_settings}
+use Rattle.law_type_fixes.specs.law_fixes.Mended.{Table, builds, dropped, rebuilt, detached}
 use Rattle.law_type_fixes.specs.Rules.{type_table, ints, smallints, timestamps, varchars}
 
 -- the table of the pass on timeouts

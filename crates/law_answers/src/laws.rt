@@ -3,26 +3,17 @@
 ghost use Rattle.pass_groups.specs.OwnTable.{group2_table, group3_table, group4_table, group5_table};
 ghost use Rattle.law_answers.specs.Tables.{AllAreInTheirTables, EntriesAreInTheirTables, IsCoded};
 
-use lint_pass::StepPass;
-use pass_client::{
-    BanAlterDomainWithAddConstraint, BanCreateDomainWithConstraint, RenamingColumn, RenamingTable,
-    RequireTableSchema,
+use law_type_fixes::{
+    BanUncommittedTransaction, PreferBigintOverInt, PreferBigintOverSmallint, PreferIdentity,
+    PreferRepack, PreferTextField, PreferTimestamptz, RequireConcurrentIndexCreation,
+    RequireConcurrentIndexDeletion, RequireConcurrentPartitionDetach, RequireConcurrentReindex,
+    RequireEnumValueOrdering, RequireTimeoutSettings, StepPass, TransactionNesting,
 };
-use pass_concurrent::{
-    RequireConcurrentIndexCreation, RequireConcurrentIndexDeletion,
-    RequireConcurrentPartitionDetach, RequireConcurrentReindex,
-};
-use pass_constraint::{ConstraintMissingNotValid, DisallowUniqueConstraint};
-use pass_data_type::{
-    PreferBigintOverInt, PreferBigintOverSmallint, PreferIdentity, PreferTextField,
-    PreferTimestamptz, RequireEnumValueOrdering,
-};
-use pass_drop::{BanDropFunction, BanDropType, BanDropView, BanTruncateCascade};
-use pass_groups::{BEFORE_CONSTRAINTS, Group1, Group6, Group7, Group8};
-use pass_history::PreferRobustStmts;
-use pass_name::{BanDuplicateColumnAssignments, IdentifierTooLong};
-use pass_session::{
-    BanUncommittedTransaction, PreferRepack, RequireTimeoutSettings, TransactionNesting,
+use pass_groups::{
+    BEFORE_CONSTRAINTS, BanAlterDomainWithAddConstraint, BanCreateDomainWithConstraint,
+    BanDropFunction, BanDropType, BanDropView, BanDuplicateColumnAssignments, BanTruncateCascade,
+    ConstraintMissingNotValid, DisallowUniqueConstraint, Group1, Group6, Group7, Group8,
+    IdentifierTooLong, PreferRobustStmts, RenamingColumn, RenamingTable, RequireTableSchema,
 };
 
 /// Each entry of a pass is of one of its rules.

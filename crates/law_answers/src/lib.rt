@@ -3,3 +3,9 @@
 #![tactic(auto)]
 
 pub mod laws;
+
+// What crates above reach through this one.
+pub use pass_groups::{
+    AFTER_CONSTRAINTS, BEFORE_BUILDS, BEFORE_CONSTRAINTS, BanDropDatabase, Group1, Group2, Group3,
+    Group4, Group5, Group6, Group7, Group8, OwnPasses,
+};

@@ -5,45 +5,45 @@ use Rattle.std.proofs.lemmas.List.Elements.{All-from_recursion}
 use Rattle.std.specs.List.{AllByRecursion, flat_map, list_any}
 use Rattle.std.specs.Prelude.{if◌then◌else◌}
 use denote.Enum.Bare.{same_true, true_same}
-use Rattle.text_pos.specs.Range.{Range}
-use Rattle.sql_token.specs.declared.token.Span.{Span}
-use Rattle.sql_tree.specs.contracts.kinds.StmtKind as kinds
-use Rattle.sql_tree.specs.declared.kinds.PieceKind.TheVariants as piece
-use Rattle.sql_tree.specs.declared.kinds.StmtKind.{StmtKind}
-use Rattle.sql_tree.specs.declared.kinds.StmtKind.TheVariants as stmt
-use Rattle.sql_tree.specs.declared.nodes.Action.{Action}
-use Rattle.sql_tree.specs.declared.nodes.Piece.{Piece}
-use Rattle.sql_tree.specs.declared.nodes.Stmt.{Stmt}
-use Rattle.sql_tree.specs.Nodes.{actions_in}
-use Rattle.sql_tree.specs.Path.{path_cuts}
-use Rattle.sql_tree.specs.Range.{span_range_of}
-use Rattle.sql_tree.specs.Statement.{Tree, IsTree}
-use Rattle.lint_base.specs.declared.rule.Rule.TheVariants as rule
-use Rattle.lint_base.specs.declared.settings.LinterSettings.{LinterSettings}
-use Rattle.lint_base.proofs.RuleSets.{has_default_rules}
-use Rattle.lint_node.specs.Altered.{path_in}
-use Rattle.lint_node.specs.Parts.{added_constraint, is_checked, new_constraints, table_actions}
-use Rattle.lint_node.specs.Plain.{is_plain_detach, is_plain_drop, is_plain_reindex}
-use Rattle.lint_node.specs.Same.{same_kind, same_piece}
-use Rattle.lint_pass.specs.declared.nodes.Node.{Node}
-use Rattle.lint_pass.specs.declared.nodes.Node.TheVariants as node
-use Rattle.lint_pass.specs.Bans.{BanRow, ban_report, bans_on, by_row, by_rows, fits, on_rows}
-use Rattle.lint_pass.specs.Cleared.{IsCleared}
-use Rattle.lint_pass.specs.NodeWalk.{at_action, at_constraint, at_parts, at_piece}
-use Rattle.lint_transaction.specs.Transaction.{is_new, is_new_table, no_stmt, stmt_at}
-use Rattle.lint_transaction.proofs.EarlierLaws.{and_true}
+use Rattle.lock_machine.specs.text_pos.Range.{Range}
+use Rattle.lock_machine.specs.sql_token.declared.token.Span.{Span}
+use Rattle.lock_machine.specs.sql_tree.contracts.kinds.StmtKind as kinds
+use Rattle.lock_machine.specs.sql_tree.declared.kinds.PieceKind.TheVariants as piece
+use Rattle.lock_machine.specs.sql_tree.declared.kinds.StmtKind.{StmtKind}
+use Rattle.lock_machine.specs.sql_tree.declared.kinds.StmtKind.TheVariants as stmt
+use Rattle.lock_machine.specs.sql_tree.declared.nodes.Action.{Action}
+use Rattle.lock_machine.specs.sql_tree.declared.nodes.Piece.{Piece}
+use Rattle.lock_machine.specs.sql_tree.declared.nodes.Stmt.{Stmt}
+use Rattle.lock_machine.specs.sql_tree.Nodes.{actions_in}
+use Rattle.lock_machine.specs.sql_tree.Path.{path_cuts}
+use Rattle.lock_machine.specs.sql_tree.Range.{span_range_of}
+use Rattle.lock_machine.specs.sql_tree.Statement.{Tree, IsTree}
+use Rattle.lock_machine.specs.lint_base.declared.rule.Rule.TheVariants as rule
+use Rattle.lock_machine.specs.lint_base.declared.settings.LinterSettings.{LinterSettings}
+use Rattle.lock_machine.proofs.of_lint_base.RuleSets.{has_default_rules}
+use Rattle.lock_machine.specs.lint_node.Altered.{path_in}
+use Rattle.lock_machine.specs.lint_node.Parts.{added_constraint, is_checked, new_constraints, table_actions}
+use Rattle.lock_machine.specs.lint_node.Plain.{is_plain_detach, is_plain_drop, is_plain_reindex}
+use Rattle.lock_machine.specs.lint_node.Same.{same_kind, same_piece}
+use Rattle.lock_machine.specs.lint_pass.declared.nodes.Node.{Node}
+use Rattle.lock_machine.specs.lint_pass.declared.nodes.Node.TheVariants as node
+use Rattle.lock_machine.specs.lint_pass.Bans.{BanRow, ban_report, bans_on, by_row, by_rows, fits, on_rows}
+use Rattle.lock_machine.specs.lint_pass.Cleared.{IsCleared}
+use Rattle.lock_machine.specs.lint_pass.NodeWalk.{at_action, at_constraint, at_parts, at_piece}
+use Rattle.lock_machine.specs.lint_transaction.Transaction.{is_new, is_new_table, no_stmt, stmt_at}
+use Rattle.lock_machine.proofs.of_lint_transaction.EarlierLaws.{and_true}
 use Rattle.lock_machine.specs.Laws.{BirthsAreNew}
 use Rattle.lock_machine.specs.Machine.{before, is_young}
 use Rattle.lock_machine.specs.Plain.{adds_array, is_array_default, is_unplain, is_unplain_end, is_unplain_kind, is_valued_reindex, plain, sets_schema, sets_search_path}
 use Rattle.lock_machine.specs.Works.{is_assumed, is_old, works, works_at}
 use Rattle.lock_machine.proofs.AssumedLaws.{assumed_where_cleared}
-use Rattle.pass_constraint.specs.AddedConstraints as added
-use Rattle.pass_constraint.specs.AddingFieldWithDefault as values
-use Rattle.pass_constraint.specs.ConstraintMissingNotValid as constraint
-use Rattle.pass_concurrent.specs.RequireConcurrentIndexDeletion as drop
-use Rattle.pass_concurrent.specs.RequireConcurrentPartitionDetach as detach
-use Rattle.pass_concurrent.specs.RequireConcurrentReindex as reindex
-use Rattle.pass_data_type.specs.ChangingColumnType.{rows_of_changing_column_type}
+use Rattle.pass_groups.specs.pass_constraint.AddedConstraints as added
+use Rattle.pass_groups.specs.pass_constraint.AddingFieldWithDefault as values
+use Rattle.pass_groups.specs.pass_constraint.ConstraintMissingNotValid as constraint
+use Rattle.pass_groups.specs.pass_concurrent.RequireConcurrentIndexDeletion as drop
+use Rattle.pass_groups.specs.pass_concurrent.RequireConcurrentPartitionDetach as detach
+use Rattle.pass_groups.specs.pass_concurrent.RequireConcurrentReindex as reindex
+use Rattle.pass_groups.specs.pass_data_type.ChangingColumnType.{rows_of_changing_column_type}
 use Rattle.law_clean.specs.Clean.{IsYoung}
 use Rattle.law_clean.specs.Laws.{CleanAnswersHaveNoOldWork, DefaultRulesSuffice}
 use Rattle.law_clean.proofs.ColumnWork.{quiet_constraints}

@@ -3,20 +3,20 @@ use Rattle.std.proofs.Common.{◌≡◌, ◌∙◌, sym, refl, Bool, true, false
 use Rattle.std.proofs.lemmas.Bool.{and_left, and_parts, not-true, not_from_true, or_from}
 use Rattle.std.specs.List.{AllByRecursion, list_any}
 use Rattle.std.specs.Prelude.{if◌then◌else◌}
-use Rattle.sql_tree.specs.declared.nodes.ConKind.{ConKind}
-use Rattle.sql_tree.specs.declared.nodes.ConKind.TheVariants as con
-use Rattle.sql_tree.specs.declared.nodes.Constraint.{Constraint}
-use Rattle.sql_tree.specs.declared.nodes.Expr.{Expr}
-use Rattle.sql_tree.specs.Statement.{Tree}
-use Rattle.lint_base.specs.declared.settings.LinterSettings.{LinterSettings}
-use Rattle.lint_base.specs.declared.violation.Violation.{Violation}
-use Rattle.lint_node.specs.Same.{same_constraint}
+use Rattle.lock_machine.specs.sql_tree.declared.nodes.ConKind.{ConKind}
+use Rattle.lock_machine.specs.sql_tree.declared.nodes.ConKind.TheVariants as con
+use Rattle.lock_machine.specs.sql_tree.declared.nodes.Constraint.{Constraint}
+use Rattle.lock_machine.specs.sql_tree.declared.nodes.Expr.{Expr}
+use Rattle.lock_machine.specs.sql_tree.Statement.{Tree}
+use Rattle.lock_machine.specs.lint_base.declared.settings.LinterSettings.{LinterSettings}
+use Rattle.lock_machine.specs.lint_base.declared.violation.Violation.{Violation}
+use Rattle.lock_machine.specs.lint_node.Same.{same_constraint}
 use Rattle.lock_machine.specs.Plain.{has_array_in, is_array_default}
 use Rattle.lock_machine.specs.Steady.{is_steady}
 use Rattle.lock_machine.specs.Works.{fills_rows, is_early, reads_rows, reads_rows_by}
-use Rattle.pass_constraint.specs.AddedConstraints as added
-use Rattle.pass_constraint.specs.AddingFieldWithDefault.{default_report, generated_report, is_excused, on_constraint, on_default, value_span}
-use Rattle.pass_constraint.specs.Volatility.{is_non_volatile_or_const}
+use Rattle.pass_groups.specs.pass_constraint.AddedConstraints as added
+use Rattle.pass_groups.specs.pass_constraint.AddingFieldWithDefault.{default_report, generated_report, is_excused, on_constraint, on_default, value_span}
+use Rattle.pass_groups.specs.pass_constraint.Volatility.{is_non_volatile_or_const}
 use Rattle.law_clean.proofs.Nothing.{any_and, each_from, empty_unless, not_both, some_is_none}
 use Rattle.law_clean.proofs.SteadyWithoutArrays.{steady_without_array}
 

@@ -4,12 +4,12 @@ use Rattle.std.proofs.Common.{Bool, true, false, ◌&&◌, ◌||◌, List, [], �
 use Rattle.std.proofs.lemmas.Bool.{or_parts}
 use Rattle.std.specs.List.{AllByRecursion, flat_map, list_any}
 use Rattle.std.specs.Prelude.{slice_index_or, if◌then◌else◌}
-use Rattle.lint_base.specs.declared.rule.Rule.{Rule}
-use Rattle.lint_base.specs.declared.violation.Violation.{Violation}
-use Rattle.lint_base.specs.RuleSets.{Rules, has}
-use Rattle.lint_pass.specs.RuleTables.{enabled_reports, table_of}
-use Rattle.lint_pass.specs.Those.{that, those}
-use Rattle.lint_transaction.specs.Earlier.{concat_below}
+use Rattle.lock_machine.specs.lint_base.declared.rule.Rule.{Rule}
+use Rattle.lock_machine.specs.lint_base.declared.violation.Violation.{Violation}
+use Rattle.lock_machine.specs.lint_base.RuleSets.{Rules, has}
+use Rattle.lock_machine.specs.lint_pass.RuleTables.{enabled_reports, table_of}
+use Rattle.lock_machine.specs.lint_pass.Those.{that, those}
+use Rattle.lock_machine.specs.lint_transaction.Earlier.{concat_below}
 
 pub not_both : {A : Type 0} → true ≡ false → A
 not_both e = absurd (grind (arith, e))

@@ -1,24 +1,24 @@
 -- Where nothing is reported of a text, no pass reports anything of any statement.
 use Rattle.std.proofs.Common.{◌≡◌, refl, ℕ, ◌<◌, false, List, [], length}
-use Rattle.sql_tree.specs.Statement.{Tree}
-use Rattle.lint_base.specs.declared.rule.Rule.{Rule}
-use Rattle.lint_base.specs.declared.rule.Rule.TheVariants as rule
-use Rattle.lint_base.specs.declared.settings.LinterSettings.{LinterSettings}
-use Rattle.lint_base.specs.declared.violation.Violation.{Violation}
-use Rattle.lint_base.specs.Rules.{facts_of, is_opt_in}
-use Rattle.lint_base.specs.RuleSets.{Rules}
-use Rattle.lint_pass.specs.Bans.{bans_on}
-use Rattle.lint_pass.specs.RuleTables.{table_of}
-use Rattle.lint_transaction.specs.Transaction.{stmt_at}
-use Rattle.pass_constraint.specs.AddedConstraints as added
-use Rattle.pass_constraint.specs.AddingFieldWithDefault.{reports_of_adding_field_with_default}
+use Rattle.lock_machine.specs.sql_tree.Statement.{Tree}
+use Rattle.lock_machine.specs.lint_base.declared.rule.Rule.{Rule}
+use Rattle.lock_machine.specs.lint_base.declared.rule.Rule.TheVariants as rule
+use Rattle.lock_machine.specs.lint_base.declared.settings.LinterSettings.{LinterSettings}
+use Rattle.lock_machine.specs.lint_base.declared.violation.Violation.{Violation}
+use Rattle.lock_machine.specs.lint_base.Rules.{facts_of, is_opt_in}
+use Rattle.lock_machine.specs.lint_base.RuleSets.{Rules}
+use Rattle.lock_machine.specs.lint_pass.Bans.{bans_on}
+use Rattle.lock_machine.specs.lint_pass.RuleTables.{table_of}
+use Rattle.lock_machine.specs.lint_transaction.Transaction.{stmt_at}
+use Rattle.pass_groups.specs.pass_constraint.AddedConstraints as added
+use Rattle.pass_groups.specs.pass_constraint.AddingFieldWithDefault.{reports_of_adding_field_with_default}
 use Rattle.pass_groups.specs.OwnTable.{added_table, ban_table, own_table, statement_table}
-use Rattle.pass_constraint.specs.ConstraintMissingNotValid.{additions_of, reports_of_additions, reports_of_validations, validations_in}
-use Rattle.pass_concurrent.specs.RequireConcurrentIndexCreation as build
-use Rattle.pass_concurrent.specs.RequireConcurrentIndexDeletion.{reports_of_require_concurrent_index_deletion}
-use Rattle.pass_concurrent.specs.RequireConcurrentPartitionDetach.{reports_of_require_concurrent_partition_detach}
-use Rattle.pass_concurrent.specs.RequireConcurrentReindex.{reports_of_require_concurrent_reindex}
-use Rattle.pass_data_type.specs.ChangingColumnType.{rows_of_changing_column_type}
+use Rattle.pass_groups.specs.pass_constraint.ConstraintMissingNotValid.{additions_of, reports_of_additions, reports_of_validations, validations_in}
+use Rattle.pass_groups.specs.pass_concurrent.RequireConcurrentIndexCreation as build
+use Rattle.pass_groups.specs.pass_concurrent.RequireConcurrentIndexDeletion.{reports_of_require_concurrent_index_deletion}
+use Rattle.pass_groups.specs.pass_concurrent.RequireConcurrentPartitionDetach.{reports_of_require_concurrent_partition_detach}
+use Rattle.pass_groups.specs.pass_concurrent.RequireConcurrentReindex.{reports_of_require_concurrent_reindex}
+use Rattle.pass_groups.specs.pass_data_type.ChangingColumnType.{rows_of_changing_column_type}
 use Rattle.law_clean.specs.Clean.{IsClean}
 use Rattle.law_clean.proofs.Nothing.{empty-append, nothing_here}
 

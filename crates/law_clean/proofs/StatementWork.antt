@@ -5,34 +5,34 @@ use Rattle.std.proofs.lemmas.List.Elements.{All-from_recursion}
 use Rattle.std.proofs.lemmas.List.Folds.{list_any_none}
 use Rattle.std.specs.List.{AllByRecursion}
 use Rattle.std.specs.Prelude.{is_none, is_some, if◌then◌else◌}
-use Rattle.sql_token.specs.declared.token.Span.{Span}
-use Rattle.sql_tree.specs.declared.kinds.ActionKind.{ActionKind}
-use Rattle.sql_tree.specs.declared.kinds.ActionKind.TheVariants as action
-use Rattle.sql_tree.specs.declared.kinds.PieceKind.{PieceKind}
-use Rattle.sql_tree.specs.declared.kinds.PieceKind.TheVariants as piece
-use Rattle.sql_tree.specs.declared.kinds.StmtKind.{StmtKind}
-use Rattle.sql_tree.specs.declared.kinds.StmtKind.TheVariants as stmt
-use Rattle.sql_tree.specs.declared.nodes.Action.{Action}
-use Rattle.sql_tree.specs.declared.nodes.Body.{Body}
-use Rattle.sql_tree.specs.declared.nodes.Body.TheVariants as body
-use Rattle.sql_tree.specs.declared.nodes.Piece.{Piece}
-use Rattle.sql_tree.specs.declared.nodes.Stmt.{Stmt}
-use Rattle.sql_tree.specs.Nodes.{actions_in}
-use Rattle.sql_tree.specs.Path.{path_cuts}
-use Rattle.sql_tree.specs.Statement.{Tree}
-use Rattle.lint_base.specs.declared.settings.LinterSettings.{LinterSettings}
-use Rattle.lint_lock.specs.declared.lock.LockKind.{LockKind}
-use Rattle.lint_lock.specs.declared.lock.LockKind.TheVariants.{AccessExclusive}
-use Rattle.lint_lock.specs.Lock.{lock_of_action}
-use Rattle.lint_node.specs.Altered.{path_in}
-use Rattle.lint_node.specs.Parts.{is_checked, new_constraints}
-use Rattle.lint_node.specs.Plain.{drops_plainly, is_system, rebuilds_plainly}
-use Rattle.lint_node.specs.Same.{same_action, same_kind, same_piece}
-use Rattle.lint_transaction.specs.Transaction.{is_new}
+use Rattle.lock_machine.specs.sql_token.declared.token.Span.{Span}
+use Rattle.lock_machine.specs.sql_tree.declared.kinds.ActionKind.{ActionKind}
+use Rattle.lock_machine.specs.sql_tree.declared.kinds.ActionKind.TheVariants as action
+use Rattle.lock_machine.specs.sql_tree.declared.kinds.PieceKind.{PieceKind}
+use Rattle.lock_machine.specs.sql_tree.declared.kinds.PieceKind.TheVariants as piece
+use Rattle.lock_machine.specs.sql_tree.declared.kinds.StmtKind.{StmtKind}
+use Rattle.lock_machine.specs.sql_tree.declared.kinds.StmtKind.TheVariants as stmt
+use Rattle.lock_machine.specs.sql_tree.declared.nodes.Action.{Action}
+use Rattle.lock_machine.specs.sql_tree.declared.nodes.Body.{Body}
+use Rattle.lock_machine.specs.sql_tree.declared.nodes.Body.TheVariants as body
+use Rattle.lock_machine.specs.sql_tree.declared.nodes.Piece.{Piece}
+use Rattle.lock_machine.specs.sql_tree.declared.nodes.Stmt.{Stmt}
+use Rattle.lock_machine.specs.sql_tree.Nodes.{actions_in}
+use Rattle.lock_machine.specs.sql_tree.Path.{path_cuts}
+use Rattle.lock_machine.specs.sql_tree.Statement.{Tree}
+use Rattle.lock_machine.specs.lint_base.declared.settings.LinterSettings.{LinterSettings}
+use Rattle.lock_machine.specs.lint_lock.declared.lock.LockKind.{LockKind}
+use Rattle.lock_machine.specs.lint_lock.declared.lock.LockKind.TheVariants.{AccessExclusive}
+use Rattle.lock_machine.specs.lint_lock.Lock.{lock_of_action}
+use Rattle.lock_machine.specs.lint_node.Altered.{path_in}
+use Rattle.lock_machine.specs.lint_node.Parts.{is_checked, new_constraints}
+use Rattle.lock_machine.specs.lint_node.Plain.{drops_plainly, is_system, rebuilds_plainly}
+use Rattle.lock_machine.specs.lint_node.Same.{same_action, same_kind, same_piece}
+use Rattle.lock_machine.specs.lint_transaction.Transaction.{is_new}
 use Rattle.lock_machine.specs.Machine.{Machine, is_young}
 use Rattle.lock_machine.specs.Plain.{is_valued_reindex}
 use Rattle.lock_machine.specs.Works.{action_lock, changes_type, index_lock_by, indexed_table, is_old, is_type_kind, is_work_by, lock_if, rebuilt_table, work_if, works_of, works_of_actions}
-use Rattle.pass_concurrent.specs.RequireConcurrentIndexCreation as build
+use Rattle.pass_groups.specs.pass_concurrent.RequireConcurrentIndexCreation as build
 use Rattle.law_clean.specs.Clean.{IsYoung}
 use Rattle.law_clean.proofs.ColumnWork.{AreQuiet, column_work}
 use Rattle.law_clean.proofs.Nothing.{each-append, each-flat_map, each_from, empty_unless, not_both}

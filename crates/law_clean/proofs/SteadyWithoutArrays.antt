@@ -2,12 +2,12 @@
 use Rattle.std.proofs.Common.{◌≡◌, ◌∙◌, sym, refl, ℕ, Bool, false, ◌&&◌, List, [], ◌∷◌, map, subst}
 use Rattle.std.proofs.lemmas.Bool.{or_parts}
 use Rattle.std.specs.List.{list_any, list_all}
-use Rattle.sql_tree.specs.declared.nodes.Expr.{Expr, Expr-F, fold-roll-Expr, ind-Expr, map-Expr, roll-Expr}
-use Rattle.sql_tree.specs.declared.nodes.Expr.TheOpen as layer
-use Rattle.sql_tree.specs.Statement.{Tree}
+use Rattle.lock_machine.specs.sql_tree.declared.nodes.Expr.{Expr, Expr-F, fold-roll-Expr, ind-Expr, map-Expr, roll-Expr}
+use Rattle.lock_machine.specs.sql_tree.declared.nodes.Expr.TheOpen as layer
+use Rattle.lock_machine.specs.sql_tree.Statement.{Tree}
 use Rattle.lock_machine.specs.Plain.{array_by_parts, has_array}
 use Rattle.lock_machine.specs.Steady.{is_steady, steady_by_parts}
-use Rattle.pass_constraint.specs.Volatility.{is_non_volatile_or_const, of_parts}
+use Rattle.pass_groups.specs.pass_constraint.Volatility.{is_non_volatile_or_const, of_parts}
 use Rattle.law_clean.proofs.Nothing.{not_both}
 
 abbrev pub AreAlike : List (List ℕ) → Tree → Expr → Type 0

@@ -7,20 +7,20 @@ use Rattle.std.proofs.lemmas.Option.{slice_get_within}
 use Rattle.std.proofs.lemmas.Slice.Eq.{bytes_eq-Decides}
 use Rattle.std.specs.Prelude.{nat_lt, slice_get, slice_index_or, take, if◌then◌else◌}
 use Rattle.std.specs.List.{list_any}
-use Rattle.sql_token.specs.declared.token.Span.{Span}
-use Rattle.sql_tree.specs.declared.kinds.ActionKind.TheVariants as kinds
-use Rattle.sql_tree.specs.declared.nodes.Action.{Action}
-use Rattle.sql_tree.specs.declared.nodes.Constraint.{Constraint}
-use Rattle.sql_tree.specs.declared.nodes.Stmt.{Stmt}
-use Rattle.sql_tree.specs.Statement.{Tree}
-use Rattle.lint_base.specs.declared.settings.LinterSettings.{LinterSettings}
-use Rattle.lint_node.specs.Parts.{added_constraint, table_actions}
-use Rattle.lint_node.specs.Same.{same_action, same_kind}
-use Rattle.lint_transaction.specs.Earlier.{any_below, any_between}
-use Rattle.lint_transaction.specs.Names.{is_name, name_at}
-use Rattle.lint_transaction.specs.Transaction.{ends_at, is_open, no_stmt, stmt_at}
-use Rattle.lint_transaction.proofs.EarlierLaws.{any_below_none}
-use Rattle.pass_constraint.specs.ConstraintMissingNotValid.{adds_at, adds_not_valid, is_added, is_known_path, name_if_not_valid, validated, validation, validation_at, validation_report, validations, validations_in}
+use Rattle.lock_machine.specs.sql_token.declared.token.Span.{Span}
+use Rattle.lock_machine.specs.sql_tree.declared.kinds.ActionKind.TheVariants as kinds
+use Rattle.lock_machine.specs.sql_tree.declared.nodes.Action.{Action}
+use Rattle.lock_machine.specs.sql_tree.declared.nodes.Constraint.{Constraint}
+use Rattle.lock_machine.specs.sql_tree.declared.nodes.Stmt.{Stmt}
+use Rattle.lock_machine.specs.sql_tree.Statement.{Tree}
+use Rattle.lock_machine.specs.lint_base.declared.settings.LinterSettings.{LinterSettings}
+use Rattle.lock_machine.specs.lint_node.Parts.{added_constraint, table_actions}
+use Rattle.lock_machine.specs.lint_node.Same.{same_action, same_kind}
+use Rattle.lock_machine.specs.lint_transaction.Earlier.{any_below, any_between}
+use Rattle.lock_machine.specs.lint_transaction.Names.{is_name, name_at}
+use Rattle.lock_machine.specs.lint_transaction.Transaction.{ends_at, is_open, no_stmt, stmt_at}
+use Rattle.lock_machine.proofs.of_lint_transaction.EarlierLaws.{any_below_none}
+use Rattle.pass_groups.specs.pass_constraint.ConstraintMissingNotValid.{adds_at, adds_not_valid, is_added, is_known_path, name_if_not_valid, validated, validation, validation_at, validation_report, validations, validations_in}
 use Rattle.law_clean.specs.Laws.{CleanAnswersValidateApart}
 use Rattle.law_clean.specs.Validations.{AddsNotValid, InOneTransaction, IsAction, IsBefore, Validates}
 use Rattle.law_clean.proofs.Nothing.{empty-pieces, empty_one, empty_where, not_both}

@@ -1,10 +1,10 @@
 -- Texts of which nothing is reported, and work on tables that nobody else knows.
 use Rattle.std.specs.Prelude.{◌≡◌, true, false, []}
-use Rattle.sql_tree.specs.Statement.{Tree}
-use Rattle.lint_base.specs.declared.rule.Rule.{Rule}
-use Rattle.lint_base.specs.declared.settings.LinterSettings.{LinterSettings}
-use Rattle.lint_base.specs.Rules.{is_opt_in}
-use Rattle.lint_base.specs.RuleSets.{Rules, has}
+use Rattle.lock_machine.specs.sql_tree.Statement.{Tree}
+use Rattle.lock_machine.specs.lint_base.declared.rule.Rule.{Rule}
+use Rattle.lock_machine.specs.lint_base.declared.settings.LinterSettings.{LinterSettings}
+use Rattle.lock_machine.specs.lint_base.Rules.{is_opt_in}
+use Rattle.lock_machine.specs.lint_base.RuleSets.{Rules, has}
 use Rattle.pass_groups.specs.OwnTable.{own_table}
 use Rattle.lock_machine.specs.declared.work.Work.{Work}
 

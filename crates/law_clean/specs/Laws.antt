@@ -1,9 +1,9 @@
 -- What a clean answer means.
 use Rattle.std.specs.Prelude.{◌≡◌, true, All}
-use Rattle.sql_tree.specs.Statement.{Tree, IsTree}
-use Rattle.lint_base.specs.declared.settings.LinterSettings.{LinterSettings}
-use Rattle.lint_base.specs.RuleSets.{Rules, default_rules}
-use Rattle.lint_pass.specs.Cleared.{IsCleared}
+use Rattle.lock_machine.specs.sql_tree.Statement.{Tree, IsTree}
+use Rattle.lock_machine.specs.lint_base.declared.settings.LinterSettings.{LinterSettings}
+use Rattle.lock_machine.specs.lint_base.RuleSets.{Rules, default_rules}
+use Rattle.lock_machine.specs.lint_pass.Cleared.{IsCleared}
 use Rattle.lock_machine.specs.Plain.{plain}
 use Rattle.lock_machine.specs.Works.{works}
 use Rattle.law_clean.specs.Clean.{HasDefaults, IsClean, IsYoung}

@@ -1,3 +1,4 @@
 pub mod Clean
 pub mod Laws
 pub mod Validations
+pub use Rattle.lock_machine.specs as lock_machine

@@ -1,14 +1,14 @@
 -- Validations of constraints, and the transactions that they are in (PostgreSQL manual, ALTER TABLE, "ADD table_constraint
 -- [ NOT VALID ]" and "VALIDATE CONSTRAINT").
 use Rattle.std.specs.Prelude.{◌≡◌, ◌<◌, ◌⊎◌, ℕ, Bool, true, false, List, slice_get, Some}
-use Rattle.sql_token.specs.declared.token.Span.{Span}
-use Rattle.sql_tree.specs.declared.kinds.ActionKind.TheVariants.{AddConstraint, ValidateConstraint}
-use Rattle.sql_tree.specs.declared.nodes.Action.{Action}
-use Rattle.sql_tree.specs.declared.nodes.Constraint.{Constraint}
-use Rattle.sql_tree.specs.Statement.{Tree}
-use Rattle.lint_node.specs.Parts.{table_actions}
-use Rattle.lint_transaction.specs.Names.{name_at}
-use Rattle.lint_transaction.specs.Transaction.{stmt_at, ends_at, is_open}
+use Rattle.lock_machine.specs.sql_token.declared.token.Span.{Span}
+use Rattle.lock_machine.specs.sql_tree.declared.kinds.ActionKind.TheVariants.{AddConstraint, ValidateConstraint}
+use Rattle.lock_machine.specs.sql_tree.declared.nodes.Action.{Action}
+use Rattle.lock_machine.specs.sql_tree.declared.nodes.Constraint.{Constraint}
+use Rattle.lock_machine.specs.sql_tree.Statement.{Tree}
+use Rattle.lock_machine.specs.lint_node.Parts.{table_actions}
+use Rattle.lock_machine.specs.lint_transaction.Names.{name_at}
+use Rattle.lock_machine.specs.lint_transaction.Transaction.{stmt_at, ends_at, is_open}
 
 -- ---- actions
 

@@ -10,3 +10,6 @@ mod laws;
 pub use laws::{
     clean_answers_have_no_old_work, clean_answers_validate_apart, default_rules_suffice,
 };
+
+// What crates above reach through this one.
+pub use lock_machine::{Work, is_plain, lock_work, numbers_count};

@@ -1,11 +1,11 @@
 -- Statements, and the parts between commas, where a run is exchanged.
 use Rattle.std.proofs.Common.{◌≡◌, ◌≤◌, ℕ, ◌+◌, Bool, true, false, cond, List, [], ◌∷◌, ◌++◌, append_assoc, sym, refl, ap, ◌∙◌, arith, Option, Some, None}
 use Rattle.std.specs.Prelude.{◌==◌, ◌&&◌}
-use Rattle.sql_token.specs.declared.terminal.Terminal.{Terminal}
-use Rattle.sql_token.specs.Terminal.{is_opener, is_closer, is_semicolon}
-use Rattle.sql_token.specs.Depth.{onto, one_if, opened, closed, statements, statements_from}
-use Rattle.sql_token.proofs.Statements.{by_counts}
-use Rattle.sql_tree.specs.Split.{split, split_from, comma}
+use Rattle.law_renumber.specs.sql_token.declared.terminal.Terminal.{Terminal}
+use Rattle.law_renumber.specs.sql_token.Terminal.{is_opener, is_closer, is_semicolon}
+use Rattle.law_renumber.specs.sql_token.Depth.{onto, one_if, opened, closed, statements, statements_from}
+use Rattle.law_renumber.proofs.of_sql_token.Statements.{by_counts}
+use Rattle.law_renumber.specs.sql_tree.Split.{split, split_from, comma}
 use Rattle.law_edit_cuts.specs.Runs.{is_comma}
 use Rattle.law_edit_cuts.specs.Exchanges.{joined, StatementsStay, StatementExchanges, PartsStay, PartExchanges}
 use Rattle.law_edit_cuts.proofs.Cuts.{head_of, tail_of, onto_all, onto_list, IsMark, cut_from, Goes, goes_run, reached, run_at}

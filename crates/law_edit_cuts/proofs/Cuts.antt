@@ -5,9 +5,9 @@ use Rattle.std.proofs.Common.{◌≡◌, ◌≤◌, ℕ, zero, suc, ◌+◌, Boo
 use Rattle.std.proofs.lemmas.Bool.{false≢true}
 use Rattle.std.proofs.lemmas.Bool.Decides.{nat_tests}
 use Rattle.std.specs.Prelude.{◌==◌, ◌&&◌}
-use Rattle.sql_token.specs.declared.terminal.Terminal.{Terminal}
-use Rattle.sql_token.specs.Terminal.{is_opener, is_closer}
-use Rattle.sql_token.specs.Depth.{onto, one_if, opened, closed}
+use Rattle.law_renumber.specs.sql_token.declared.terminal.Terminal.{Terminal}
+use Rattle.law_renumber.specs.sql_token.Terminal.{is_opener, is_closer}
+use Rattle.law_renumber.specs.sql_token.Depth.{onto, one_if, opened, closed}
 use Rattle.law_edit_cuts.specs.Runs.{is_run_from}
 use Rattle.law_edit_cuts.proofs.Nested.{Next, step, end_zero, not_both}
 use Rattle.law_edit_cuts.proofs.Nested.Next.{opens, closes, passes}

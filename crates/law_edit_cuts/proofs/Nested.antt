@@ -3,9 +3,9 @@ use Rattle.std.proofs.Common.{◌≡◌, ◌≤◌, ℕ, zero, suc, ◌+◌, Boo
 use Rattle.std.proofs.lemmas.Bool.{false≢true}
 use Rattle.std.proofs.lemmas.Bool.Decides.{nat_tests}
 use Rattle.std.specs.Prelude.{◌==◌, ◌&&◌, slice_index_or}
-use Rattle.sql_token.specs.declared.terminal.Terminal.{Terminal}
-use Rattle.sql_token.specs.Terminal.{is_opener, is_closer, is_semicolon}
-use Rattle.sql_token.specs.Depth.{opened, closed, nothing}
+use Rattle.law_renumber.specs.sql_token.declared.terminal.Terminal.{Terminal}
+use Rattle.law_renumber.specs.sql_token.Terminal.{is_opener, is_closer, is_semicolon}
+use Rattle.law_renumber.specs.sql_token.Depth.{opened, closed, nothing}
 use Rattle.law_edit_cuts.specs.Runs.{is_run_from, nowhere, is_comma}
 use Rattle.law_edit_cuts.specs.Exchanges.{ClosedIsLevel, LevelIsClosed, NeutralEndsNone, UncutHasNone}
 

@@ -4,10 +4,10 @@ use Rattle.std.proofs.lemmas.Bool.{and_parts, false≢true}
 use Rattle.std.proofs.lemmas.Bool.Decides.{nat_tests}
 use Rattle.std.specs.Prelude.{◌==◌, ◌&&◌, not, if◌then◌else◌, nat_lt, nat_le}
 use Rattle.std.specs.List.{list_all}
-use Rattle.sql_keyword.specs.declared.words.TheConstants.Keyword as keyword
-use Rattle.sql_token.specs.declared.terminal.Terminal.{Terminal}
-use Rattle.sql_token.specs.Terminal.{is_opener, is_closer, is_unicode_name, is_keyword}
-use Rattle.sql_token.specs.Sound.{opened, closed, partner, matches, begins_atomic, may_stand, sound_from, is_sound}
+use Rattle.law_renumber.specs.sql_keyword.declared.words.TheConstants.Keyword as keyword
+use Rattle.law_renumber.specs.sql_token.declared.terminal.Terminal.{Terminal}
+use Rattle.law_renumber.specs.sql_token.Terminal.{is_opener, is_closer, is_unicode_name, is_keyword}
+use Rattle.law_renumber.specs.sql_token.Sound.{opened, closed, partner, matches, begins_atomic, may_stand, sound_from, is_sound}
 use Rattle.law_edit_cuts.specs.Runs.{is_run_from, nowhere, greater, deepest, begins_no_body}
 use Rattle.law_edit_cuts.specs.Exchanges.{SoundIsClosed, PrefixIsLevel, SoundnessStays}
 use Rattle.law_edit_cuts.proofs.Nested.{Next, step, end_zero, open_not_closed, opened_is, closed_is, not_both}

@@ -1,10 +1,10 @@
 -- Where a run of terminals is in a list that is cut, and that another run in its place leaves how the list is cut.
 use Rattle.std.specs.Prelude.{◌≡◌, ◌≤◌, ℕ, true, false, ◌&&◌, List, [], ◌∷◌, ◌++◌, take, slice_index_or}
 use Rattle.std.specs.List.{list_all}
-use Rattle.sql_token.specs.declared.terminal.Terminal.{Terminal}
-use Rattle.sql_token.specs.Depth.{opened, closed, statements, ends_at, is_outside, nothing}
-use Rattle.sql_token.specs.Sound.{is_sound}
-use Rattle.sql_tree.specs.Split.{split, comma}
+use Rattle.law_renumber.specs.sql_token.declared.terminal.Terminal.{Terminal}
+use Rattle.law_renumber.specs.sql_token.Depth.{opened, closed, statements, ends_at, is_outside, nothing}
+use Rattle.law_renumber.specs.sql_token.Sound.{is_sound}
+use Rattle.law_renumber.specs.sql_tree.Split.{split, comma}
 use Rattle.law_edit_cuts.specs.Runs.{is_closed, is_neutral, is_uncut, is_comma, deepest, begins_no_body}
 
 -- ---- what runs are

@@ -1,9 +1,9 @@
 -- Runs of terminals that may be exchanged in a list: the brackets of such a run are all closed in it.
 use Rattle.std.specs.Prelude.{ℕ, zero, suc, ◌-◌, ◌==◌, nat_le, Bool, false, not, ◌&&◌, if◌then◌else◌, List, [], ◌∷◌}
-use Rattle.sql_keyword.specs.declared.words.TheConstants.Keyword as keyword
-use Rattle.sql_token.specs.declared.terminal.Terminal.{Terminal}
-use Rattle.sql_token.specs.Terminal.{is_opener, is_closer, is_semicolon, is_keyword}
-use Rattle.sql_tree.specs.Split.{is_comma_symbol}
+use Rattle.law_renumber.specs.sql_keyword.declared.words.TheConstants.Keyword as keyword
+use Rattle.law_renumber.specs.sql_token.declared.terminal.Terminal.{Terminal}
+use Rattle.law_renumber.specs.sql_token.Terminal.{is_opener, is_closer, is_semicolon, is_keyword}
+use Rattle.law_renumber.specs.sql_tree.Split.{is_comma_symbol}
 
 -- Where d brackets are open before it: each closer closes one that is open, none is open at the end, and no terminal at
 -- which the test passes is outside of the brackets.

@@ -3,17 +3,17 @@ use Rattle.std.proofs.Common.{◌≡◌, ◌≤◌, ◌⊎◌, inl, inr, length-
 use Rattle.std.proofs.lemmas.Bool.{false≢true}
 use Rattle.std.proofs.lemmas.Bool.Decides.{nat_tests}
 use Rattle.std.specs.Prelude.{◌==◌, ◌&&◌}
-use Rattle.sql_token.specs.declared.token.Span.{Span}
-use Rattle.sql_token.specs.declared.terminal.Symbol.{Symbol}
-use Rattle.sql_token.specs.declared.terminal.Symbol.TheVariants as s
-use Rattle.sql_token.specs.declared.terminal.Terminal.{Terminal}
-use Rattle.sql_token.specs.Terminal.{is_opener, is_closer}
-use Rattle.sql_token.specs.Depth.{onto, one_if, opened, closed}
-use Rattle.sql_tree.specs.declared.kinds.StmtKind.TheVariants as stmt
-use Rattle.sql_tree.specs.declared.nodes.Action.{Action}
-use Rattle.sql_tree.specs.Action.{action, several_actions}
-use Rattle.sql_tree.specs.Split.{split, split_from, comma, is_comma_symbol, and_others, all_of}
-use Rattle.sql_tree.specs.Statement.{form_of}
+use Rattle.law_edit_cuts.specs.sql_token.declared.token.Span.{Span}
+use Rattle.law_edit_cuts.specs.sql_token.declared.terminal.Symbol.{Symbol}
+use Rattle.law_edit_cuts.specs.sql_token.declared.terminal.Symbol.TheVariants as s
+use Rattle.law_edit_cuts.specs.sql_token.declared.terminal.Terminal.{Terminal}
+use Rattle.law_edit_cuts.specs.sql_token.Terminal.{is_opener, is_closer}
+use Rattle.law_edit_cuts.specs.sql_token.Depth.{onto, one_if, opened, closed}
+use Rattle.law_edit_cuts.specs.sql_tree.declared.kinds.StmtKind.TheVariants as stmt
+use Rattle.law_edit_cuts.specs.sql_tree.declared.nodes.Action.{Action}
+use Rattle.law_edit_cuts.specs.sql_tree.Action.{action, several_actions}
+use Rattle.law_edit_cuts.specs.sql_tree.Split.{split, split_from, comma, is_comma_symbol, and_others, all_of}
+use Rattle.law_edit_cuts.specs.sql_tree.Statement.{form_of}
 use Rattle.law_edit_tokens.specs.Beside.{is_punct_symbol, begins_punct_or_ends}
 use Rattle.law_edit_cuts.specs.Runs.{is_uncut}
 use Rattle.law_edit_cuts.proofs.Cuts.{opened_if, closed_if, heads, rests}

@@ -3,25 +3,25 @@ use Rattle.std.proofs.Common.{◌≡◌, ℕ, suc, ◌+◌, ◌<◌, ◌≤◌, 
 use Rattle.std.proofs.lemmas.Bool.Decides.{nat_tests}
 use Rattle.std.specs.Prelude.{◌&&◌, nat_le, nat_lt}
 use Rattle.std.specs.Option.{option_map, option_and_then}
-use Rattle.sql_token.specs.declared.token.Tok.{Tok}
-use Rattle.sql_token.specs.declared.terminal.Terminal.{Terminal}
-use Rattle.sql_token.specs.Token.{Text}
-use Rattle.sql_token.specs.Terminal.{terminals, terminals_from}
-use Rattle.sql_token.specs.Depth.{statements, span_of, nothing}
-use Rattle.sql_token.specs.Sound.{is_sound}
-use Rattle.sql_tree.specs.declared.kinds.StmtKind.{StmtKind}
-use Rattle.sql_tree.specs.declared.nodes.Body.{Body}
-use Rattle.sql_tree.specs.declared.nodes.Stmt.{Stmt}
-use Rattle.sql_tree.specs.Statement.{Tree, statement, all_statements, form_of, without_semicolon, last_of, stmt_in}
-use Rattle.law_renumber.specs.Moved.{stmt_moved}
-use Rattle.law_renumber.specs.Renumber.{renumber}
-use Rattle.law_renumber.proofs.Statements.{statement_renumbers}
+use Rattle.law_edit_cuts.specs.sql_token.declared.token.Tok.{Tok}
+use Rattle.law_edit_cuts.specs.sql_token.declared.terminal.Terminal.{Terminal}
+use Rattle.law_edit_cuts.specs.sql_token.Token.{Text}
+use Rattle.law_edit_cuts.specs.sql_token.Terminal.{terminals, terminals_from}
+use Rattle.law_edit_cuts.specs.sql_token.Depth.{statements, span_of, nothing}
+use Rattle.law_edit_cuts.specs.sql_token.Sound.{is_sound}
+use Rattle.law_edit_cuts.specs.sql_tree.declared.kinds.StmtKind.{StmtKind}
+use Rattle.law_edit_cuts.specs.sql_tree.declared.nodes.Body.{Body}
+use Rattle.law_edit_cuts.specs.sql_tree.declared.nodes.Stmt.{Stmt}
+use Rattle.law_edit_cuts.specs.sql_tree.Statement.{Tree, statement, all_statements, form_of, without_semicolon, last_of, stmt_in}
+use Rattle.law_edit_cuts.specs.law_renumber.Moved.{stmt_moved}
+use Rattle.law_edit_cuts.specs.law_renumber.Renumber.{renumber}
+use Rattle.law_edit_cuts.proofs.of_law_renumber.Statements.{statement_renumbers}
 use Rattle.law_edit_inserts.specs.Apart.{outside, Apart, StatementsApart}
 use Rattle.law_edit_cuts.specs.Exchanges.{joined}
 use Rattle.law_edit_inserts.proofs.Statements.{all_renumber, of_read, statements_join, joined_append, full_parts, full_rest, stmt_at_place, all_ok}
 use Rattle.law_edit_inserts.proofs.Tokens.{AtLeast, Under, least_parts, under_parts, under_both, least_weaker, under_weaker, least_none, terms_least, terms_under, term_at}
 use Rattle.law_edit_inserts.proofs.TakenConcurrently.{last_after}
-use Rattle.law_renumber.proofs.Readings.{NoneEmpty, statements_full}
+use Rattle.law_edit_cuts.proofs.of_law_renumber.Readings.{NoneEmpty, statements_full}
 
 -- ---- what stays under such numbers
 

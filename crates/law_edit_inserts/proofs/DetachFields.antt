@@ -3,30 +3,30 @@ use Rattle.std.proofs.Common.{◌≡◌, ℕ, ◌+◌, ◌<◌, ◌≤◌, true,
 use Rattle.std.proofs.lemmas.Bool.Decides.{nat_tests}
 use Rattle.std.proofs.lemmas.List.{map-append, append_cancel_left}
 use Rattle.std.specs.Option.{option_map}
-use Rattle.sql_keyword.specs.declared.words.TheConstants.Keyword as keyword
-use Rattle.sql_token.specs.declared.token.Span.{Span}
-use Rattle.sql_token.specs.declared.terminal.Terminal.{Terminal}
-use Rattle.sql_token.specs.Depth.{opened, closed}
-use Rattle.sql_token.specs.Terminal.{is_name, is_closer, is_opener, is_semicolon}
-use Rattle.sql_tree.specs.declared.kinds.ActionKind.TheVariants as a
-use Rattle.sql_tree.specs.declared.kinds.StmtKind.{StmtKind}
-use Rattle.sql_tree.specs.declared.kinds.StmtKind.TheVariants as stmt
-use Rattle.sql_tree.specs.declared.nodes.Action.{Action}
-use Rattle.sql_tree.specs.declared.nodes.Body.{Body}
-use Rattle.sql_tree.specs.declared.nodes.Body.TheVariants as body
-use Rattle.sql_tree.specs.declared.nodes.Stmt.{Stmt}
-use Rattle.sql_tree.specs.Action.{action}
-use Rattle.sql_tree.specs.Statement.{form_of, statement, without_semicolon}
-use Rattle.law_renumber.specs.Moved.{span_moved, action_moved, body_moved, stmt_moved}
-use Rattle.law_renumber.specs.Renumber.{renumber}
-use Rattle.law_renumber.proofs.Statements.{statement_renumbers}
+use Rattle.law_edit_cuts.specs.sql_keyword.declared.words.TheConstants.Keyword as keyword
+use Rattle.law_edit_cuts.specs.sql_token.declared.token.Span.{Span}
+use Rattle.law_edit_cuts.specs.sql_token.declared.terminal.Terminal.{Terminal}
+use Rattle.law_edit_cuts.specs.sql_token.Depth.{opened, closed}
+use Rattle.law_edit_cuts.specs.sql_token.Terminal.{is_name, is_closer, is_opener, is_semicolon}
+use Rattle.law_edit_cuts.specs.sql_tree.declared.kinds.ActionKind.TheVariants as a
+use Rattle.law_edit_cuts.specs.sql_tree.declared.kinds.StmtKind.{StmtKind}
+use Rattle.law_edit_cuts.specs.sql_tree.declared.kinds.StmtKind.TheVariants as stmt
+use Rattle.law_edit_cuts.specs.sql_tree.declared.nodes.Action.{Action}
+use Rattle.law_edit_cuts.specs.sql_tree.declared.nodes.Body.{Body}
+use Rattle.law_edit_cuts.specs.sql_tree.declared.nodes.Body.TheVariants as body
+use Rattle.law_edit_cuts.specs.sql_tree.declared.nodes.Stmt.{Stmt}
+use Rattle.law_edit_cuts.specs.sql_tree.Action.{action}
+use Rattle.law_edit_cuts.specs.sql_tree.Statement.{form_of, statement, without_semicolon}
+use Rattle.law_edit_cuts.specs.law_renumber.Moved.{span_moved, action_moved, body_moved, stmt_moved}
+use Rattle.law_edit_cuts.specs.law_renumber.Renumber.{renumber}
+use Rattle.law_edit_cuts.proofs.of_law_renumber.Statements.{statement_renumbers}
 use Rattle.law_edit_tokens.specs.Beside.{begins_punct_or_ends}
 use Rattle.law_edit_tokens.specs.Terminals.{moved_number}
 use Rattle.law_edit_inserts.specs.Concurrently.{key, concurrent_action}
 use Rattle.law_edit_inserts.specs.Built.{room_after, end_after, detached_stmt, DetachTakesConcurrently, DetachReads, DetachBegins, DetachHasPath}
-use Rattle.sql_token.specs.Depth.{statements}
-use Rattle.sql_token.specs.Terminal.{terminals, terminals_from}
-use Rattle.sql_token.specs.Token.{Text}
+use Rattle.law_edit_cuts.specs.sql_token.Depth.{statements}
+use Rattle.law_edit_cuts.specs.sql_token.Terminal.{terminals, terminals_from}
+use Rattle.law_edit_cuts.specs.sql_token.Token.{Text}
 use Rattle.law_edit_cuts.specs.Exchanges.{joined}
 use Rattle.law_edit_inserts.proofs.Statements.{stmt_at_place, of_read, of_terminals, joined_at}
 use Rattle.law_edit_inserts.proofs.Tokens.{Under, under_parts, terms_under, term_at}

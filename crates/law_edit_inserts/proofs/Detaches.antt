@@ -6,30 +6,30 @@ use Rattle.std.proofs.lemmas.List.{get_or_at}
 use Rattle.std.specs.Prelude.{◌==◌, ◌&&◌, ◌||◌, not}
 use Rattle.std.specs.List.{list_all}
 use Rattle.std.specs.Option.{option_map, option_and_then}
-use Rattle.sql_keyword.specs.declared.words.Keyword.{Keyword}
-use Rattle.sql_keyword.specs.declared.words.Keyword.TheVariants as k
-use Rattle.sql_keyword.specs.declared.words.Verb.TheVariants as verbs
-use Rattle.sql_keyword.specs.declared.words.Object.TheVariants as objects
-use Rattle.sql_keyword.specs.declared.words.Other.TheVariants as others
-use Rattle.sql_keyword.specs.declared.words.TheConstants.Keyword as keyword
-use Rattle.sql_keyword.specs.Same.{same_keyword}
-use Rattle.sql_token.specs.declared.terminal.Symbol.{Symbol}
-use Rattle.sql_token.specs.declared.terminal.Symbol.TheVariants as s
-use Rattle.sql_token.specs.declared.terminal.Terminal.{Terminal}
-use Rattle.sql_token.specs.Depth.{span_of, nothing, closed}
-use Rattle.sql_token.specs.Terminal.{is_keyword, is_keyword_symbol, is_name, is_name_symbol, is_dot, is_dot_symbol, is_closer, is_closer_symbol}
-use Rattle.sql_tree.specs.declared.kinds.ActionKind.{ActionKind}
-use Rattle.sql_tree.specs.declared.kinds.ActionKind.TheVariants as a
-use Rattle.sql_tree.specs.declared.kinds.StmtKind.TheVariants as stmt
-use Rattle.sql_tree.specs.declared.forms.Captures.{Captures}
-use Rattle.sql_tree.specs.declared.forms.Part.{Part}
-use Rattle.sql_tree.specs.declared.forms.Part.TheVariants as p
-use Rattle.sql_tree.specs.declared.nodes.Action.{Action}
-use Rattle.sql_tree.specs.Forms.{State, at, take_part, in_turn, all_taken, either_of, names_end, fresh, ActionRow, finished, first_whole, or_here, nothing_kept, word_kept, after_word}
-use Rattle.sql_tree.specs.Action.{action, listed_action, unlisted_action, options, general_action, own_action, own_part, added_constraint, takes_constraint, add_constraint, adding_after, adding, by_rows, built, column_in, pieces_in, action_in, first_symbol}
-use Rattle.sql_tree.specs.ActionRows.{first_rows, first_rows_at, own_rows, general_rows, general_rows_at}
-use Rattle.sql_tree.specs.declared.actions.TheConstants.{OTHER}
-use Rattle.sql_tree.specs.Constraint.{table_constraint}
+use Rattle.law_edit_cuts.specs.sql_keyword.declared.words.Keyword.{Keyword}
+use Rattle.law_edit_cuts.specs.sql_keyword.declared.words.Keyword.TheVariants as k
+use Rattle.law_edit_cuts.specs.sql_keyword.declared.words.Verb.TheVariants as verbs
+use Rattle.law_edit_cuts.specs.sql_keyword.declared.words.Object.TheVariants as objects
+use Rattle.law_edit_cuts.specs.sql_keyword.declared.words.Other.TheVariants as others
+use Rattle.law_edit_cuts.specs.sql_keyword.declared.words.TheConstants.Keyword as keyword
+use Rattle.law_edit_cuts.specs.sql_keyword.Same.{same_keyword}
+use Rattle.law_edit_cuts.specs.sql_token.declared.terminal.Symbol.{Symbol}
+use Rattle.law_edit_cuts.specs.sql_token.declared.terminal.Symbol.TheVariants as s
+use Rattle.law_edit_cuts.specs.sql_token.declared.terminal.Terminal.{Terminal}
+use Rattle.law_edit_cuts.specs.sql_token.Depth.{span_of, nothing, closed}
+use Rattle.law_edit_cuts.specs.sql_token.Terminal.{is_keyword, is_keyword_symbol, is_name, is_name_symbol, is_dot, is_dot_symbol, is_closer, is_closer_symbol}
+use Rattle.law_edit_cuts.specs.sql_tree.declared.kinds.ActionKind.{ActionKind}
+use Rattle.law_edit_cuts.specs.sql_tree.declared.kinds.ActionKind.TheVariants as a
+use Rattle.law_edit_cuts.specs.sql_tree.declared.kinds.StmtKind.TheVariants as stmt
+use Rattle.law_edit_cuts.specs.sql_tree.declared.forms.Captures.{Captures}
+use Rattle.law_edit_cuts.specs.sql_tree.declared.forms.Part.{Part}
+use Rattle.law_edit_cuts.specs.sql_tree.declared.forms.Part.TheVariants as p
+use Rattle.law_edit_cuts.specs.sql_tree.declared.nodes.Action.{Action}
+use Rattle.law_edit_cuts.specs.sql_tree.Forms.{State, at, take_part, in_turn, all_taken, either_of, names_end, fresh, ActionRow, finished, first_whole, or_here, nothing_kept, word_kept, after_word}
+use Rattle.law_edit_cuts.specs.sql_tree.Action.{action, listed_action, unlisted_action, options, general_action, own_action, own_part, added_constraint, takes_constraint, add_constraint, adding_after, adding, by_rows, built, column_in, pieces_in, action_in, first_symbol}
+use Rattle.law_edit_cuts.specs.sql_tree.ActionRows.{first_rows, first_rows_at, own_rows, general_rows, general_rows_at}
+use Rattle.law_edit_cuts.specs.sql_tree.declared.actions.TheConstants.{OTHER}
+use Rattle.law_edit_cuts.specs.sql_tree.Constraint.{table_constraint}
 use Rattle.law_edit_inserts.specs.Concurrently.{key, concurrent_action, DetachConcurrently}
 use Rattle.law_edit_inserts.specs.Actions.{DetachShape, DetachShows}
 use Rattle.law_edit_inserts.proofs.Leading.{Given, given_then, given_any, given_is}

@@ -2,33 +2,33 @@
 use Rattle.std.proofs.Common.{◌≡◌, ℕ, Bool, true, false, cond, List, [], ◌∷◌, sym, refl, ◌∙◌, subst, Option, Some, None}
 use Rattle.std.proofs.lemmas.Bool.{false≢true}
 use Rattle.std.specs.Option.{option_and_then}
-use Rattle.sql_keyword.specs.declared.words.Keyword.{Keyword}
-use Rattle.sql_keyword.specs.declared.words.Keyword.TheVariants as k
-use Rattle.sql_keyword.specs.declared.words.Verb.TheVariants as verbs
-use Rattle.sql_keyword.specs.declared.words.Object.TheVariants as objects
-use Rattle.sql_keyword.specs.declared.words.Other.TheVariants as others
-use Rattle.sql_keyword.specs.declared.words.TheConstants.Keyword as keyword
-use Rattle.sql_token.specs.declared.token.Span.{Span}
-use Rattle.sql_token.specs.declared.terminal.Terminal.{Terminal}
-use Rattle.sql_token.specs.Depth.{has_keyword}
-use Rattle.sql_tree.specs.declared.kinds.StmtKind.{StmtKind}
-use Rattle.sql_tree.specs.declared.kinds.StmtKind.TheVariants as stmt
-use Rattle.sql_tree.specs.declared.forms.Family.{Family}
-use Rattle.sql_tree.specs.declared.forms.Family.TheVariants as family
-use Rattle.sql_tree.specs.declared.forms.Fact.TheVariants as m
-use Rattle.sql_tree.specs.declared.forms.Phrase.TheVariants as phrase
-use Rattle.sql_tree.specs.declared.forms.Part.{Part}
-use Rattle.sql_tree.specs.declared.forms.Part.TheVariants as p
-use Rattle.sql_tree.specs.declared.nodes.Body.{Body}
-use Rattle.sql_tree.specs.declared.nodes.Body.TheVariants as body
-use Rattle.sql_tree.specs.Forms.{State, Row, take_part, first_led, fresh, family_first, create_rows, alter_rows, drop_rows, rows_of, one_word_kind, led_by}
-use Rattle.sql_tree.specs.Split.{is_verb_word}
-use Rattle.sql_tree.specs.Statement.{final_kind, body_shape_of, body_by, kind_and_body, front_by, form_from, form_of}
+use Rattle.law_edit_cuts.specs.sql_keyword.declared.words.Keyword.{Keyword}
+use Rattle.law_edit_cuts.specs.sql_keyword.declared.words.Keyword.TheVariants as k
+use Rattle.law_edit_cuts.specs.sql_keyword.declared.words.Verb.TheVariants as verbs
+use Rattle.law_edit_cuts.specs.sql_keyword.declared.words.Object.TheVariants as objects
+use Rattle.law_edit_cuts.specs.sql_keyword.declared.words.Other.TheVariants as others
+use Rattle.law_edit_cuts.specs.sql_keyword.declared.words.TheConstants.Keyword as keyword
+use Rattle.law_edit_cuts.specs.sql_token.declared.token.Span.{Span}
+use Rattle.law_edit_cuts.specs.sql_token.declared.terminal.Terminal.{Terminal}
+use Rattle.law_edit_cuts.specs.sql_token.Depth.{has_keyword}
+use Rattle.law_edit_cuts.specs.sql_tree.declared.kinds.StmtKind.{StmtKind}
+use Rattle.law_edit_cuts.specs.sql_tree.declared.kinds.StmtKind.TheVariants as stmt
+use Rattle.law_edit_cuts.specs.sql_tree.declared.forms.Family.{Family}
+use Rattle.law_edit_cuts.specs.sql_tree.declared.forms.Family.TheVariants as family
+use Rattle.law_edit_cuts.specs.sql_tree.declared.forms.Fact.TheVariants as m
+use Rattle.law_edit_cuts.specs.sql_tree.declared.forms.Phrase.TheVariants as phrase
+use Rattle.law_edit_cuts.specs.sql_tree.declared.forms.Part.{Part}
+use Rattle.law_edit_cuts.specs.sql_tree.declared.forms.Part.TheVariants as p
+use Rattle.law_edit_cuts.specs.sql_tree.declared.nodes.Body.{Body}
+use Rattle.law_edit_cuts.specs.sql_tree.declared.nodes.Body.TheVariants as body
+use Rattle.law_edit_cuts.specs.sql_tree.Forms.{State, Row, take_part, first_led, fresh, family_first, create_rows, alter_rows, drop_rows, rows_of, one_word_kind, led_by}
+use Rattle.law_edit_cuts.specs.sql_tree.Split.{is_verb_word}
+use Rattle.law_edit_cuts.specs.sql_tree.Statement.{final_kind, body_shape_of, body_by, kind_and_body, front_by, form_from, form_of}
 use Rattle.law_edit_inserts.specs.Concurrently.{key}
 use Rattle.law_edit_inserts.proofs.Leading.{Given, given_then, given_any, given_is, listed_rows, RowShows, RowsShow, rows_show, families_show, is_relation, FrontShows, is_quiet, Leading, form_shows}
 use Rattle.law_edit_inserts.specs.Shapes.{DropShape, DropIndexShows}
 use Rattle.std.specs.Prelude.{is_some}
-use Rattle.sql_tree.specs.Tails.{paths_from}
+use Rattle.law_edit_cuts.specs.sql_tree.Tails.{paths_from}
 use Rattle.law_edit_inserts.proofs.IndexShapes.{AllKeep, Marks, some_is, index_is, guarded_keeps, path_keeps, rest_keeps, object_shows}
 
 abbrev is_drop : StmtKind → Bool

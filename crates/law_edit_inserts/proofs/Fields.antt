@@ -4,24 +4,24 @@ use Rattle.std.proofs.lemmas.Bool.{false≢true}
 use Rattle.std.proofs.lemmas.Bool.Decides.{nat_tests}
 use Rattle.std.proofs.lemmas.List.{map-append, length-map}
 use Rattle.std.specs.Option.{option_map}
-use Rattle.sql_keyword.specs.declared.words.Keyword.{Keyword}
-use Rattle.sql_keyword.specs.declared.words.TheConstants.Keyword as keyword
-use Rattle.sql_token.specs.declared.terminal.Symbol.{Symbol}
-use Rattle.sql_token.specs.declared.terminal.Symbol.TheVariants as s
-use Rattle.sql_token.specs.declared.terminal.Terminal.{Terminal}
-use Rattle.sql_token.specs.Terminal.{is_keyword, is_keyword_symbol, is_name, is_opener, is_closer, is_semicolon, is_opener_symbol, is_closer_symbol, is_semicolon_symbol}
-use Rattle.sql_token.specs.Depth.{opened, closed}
-use Rattle.sql_tree.specs.declared.kinds.StmtKind.{StmtKind}
-use Rattle.sql_tree.specs.declared.nodes.Body.{Body}
-use Rattle.sql_tree.specs.declared.nodes.ReindexTarget.{ReindexTarget}
-use Rattle.sql_tree.specs.declared.nodes.Stmt.{Stmt}
-use Rattle.sql_tree.specs.Split.{begins_with, begins_list, closing}
-use Rattle.sql_tree.specs.Statement.{form_of, last_of, statement, without_semicolon}
-use Rattle.law_renumber.specs.Moved.{stmt_moved}
-use Rattle.law_renumber.specs.Renumber.{renumber}
-use Rattle.law_renumber.proofs.Marks.{closing_renumbers}
-use Rattle.law_renumber.proofs.Seen.{numbers, keyword_sees}
-use Rattle.law_renumber.proofs.Statements.{statement_renumbers}
+use Rattle.law_edit_cuts.specs.sql_keyword.declared.words.Keyword.{Keyword}
+use Rattle.law_edit_cuts.specs.sql_keyword.declared.words.TheConstants.Keyword as keyword
+use Rattle.law_edit_cuts.specs.sql_token.declared.terminal.Symbol.{Symbol}
+use Rattle.law_edit_cuts.specs.sql_token.declared.terminal.Symbol.TheVariants as s
+use Rattle.law_edit_cuts.specs.sql_token.declared.terminal.Terminal.{Terminal}
+use Rattle.law_edit_cuts.specs.sql_token.Terminal.{is_keyword, is_keyword_symbol, is_name, is_opener, is_closer, is_semicolon, is_opener_symbol, is_closer_symbol, is_semicolon_symbol}
+use Rattle.law_edit_cuts.specs.sql_token.Depth.{opened, closed}
+use Rattle.law_edit_cuts.specs.sql_tree.declared.kinds.StmtKind.{StmtKind}
+use Rattle.law_edit_cuts.specs.sql_tree.declared.nodes.Body.{Body}
+use Rattle.law_edit_cuts.specs.sql_tree.declared.nodes.ReindexTarget.{ReindexTarget}
+use Rattle.law_edit_cuts.specs.sql_tree.declared.nodes.Stmt.{Stmt}
+use Rattle.law_edit_cuts.specs.sql_tree.Split.{begins_with, begins_list, closing}
+use Rattle.law_edit_cuts.specs.sql_tree.Statement.{form_of, last_of, statement, without_semicolon}
+use Rattle.law_edit_cuts.specs.law_renumber.Moved.{stmt_moved}
+use Rattle.law_edit_cuts.specs.law_renumber.Renumber.{renumber}
+use Rattle.law_edit_cuts.proofs.of_law_renumber.Marks.{closing_renumbers}
+use Rattle.law_edit_cuts.proofs.of_law_renumber.Seen.{numbers, keyword_sees}
+use Rattle.law_edit_cuts.proofs.of_law_renumber.Statements.{statement_renumbers}
 use Rattle.law_edit_cuts.proofs.Nested.{opened_is, closed_is}
 use Rattle.law_edit_tokens.specs.Beside.{is_punct_symbol, begins_punct_or_ends}
 use Rattle.law_edit_tokens.specs.Terminals.{moved_number}

@@ -2,27 +2,27 @@
 use Rattle.std.proofs.Common.{◌≡◌, ℕ, Bool, true, false, cond, List, [], ◌∷◌, length, sym, refl, ap, ◌∙◌, Option, Some, None}
 use Rattle.std.specs.Prelude.{◌==◌, ◌&&◌, ◌||◌, not, is_some}
 use Rattle.std.specs.Option.{option_map, option_and_then}
-use Rattle.sql_keyword.specs.declared.words.Keyword.{Keyword}
-use Rattle.sql_keyword.specs.declared.words.TheConstants.Keyword as keyword
-use Rattle.sql_keyword.specs.Same.{same_keyword}
-use Rattle.sql_token.specs.declared.token.Span.{Span}
-use Rattle.sql_token.specs.declared.terminal.Terminal.{Terminal}
-use Rattle.sql_token.specs.Terminal.{is_keyword, is_name}
-use Rattle.sql_tree.specs.declared.kinds.StmtKind.{StmtKind}
-use Rattle.sql_tree.specs.declared.kinds.StmtKind.TheVariants as stmt
-use Rattle.sql_tree.specs.declared.forms.Captures.{Captures}
-use Rattle.sql_tree.specs.declared.forms.Fact.{Fact}
-use Rattle.sql_tree.specs.declared.forms.Fact.TheVariants as m
-use Rattle.sql_tree.specs.declared.forms.Phrase.{Phrase}
-use Rattle.sql_tree.specs.declared.forms.Phrase.TheVariants as phrase
-use Rattle.sql_tree.specs.declared.forms.Part.{Part}
-use Rattle.sql_tree.specs.declared.forms.Part.TheVariants as p
-use Rattle.sql_tree.specs.declared.nodes.Body.{Body}
-use Rattle.sql_tree.specs.declared.nodes.Body.TheVariants as body
-use Rattle.sql_tree.specs.Forms.{State, at, one, nothing_kept, name_kept, record_fact, or_here, take_phrase, after_words, words_of, names_end, index_name, guard, take_part, in_turn, finished, all_taken, fresh, family_of, create_rows, drop_rows, rows_of, one_word_kind, led_by}
-use Rattle.sql_tree.specs.Split.{begins_with}
-use Rattle.sql_tree.specs.Tails.{paths_from}
-use Rattle.sql_tree.specs.Statement.{final_kind, body_shape_of, body_by, kind_and_body, front_by, from_verb, form_from, form_of}
+use Rattle.law_edit_cuts.specs.sql_keyword.declared.words.Keyword.{Keyword}
+use Rattle.law_edit_cuts.specs.sql_keyword.declared.words.TheConstants.Keyword as keyword
+use Rattle.law_edit_cuts.specs.sql_keyword.Same.{same_keyword}
+use Rattle.law_edit_cuts.specs.sql_token.declared.token.Span.{Span}
+use Rattle.law_edit_cuts.specs.sql_token.declared.terminal.Terminal.{Terminal}
+use Rattle.law_edit_cuts.specs.sql_token.Terminal.{is_keyword, is_name}
+use Rattle.law_edit_cuts.specs.sql_tree.declared.kinds.StmtKind.{StmtKind}
+use Rattle.law_edit_cuts.specs.sql_tree.declared.kinds.StmtKind.TheVariants as stmt
+use Rattle.law_edit_cuts.specs.sql_tree.declared.forms.Captures.{Captures}
+use Rattle.law_edit_cuts.specs.sql_tree.declared.forms.Fact.{Fact}
+use Rattle.law_edit_cuts.specs.sql_tree.declared.forms.Fact.TheVariants as m
+use Rattle.law_edit_cuts.specs.sql_tree.declared.forms.Phrase.{Phrase}
+use Rattle.law_edit_cuts.specs.sql_tree.declared.forms.Phrase.TheVariants as phrase
+use Rattle.law_edit_cuts.specs.sql_tree.declared.forms.Part.{Part}
+use Rattle.law_edit_cuts.specs.sql_tree.declared.forms.Part.TheVariants as p
+use Rattle.law_edit_cuts.specs.sql_tree.declared.nodes.Body.{Body}
+use Rattle.law_edit_cuts.specs.sql_tree.declared.nodes.Body.TheVariants as body
+use Rattle.law_edit_cuts.specs.sql_tree.Forms.{State, at, one, nothing_kept, name_kept, record_fact, or_here, take_phrase, after_words, words_of, names_end, index_name, guard, take_part, in_turn, finished, all_taken, fresh, family_of, create_rows, drop_rows, rows_of, one_word_kind, led_by}
+use Rattle.law_edit_cuts.specs.sql_tree.Split.{begins_with}
+use Rattle.law_edit_cuts.specs.sql_tree.Tails.{paths_from}
+use Rattle.law_edit_cuts.specs.sql_tree.Statement.{final_kind, body_shape_of, body_by, kind_and_body, front_by, from_verb, form_from, form_of}
 use Rattle.law_edit_inserts.specs.Concurrently.{key, concurrent_form, CreateIndexConcurrently, CreateUniqueIndexConcurrently, DropIndexConcurrently}
 use Rattle.law_edit_inserts.proofs.IndexShapes.{index_parts}
 use Rattle.law_edit_inserts.proofs.DropShapes.{drop_parts}

@@ -5,27 +5,27 @@ use Rattle.std.proofs.lemmas.Bool.Decides.{nat_tests}
 use Rattle.std.proofs.lemmas.List.{map-append, take_at, drop_at, get_or_at}
 use Rattle.std.specs.Prelude.{◌==◌, ◌&&◌, codes}
 use Rattle.std.specs.Option.{option_map}
-use Rattle.sql_keyword.specs.declared.words.TheConstants.Keyword as keyword
-use Rattle.sql_keyword.specs.Find.{keyword_of}
-use Rattle.sql_keyword.specs.Texts.{all_keywords, text}
-use Rattle.sql_token.specs.declared.token.Tok.{Tok}
-use Rattle.sql_token.specs.declared.token.TokKind.{TokKind}
-use Rattle.sql_token.specs.declared.token.TokKind.TheVariants as kinds
-use Rattle.sql_token.specs.declared.terminal.Symbol.{Symbol}
-use Rattle.sql_token.specs.declared.terminal.Symbol.TheVariants as s
-use Rattle.sql_token.specs.declared.terminal.Terminal.{Terminal}
-use Rattle.sql_token.specs.Token.{Text, Leads, Lexed, At, text_of, is_word}
-use Rattle.sql_token.specs.Terminal.{symbol_of, is_significant, terminals, terminals_from, is_opener, is_closer, is_semicolon, is_name, is_name_symbol}
-use Rattle.sql_token.specs.Depth.{statements}
-use Rattle.sql_tree.specs.declared.nodes.Stmt.{Stmt}
-use Rattle.sql_tree.specs.Range.{token_at}
-use Rattle.sql_tree.specs.Statement.{Tree, IsTree, statement, all_statements, no_token, last_of}
-use Rattle.law_renumber.specs.Moved.{stmt_moved}
-use Rattle.law_renumber.specs.Names.{is_quoted_symbol}
-use Rattle.law_renumber.specs.Renumber.{renumber}
-use Rattle.law_renumber.proofs.Seen.{numbers}
-use Rattle.law_renumber.proofs.Statements.{statement_renumbers}
-use Rattle.law_renumber.proofs.Readings.{statements_renumber, NoneEmpty, statements_full}
+use Rattle.law_edit_cuts.specs.sql_keyword.declared.words.TheConstants.Keyword as keyword
+use Rattle.law_edit_cuts.specs.sql_keyword.Find.{keyword_of}
+use Rattle.law_edit_cuts.specs.sql_keyword.Texts.{all_keywords, text}
+use Rattle.law_edit_cuts.specs.sql_token.declared.token.Tok.{Tok}
+use Rattle.law_edit_cuts.specs.sql_token.declared.token.TokKind.{TokKind}
+use Rattle.law_edit_cuts.specs.sql_token.declared.token.TokKind.TheVariants as kinds
+use Rattle.law_edit_cuts.specs.sql_token.declared.terminal.Symbol.{Symbol}
+use Rattle.law_edit_cuts.specs.sql_token.declared.terminal.Symbol.TheVariants as s
+use Rattle.law_edit_cuts.specs.sql_token.declared.terminal.Terminal.{Terminal}
+use Rattle.law_edit_cuts.specs.sql_token.Token.{Text, Leads, Lexed, At, text_of, is_word}
+use Rattle.law_edit_cuts.specs.sql_token.Terminal.{symbol_of, is_significant, terminals, terminals_from, is_opener, is_closer, is_semicolon, is_name, is_name_symbol}
+use Rattle.law_edit_cuts.specs.sql_token.Depth.{statements}
+use Rattle.law_edit_cuts.specs.sql_tree.declared.nodes.Stmt.{Stmt}
+use Rattle.law_edit_cuts.specs.sql_tree.Range.{token_at}
+use Rattle.law_edit_cuts.specs.sql_tree.Statement.{Tree, IsTree, statement, all_statements, no_token, last_of}
+use Rattle.law_edit_cuts.specs.law_renumber.Moved.{stmt_moved}
+use Rattle.law_edit_cuts.specs.law_renumber.Names.{is_quoted_symbol}
+use Rattle.law_edit_cuts.specs.law_renumber.Renumber.{renumber}
+use Rattle.law_edit_cuts.proofs.of_law_renumber.Seen.{numbers}
+use Rattle.law_edit_cuts.proofs.of_law_renumber.Statements.{statement_renumbers}
+use Rattle.law_edit_cuts.proofs.of_law_renumber.Readings.{statements_renumber, NoneEmpty, statements_full}
 use Rattle.law_edit_tokens.specs.Beside.{begins_punct_or_ends}
 use Rattle.law_edit_tokens.specs.Edits.{concurrently_made}
 use Rattle.law_edit_tokens.specs.Exchange.{exchanged, made_text, made_toks, reread, Cut, keeps_before}

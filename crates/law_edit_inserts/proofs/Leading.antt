@@ -3,22 +3,22 @@ use Rattle.std.proofs.Common.{◌≡◌, ℕ, suc, ◌+◌, Bool, true, false, c
 use Rattle.std.proofs.lemmas.Bool.{not-true}
 use Rattle.std.specs.Prelude.{◌==◌, ◌&&◌, not}
 use Rattle.std.specs.Option.{option_and_then}
-use Rattle.sql_keyword.specs.declared.words.Keyword.{Keyword}
-use Rattle.sql_keyword.specs.declared.words.TheConstants.Keyword as keyword
-use Rattle.sql_token.specs.declared.terminal.Symbol.{Symbol}
-use Rattle.sql_token.specs.declared.terminal.Symbol.TheVariants as s
-use Rattle.sql_token.specs.declared.terminal.Terminal.{Terminal}
-use Rattle.sql_token.specs.Terminal.{is_keyword, is_opener, is_closer}
-use Rattle.sql_token.specs.Depth.{one_if}
-use Rattle.sql_tree.specs.declared.forms.Family.{Family}
-use Rattle.sql_tree.specs.declared.forms.Family.TheVariants as family
-use Rattle.sql_tree.specs.declared.kinds.StmtKind.{StmtKind}
-use Rattle.sql_tree.specs.declared.kinds.StmtKind.TheVariants as stmt
-use Rattle.sql_tree.specs.declared.nodes.Body.{Body}
-use Rattle.sql_tree.specs.declared.nodes.Body.TheVariants as body
-use Rattle.sql_tree.specs.Forms.{State, Row, in_turn, all_taken, finished, led_or, first_led, fresh, rows_of, one_word_kind, kind_or_row, led_by}
-use Rattle.sql_tree.specs.Split.{verb, is_verb_symbol, is_verb_word, from_mark, before, before_from}
-use Rattle.sql_tree.specs.Statement.{kind_and_body, front_by, from_verb, form_from, form_of}
+use Rattle.law_edit_cuts.specs.sql_keyword.declared.words.Keyword.{Keyword}
+use Rattle.law_edit_cuts.specs.sql_keyword.declared.words.TheConstants.Keyword as keyword
+use Rattle.law_edit_cuts.specs.sql_token.declared.terminal.Symbol.{Symbol}
+use Rattle.law_edit_cuts.specs.sql_token.declared.terminal.Symbol.TheVariants as s
+use Rattle.law_edit_cuts.specs.sql_token.declared.terminal.Terminal.{Terminal}
+use Rattle.law_edit_cuts.specs.sql_token.Terminal.{is_keyword, is_opener, is_closer}
+use Rattle.law_edit_cuts.specs.sql_token.Depth.{one_if}
+use Rattle.law_edit_cuts.specs.sql_tree.declared.forms.Family.{Family}
+use Rattle.law_edit_cuts.specs.sql_tree.declared.forms.Family.TheVariants as family
+use Rattle.law_edit_cuts.specs.sql_tree.declared.kinds.StmtKind.{StmtKind}
+use Rattle.law_edit_cuts.specs.sql_tree.declared.kinds.StmtKind.TheVariants as stmt
+use Rattle.law_edit_cuts.specs.sql_tree.declared.nodes.Body.{Body}
+use Rattle.law_edit_cuts.specs.sql_tree.declared.nodes.Body.TheVariants as body
+use Rattle.law_edit_cuts.specs.sql_tree.Forms.{State, Row, in_turn, all_taken, finished, led_or, first_led, fresh, rows_of, one_word_kind, kind_or_row, led_by}
+use Rattle.law_edit_cuts.specs.sql_tree.Split.{verb, is_verb_symbol, is_verb_word, from_mark, before, before_from}
+use Rattle.law_edit_cuts.specs.sql_tree.Statement.{kind_and_body, front_by, from_verb, form_from, form_of}
 use Rattle.law_edit_inserts.specs.Concurrently.{key}
 
 -- ---- what holds of an answer, where there is one

@@ -15,3 +15,7 @@ pub mod Inserted
 pub mod Fields
 pub mod DetachFields
 pub mod Sets
+pub use Rattle.law_edit_cuts.proofs as of_law_edit_cuts
+pub use Rattle.law_edit_tokens.proofs as of_law_edit_tokens
+pub use Rattle.law_edit_cuts.proofs.of_law_renumber
+pub use Rattle.law_edit_cuts.proofs.of_sql_token

@@ -3,40 +3,40 @@ use Rattle.std.proofs.Common.{◌≡◌, ℕ, suc, ◌+◌, Bool, true, false, c
 use Rattle.std.proofs.lemmas.Bool.{false≢true}
 use Rattle.std.specs.Prelude.{◌==◌, ◌||◌}
 use Rattle.std.specs.Option.{option_and_then}
-use Rattle.sql_keyword.specs.declared.words.Keyword.{Keyword}
-use Rattle.sql_keyword.specs.declared.words.Keyword.TheVariants as k
-use Rattle.sql_keyword.specs.declared.words.Verb.TheVariants as verbs
-use Rattle.sql_keyword.specs.declared.words.Object.TheVariants as objects
-use Rattle.sql_keyword.specs.declared.words.Other.TheVariants as others
-use Rattle.sql_keyword.specs.declared.words.TheConstants.Keyword as keyword
-use Rattle.sql_token.specs.declared.token.Span.{Span}
-use Rattle.sql_token.specs.declared.terminal.Symbol.{Symbol}
-use Rattle.sql_token.specs.declared.terminal.Symbol.TheVariants as s
-use Rattle.sql_token.specs.declared.terminal.Terminal.{Terminal}
-use Rattle.sql_token.specs.Terminal.{is_opener, is_closer}
-use Rattle.sql_token.specs.Depth.{one_if}
-use Rattle.sql_tree.specs.declared.kinds.StmtKind.{StmtKind}
-use Rattle.sql_tree.specs.declared.kinds.StmtKind.TheVariants as stmt
-use Rattle.sql_tree.specs.declared.forms.Family.{Family}
-use Rattle.sql_tree.specs.declared.forms.Family.TheVariants as family
-use Rattle.sql_tree.specs.declared.forms.BodyShape.{BodyShape}
-use Rattle.sql_tree.specs.declared.forms.BodyShape.TheVariants as shape
-use Rattle.sql_tree.specs.declared.nodes.Body.{Body}
-use Rattle.sql_tree.specs.declared.nodes.Body.TheVariants as body
-use Rattle.sql_tree.specs.Action.{actions_of}
-use Rattle.sql_tree.specs.Column.{domain_constraints}
-use Rattle.sql_tree.specs.Forms.{State, family_first, create_rows, alter_rows, drop_rows, rows_of, one_word_kind, led_by}
-use Rattle.sql_tree.specs.Split.{begins_with, is_verb_word}
-use Rattle.sql_tree.specs.Tails.{reindex, reindex_object, whole_path, after_flag, target_symbol, after_options}
-use Rattle.sql_tree.specs.Groups.{inside_list}
-use Rattle.sql_tree.specs.Statement.{final_kind, body_shape_of, body_by, kind_and_body, front_by, form_from, form_of}
+use Rattle.law_edit_cuts.specs.sql_keyword.declared.words.Keyword.{Keyword}
+use Rattle.law_edit_cuts.specs.sql_keyword.declared.words.Keyword.TheVariants as k
+use Rattle.law_edit_cuts.specs.sql_keyword.declared.words.Verb.TheVariants as verbs
+use Rattle.law_edit_cuts.specs.sql_keyword.declared.words.Object.TheVariants as objects
+use Rattle.law_edit_cuts.specs.sql_keyword.declared.words.Other.TheVariants as others
+use Rattle.law_edit_cuts.specs.sql_keyword.declared.words.TheConstants.Keyword as keyword
+use Rattle.law_edit_cuts.specs.sql_token.declared.token.Span.{Span}
+use Rattle.law_edit_cuts.specs.sql_token.declared.terminal.Symbol.{Symbol}
+use Rattle.law_edit_cuts.specs.sql_token.declared.terminal.Symbol.TheVariants as s
+use Rattle.law_edit_cuts.specs.sql_token.declared.terminal.Terminal.{Terminal}
+use Rattle.law_edit_cuts.specs.sql_token.Terminal.{is_opener, is_closer}
+use Rattle.law_edit_cuts.specs.sql_token.Depth.{one_if}
+use Rattle.law_edit_cuts.specs.sql_tree.declared.kinds.StmtKind.{StmtKind}
+use Rattle.law_edit_cuts.specs.sql_tree.declared.kinds.StmtKind.TheVariants as stmt
+use Rattle.law_edit_cuts.specs.sql_tree.declared.forms.Family.{Family}
+use Rattle.law_edit_cuts.specs.sql_tree.declared.forms.Family.TheVariants as family
+use Rattle.law_edit_cuts.specs.sql_tree.declared.forms.BodyShape.{BodyShape}
+use Rattle.law_edit_cuts.specs.sql_tree.declared.forms.BodyShape.TheVariants as shape
+use Rattle.law_edit_cuts.specs.sql_tree.declared.nodes.Body.{Body}
+use Rattle.law_edit_cuts.specs.sql_tree.declared.nodes.Body.TheVariants as body
+use Rattle.law_edit_cuts.specs.sql_tree.Action.{actions_of}
+use Rattle.law_edit_cuts.specs.sql_tree.Column.{domain_constraints}
+use Rattle.law_edit_cuts.specs.sql_tree.Forms.{State, family_first, create_rows, alter_rows, drop_rows, rows_of, one_word_kind, led_by}
+use Rattle.law_edit_cuts.specs.sql_tree.Split.{begins_with, is_verb_word}
+use Rattle.law_edit_cuts.specs.sql_tree.Tails.{reindex, reindex_object, whole_path, after_flag, target_symbol, after_options}
+use Rattle.law_edit_cuts.specs.sql_tree.Groups.{inside_list}
+use Rattle.law_edit_cuts.specs.sql_tree.Statement.{final_kind, body_shape_of, body_by, kind_and_body, front_by, form_from, form_of}
 use Rattle.law_edit_inserts.specs.Concurrently.{key}
 use Rattle.law_edit_inserts.proofs.Leading.{Given, given_any, given_is, listed_rows, FrontShows, is_quiet, Leading, form_shows}
 use Rattle.std.proofs.Common.{zero, ◌-◌, ◌≤◌, ◌++◌, take, arith}
 use Rattle.std.proofs.lemmas.List.{take-append-drop, length-take-le}
-use Rattle.sql_tree.specs.declared.nodes.ReindexTarget.{ReindexTarget}
-use Rattle.sql_tree.specs.Split.{begins_list, closing}
-use Rattle.sql_tree.specs.Tails.{target_word, any_option, is_concurrent, is_valued}
+use Rattle.law_edit_cuts.specs.sql_tree.declared.nodes.ReindexTarget.{ReindexTarget}
+use Rattle.law_edit_cuts.specs.sql_tree.Split.{begins_list, closing}
+use Rattle.law_edit_cuts.specs.sql_tree.Tails.{target_word, any_option, is_concurrent, is_valued}
 use Rattle.law_edit_inserts.specs.Shapes.{ReindexShape, ReindexShows}
 use Rattle.law_edit_inserts.specs.Shapes.ReindexShape.{bare, listed}
 use Rattle.law_edit_inserts.proofs.Reindexes.{closing_some}

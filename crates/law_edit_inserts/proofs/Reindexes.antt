@@ -4,22 +4,22 @@ use Rattle.std.proofs.lemmas.Bool.{false≢true}
 use Rattle.std.proofs.lemmas.List.{take-append-le, drop_at}
 use Rattle.std.specs.Prelude.{◌==◌, ◌||◌}
 use Rattle.std.specs.Option.{option_map, option_and_then}
-use Rattle.sql_keyword.specs.declared.words.TheConstants.Keyword as keyword
-use Rattle.sql_keyword.specs.Same.{same_keyword}
-use Rattle.sql_token.specs.declared.token.Span.{Span}
-use Rattle.sql_token.specs.declared.terminal.Terminal.{Terminal}
-use Rattle.sql_token.specs.Terminal.{is_keyword, is_opener, is_closer}
-use Rattle.sql_token.specs.Depth.{one_if}
-use Rattle.sql_tree.specs.declared.kinds.StmtKind.{StmtKind}
-use Rattle.sql_tree.specs.declared.kinds.StmtKind.TheVariants as stmt
-use Rattle.sql_tree.specs.declared.nodes.Body.{Body}
-use Rattle.sql_tree.specs.declared.nodes.Body.TheVariants as body
-use Rattle.sql_tree.specs.declared.nodes.ReindexTarget.{ReindexTarget}
-use Rattle.sql_tree.specs.Forms.{one_word_kind, led_by}
-use Rattle.sql_tree.specs.Groups.{inside_list}
-use Rattle.sql_tree.specs.Split.{begins_with, begins_list, closing}
-use Rattle.sql_tree.specs.Tails.{whole_path, after_options, any_option, after_flag, is_concurrent, is_valued, target_symbol, reindex_object, reindex}
-use Rattle.sql_tree.specs.Statement.{final_kind, body_shape_of, body_by, kind_and_body, front_by, from_verb, form_from, form_of}
+use Rattle.law_edit_cuts.specs.sql_keyword.declared.words.TheConstants.Keyword as keyword
+use Rattle.law_edit_cuts.specs.sql_keyword.Same.{same_keyword}
+use Rattle.law_edit_cuts.specs.sql_token.declared.token.Span.{Span}
+use Rattle.law_edit_cuts.specs.sql_token.declared.terminal.Terminal.{Terminal}
+use Rattle.law_edit_cuts.specs.sql_token.Terminal.{is_keyword, is_opener, is_closer}
+use Rattle.law_edit_cuts.specs.sql_token.Depth.{one_if}
+use Rattle.law_edit_cuts.specs.sql_tree.declared.kinds.StmtKind.{StmtKind}
+use Rattle.law_edit_cuts.specs.sql_tree.declared.kinds.StmtKind.TheVariants as stmt
+use Rattle.law_edit_cuts.specs.sql_tree.declared.nodes.Body.{Body}
+use Rattle.law_edit_cuts.specs.sql_tree.declared.nodes.Body.TheVariants as body
+use Rattle.law_edit_cuts.specs.sql_tree.declared.nodes.ReindexTarget.{ReindexTarget}
+use Rattle.law_edit_cuts.specs.sql_tree.Forms.{one_word_kind, led_by}
+use Rattle.law_edit_cuts.specs.sql_tree.Groups.{inside_list}
+use Rattle.law_edit_cuts.specs.sql_tree.Split.{begins_with, begins_list, closing}
+use Rattle.law_edit_cuts.specs.sql_tree.Tails.{whole_path, after_options, any_option, after_flag, is_concurrent, is_valued, target_symbol, reindex_object, reindex}
+use Rattle.law_edit_cuts.specs.sql_tree.Statement.{final_kind, body_shape_of, body_by, kind_and_body, front_by, from_verb, form_from, form_of}
 use Rattle.law_edit_inserts.specs.Concurrently.{key, concurrent_body, concurrent_form, ReindexConcurrently, ReindexOptionsConcurrently}
 
 -- ---- REINDEX

@@ -1,33 +1,33 @@
 -- A Set before the first significant token.
 use Rattle.std.proofs.Common.{◌≡◌, ℕ, ◌+◌, ◌≤◌, true, List, [], ◌∷◌, ◌++◌, map, length, drop, sym, refl, ap, ◌∙◌, subst, arith, Some, Ok}
 use Rattle.std.specs.Prelude.{codes}
-use Rattle.sql_keyword.specs.declared.words.TheConstants.Keyword as keyword
-use Rattle.sql_keyword.specs.Same.{same_keyword}
-use Rattle.sql_keyword.specs.Find.{keyword_of}
-use Rattle.sql_keyword.specs.Texts.{all_keywords, text}
-use Rattle.sql_token.specs.declared.token.Tok.{Tok}
-use Rattle.sql_token.specs.declared.token.TokKind.TheVariants.{Word, Op, Str, Punct}
-use Rattle.sql_token.specs.declared.terminal.Symbol.TheVariants as s
-use Rattle.sql_token.specs.declared.terminal.Terminal.{Terminal}
-use Rattle.sql_token.specs.Token.{Text, Leads}
-use Rattle.sql_token.specs.Terminal.{symbol_of, terminals, terminals_from, is_opener, is_closer, is_semicolon, is_unicode_name, is_keyword, is_name, is_dot}
-use Rattle.sql_token.specs.Depth.{statements}
-use Rattle.sql_token.specs.Sound.{is_sound, begins_atomic}
-use Rattle.sql_tree.specs.declared.nodes.Stmt.{Stmt}
-use Rattle.sql_tree.specs.Forms.{take_part, words_of, rows_of, one_word_kind, led_by}
-use Rattle.sql_tree.specs.Groups.{path_first}
-use Rattle.sql_tree.specs.Tails.{begins_value, parameter}
-use Rattle.sql_tree.specs.Statement.{final_kind, body_shape_of, body_by, kind_and_body, front_by, from_verb, form_from, form_of, statement, all_statements, read_tokens}
-use Rattle.law_renumber.specs.Moved.{stmt_moved}
-use Rattle.law_renumber.specs.Renumber.{renumber}
-use Rattle.law_renumber.proofs.Readings.{statements_renumber}
-use Rattle.law_renumber.proofs.Seen.{numbers}
+use Rattle.law_edit_cuts.specs.sql_keyword.declared.words.TheConstants.Keyword as keyword
+use Rattle.law_edit_cuts.specs.sql_keyword.Same.{same_keyword}
+use Rattle.law_edit_cuts.specs.sql_keyword.Find.{keyword_of}
+use Rattle.law_edit_cuts.specs.sql_keyword.Texts.{all_keywords, text}
+use Rattle.law_edit_cuts.specs.sql_token.declared.token.Tok.{Tok}
+use Rattle.law_edit_cuts.specs.sql_token.declared.token.TokKind.TheVariants.{Word, Op, Str, Punct}
+use Rattle.law_edit_cuts.specs.sql_token.declared.terminal.Symbol.TheVariants as s
+use Rattle.law_edit_cuts.specs.sql_token.declared.terminal.Terminal.{Terminal}
+use Rattle.law_edit_cuts.specs.sql_token.Token.{Text, Leads}
+use Rattle.law_edit_cuts.specs.sql_token.Terminal.{symbol_of, terminals, terminals_from, is_opener, is_closer, is_semicolon, is_unicode_name, is_keyword, is_name, is_dot}
+use Rattle.law_edit_cuts.specs.sql_token.Depth.{statements}
+use Rattle.law_edit_cuts.specs.sql_token.Sound.{is_sound, begins_atomic}
+use Rattle.law_edit_cuts.specs.sql_tree.declared.nodes.Stmt.{Stmt}
+use Rattle.law_edit_cuts.specs.sql_tree.Forms.{take_part, words_of, rows_of, one_word_kind, led_by}
+use Rattle.law_edit_cuts.specs.sql_tree.Groups.{path_first}
+use Rattle.law_edit_cuts.specs.sql_tree.Tails.{begins_value, parameter}
+use Rattle.law_edit_cuts.specs.sql_tree.Statement.{final_kind, body_shape_of, body_by, kind_and_body, front_by, from_verb, form_from, form_of, statement, all_statements, read_tokens}
+use Rattle.law_edit_cuts.specs.law_renumber.Moved.{stmt_moved}
+use Rattle.law_edit_cuts.specs.law_renumber.Renumber.{renumber}
+use Rattle.law_edit_cuts.proofs.of_law_renumber.Readings.{statements_renumber}
+use Rattle.law_edit_cuts.proofs.of_law_renumber.Seen.{numbers}
 use Rattle.law_edit_tokens.specs.Terminals.{made_terms, moved_number}
 use Rattle.law_edit_tokens.proofs.After.{exchanged_at, leads_within, leads_split}
 use Rattle.law_edit_tokens.proofs.Terminals.{terms_append, terminals_reread, made_terminals, quiet_terms}
 use Rattle.law_edit_inserts.specs.SetInFront.{set_stmt, term, set_terms, room_before, SetInFront}
 use Rattle.law_edit_inserts.proofs.Statements.{all_of_both, trees_renumber}
-use Rattle.sql_token.proofs.Statements.{by_counts}
+use Rattle.law_edit_cuts.proofs.of_sql_token.Statements.{by_counts}
 use Rattle.law_edit_tokens.specs.Exchange.{exchanged, made_text, made_toks, reread, Cut}
 use Rattle.law_edit_tokens.specs.Edits.{set_made, all_quiet}
 use Rattle.law_edit_tokens.specs.Terminals.{moved_number}

@@ -4,19 +4,19 @@ use Rattle.std.proofs.lemmas.Bool.{false≢true}
 use Rattle.std.proofs.lemmas.List.{map-append}
 use Rattle.std.specs.Prelude.{◌==◌, ◌&&◌}
 use Rattle.std.specs.Option.{option_map}
-use Rattle.sql_token.specs.declared.token.Tok.{Tok}
-use Rattle.sql_token.specs.declared.terminal.Terminal.{Terminal}
-use Rattle.sql_token.specs.Token.{Text}
-use Rattle.sql_token.specs.Terminal.{is_opener, is_closer, is_semicolon, terminals, terminals_from}
-use Rattle.sql_token.specs.Depth.{onto, one_if, statements, statements_from, span_of}
-use Rattle.sql_token.proofs.Statements.{by_counts}
-use Rattle.sql_tree.specs.declared.nodes.Stmt.{Stmt}
-use Rattle.sql_tree.specs.Statement.{statement, and_then_all, all_statements, read_tokens}
-use Rattle.law_renumber.specs.Renumber.{renumber}
-use Rattle.law_renumber.specs.Moved.{stmt_moved}
-use Rattle.law_renumber.proofs.Seen.{numbers}
-use Rattle.law_renumber.proofs.Statements.{statement_renumbers}
-use Rattle.law_renumber.proofs.Readings.{statements_renumber, NoneEmpty, statements_full, cut_full}
+use Rattle.law_edit_cuts.specs.sql_token.declared.token.Tok.{Tok}
+use Rattle.law_edit_cuts.specs.sql_token.declared.terminal.Terminal.{Terminal}
+use Rattle.law_edit_cuts.specs.sql_token.Token.{Text}
+use Rattle.law_edit_cuts.specs.sql_token.Terminal.{is_opener, is_closer, is_semicolon, terminals, terminals_from}
+use Rattle.law_edit_cuts.specs.sql_token.Depth.{onto, one_if, statements, statements_from, span_of}
+use Rattle.law_edit_cuts.proofs.of_sql_token.Statements.{by_counts}
+use Rattle.law_edit_cuts.specs.sql_tree.declared.nodes.Stmt.{Stmt}
+use Rattle.law_edit_cuts.specs.sql_tree.Statement.{statement, and_then_all, all_statements, read_tokens}
+use Rattle.law_edit_cuts.specs.law_renumber.Renumber.{renumber}
+use Rattle.law_edit_cuts.specs.law_renumber.Moved.{stmt_moved}
+use Rattle.law_edit_cuts.proofs.of_law_renumber.Seen.{numbers}
+use Rattle.law_edit_cuts.proofs.of_law_renumber.Statements.{statement_renumbers}
+use Rattle.law_edit_cuts.proofs.of_law_renumber.Readings.{statements_renumber, NoneEmpty, statements_full, cut_full}
 use Rattle.law_edit_cuts.specs.Exchanges.{joined}
 use Rattle.law_edit_cuts.proofs.Cuts.{heads, rests, no_list}
 use Rattle.law_edit_cuts.proofs.CutLaws.{joined_onto}

@@ -2,16 +2,16 @@
 use Rattle.std.proofs.Common.{◌≡◌, ℕ, suc, ◌+◌, ◌-◌, Bool, true, false, cond, get_or, List, [], ◌∷◌, ◌++◌, length, take, length-append, append_assoc, sym, refl, ap, ◌∙◌, arith, Option, Some, None}
 use Rattle.std.proofs.lemmas.List.{get_or-append-add}
 use Rattle.std.specs.Option.{option_and_then}
-use Rattle.sql_keyword.specs.declared.words.TheConstants.Keyword as keyword
-use Rattle.sql_keyword.specs.Same.{same_keyword}
-use Rattle.sql_token.specs.declared.terminal.Terminal.{Terminal}
-use Rattle.sql_token.specs.Terminal.{is_semicolon, is_keyword, is_opener, is_closer, is_unicode_name}
-use Rattle.sql_token.specs.Depth.{span_of, nothing}
-use Rattle.sql_token.specs.Sound.{is_sound, begins_atomic}
-use Rattle.sql_tree.specs.declared.kinds.StmtKind.{StmtKind}
-use Rattle.sql_tree.specs.declared.nodes.Body.{Body}
-use Rattle.sql_tree.specs.declared.nodes.Stmt.{Stmt}
-use Rattle.sql_tree.specs.Statement.{last_of, without_semicolon, form_of, stmt_in, statement}
+use Rattle.law_edit_cuts.specs.sql_keyword.declared.words.TheConstants.Keyword as keyword
+use Rattle.law_edit_cuts.specs.sql_keyword.Same.{same_keyword}
+use Rattle.law_edit_cuts.specs.sql_token.declared.terminal.Terminal.{Terminal}
+use Rattle.law_edit_cuts.specs.sql_token.Terminal.{is_semicolon, is_keyword, is_opener, is_closer, is_unicode_name}
+use Rattle.law_edit_cuts.specs.sql_token.Depth.{span_of, nothing}
+use Rattle.law_edit_cuts.specs.sql_token.Sound.{is_sound, begins_atomic}
+use Rattle.law_edit_cuts.specs.sql_tree.declared.kinds.StmtKind.{StmtKind}
+use Rattle.law_edit_cuts.specs.sql_tree.declared.nodes.Body.{Body}
+use Rattle.law_edit_cuts.specs.sql_tree.declared.nodes.Stmt.{Stmt}
+use Rattle.law_edit_cuts.specs.sql_tree.Statement.{last_of, without_semicolon, form_of, stmt_in, statement}
 use Rattle.law_edit_cuts.proofs.Sound.{soundness_stays}
 use Rattle.law_edit_inserts.specs.Concurrently.{key}
 

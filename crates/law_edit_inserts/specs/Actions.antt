@@ -1,17 +1,17 @@
 -- One action of ALTER TABLE changes, at its place.
 use Rattle.std.specs.Prelude.{◌≡◌, ◌≤◌, ◌⊎◌, ℕ, true, List, [], ◌∷◌, ◌++◌, length, Option, Some, None}
-use Rattle.sql_keyword.specs.declared.words.TheConstants.Keyword as keyword
-use Rattle.sql_token.specs.declared.token.Span.{Span}
-use Rattle.sql_token.specs.declared.terminal.Terminal.{Terminal}
-use Rattle.sql_token.specs.Depth.{opened, closed}
-use Rattle.sql_token.specs.Terminal.{is_name}
-use Rattle.sql_tree.specs.declared.kinds.ActionKind.TheVariants as a
-use Rattle.sql_tree.specs.declared.kinds.StmtKind.TheVariants as stmt
-use Rattle.sql_tree.specs.declared.nodes.Action.{Action}
-use Rattle.sql_tree.specs.declared.nodes.Body.TheVariants as body
-use Rattle.sql_tree.specs.Action.{action}
-use Rattle.sql_tree.specs.Forms.{names_end}
-use Rattle.sql_tree.specs.Statement.{form_of}
+use Rattle.law_edit_cuts.specs.sql_keyword.declared.words.TheConstants.Keyword as keyword
+use Rattle.law_edit_cuts.specs.sql_token.declared.token.Span.{Span}
+use Rattle.law_edit_cuts.specs.sql_token.declared.terminal.Terminal.{Terminal}
+use Rattle.law_edit_cuts.specs.sql_token.Depth.{opened, closed}
+use Rattle.law_edit_cuts.specs.sql_token.Terminal.{is_name}
+use Rattle.law_edit_cuts.specs.sql_tree.declared.kinds.ActionKind.TheVariants as a
+use Rattle.law_edit_cuts.specs.sql_tree.declared.kinds.StmtKind.TheVariants as stmt
+use Rattle.law_edit_cuts.specs.sql_tree.declared.nodes.Action.{Action}
+use Rattle.law_edit_cuts.specs.sql_tree.declared.nodes.Body.TheVariants as body
+use Rattle.law_edit_cuts.specs.sql_tree.Action.{action}
+use Rattle.law_edit_cuts.specs.sql_tree.Forms.{names_end}
+use Rattle.law_edit_cuts.specs.sql_tree.Statement.{form_of}
 use Rattle.law_edit_tokens.specs.Beside.{begins_punct_or_ends}
 use Rattle.law_edit_cuts.specs.Runs.{is_uncut}
 use Rattle.law_edit_inserts.specs.Concurrently.{key}

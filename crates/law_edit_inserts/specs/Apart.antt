@@ -1,8 +1,8 @@
 -- The numbers that a statement of a tree holds are those of its own tokens.
 use Rattle.std.specs.Prelude.{◌≡◌, ◌<◌, ℕ, suc, ◌+◌, ◌&&◌, nat_le, nat_lt, if◌then◌else◌, List, ◌∷◌, ◌++◌, map, length}
-use Rattle.sql_tree.specs.declared.nodes.Stmt.{Stmt}
-use Rattle.sql_tree.specs.Statement.{Tree, IsTree}
-use Rattle.law_renumber.specs.Moved.{stmt_moved}
+use Rattle.law_edit_cuts.specs.sql_tree.declared.nodes.Stmt.{Stmt}
+use Rattle.law_edit_cuts.specs.sql_tree.Statement.{Tree, IsTree}
+use Rattle.law_edit_cuts.specs.law_renumber.Moved.{stmt_moved}
 
 -- The numbers from lo to before hi stay, and all others change.
 abbrev pub outside : ℕ → ℕ → ℕ → ℕ

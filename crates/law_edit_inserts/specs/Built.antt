@@ -1,22 +1,22 @@
 -- The word CONCURRENTLY in a text: from the statement or the action that lacks it to the tree that has it.
 use Rattle.std.specs.Prelude.{◌≡◌, ◌<◌, ℕ, ◌+◌, ◌^◌, ◌==◌, Bool, false, if◌then◌else◌, List, ◌∷◌, ◌++◌, map, length, take, drop, Option, Some, None}
 use Rattle.std.specs.Option.{option_map}
-use Rattle.sql_keyword.specs.declared.words.TheConstants.Keyword as keyword
-use Rattle.sql_token.specs.declared.terminal.Terminal.{Terminal}
-use Rattle.sql_token.specs.declared.token.Span.{Span}
-use Rattle.sql_token.specs.Depth.{statements}
-use Rattle.sql_token.specs.Terminal.{terminals}
-use Rattle.sql_token.specs.Token.{Text}
-use Rattle.sql_tree.specs.declared.kinds.ActionKind.TheVariants as a
-use Rattle.sql_tree.specs.declared.kinds.StmtKind.TheVariants as stmt
-use Rattle.sql_tree.specs.declared.nodes.Action.{Action}
-use Rattle.sql_tree.specs.declared.nodes.Body.TheVariants as body
-use Rattle.sql_tree.specs.declared.nodes.ReindexTarget.{ReindexTarget}
-use Rattle.sql_tree.specs.declared.nodes.Stmt.{Stmt}
-use Rattle.sql_tree.specs.Range.{token_at}
-use Rattle.sql_tree.specs.Statement.{Tree, IsTree}
-use Rattle.law_renumber.specs.Moved.{span_moved, action_moved, stmt_moved}
-use Rattle.law_renumber.specs.Renumber.{renumber}
+use Rattle.law_edit_cuts.specs.sql_keyword.declared.words.TheConstants.Keyword as keyword
+use Rattle.law_edit_cuts.specs.sql_token.declared.terminal.Terminal.{Terminal}
+use Rattle.law_edit_cuts.specs.sql_token.declared.token.Span.{Span}
+use Rattle.law_edit_cuts.specs.sql_token.Depth.{statements}
+use Rattle.law_edit_cuts.specs.sql_token.Terminal.{terminals}
+use Rattle.law_edit_cuts.specs.sql_token.Token.{Text}
+use Rattle.law_edit_cuts.specs.sql_tree.declared.kinds.ActionKind.TheVariants as a
+use Rattle.law_edit_cuts.specs.sql_tree.declared.kinds.StmtKind.TheVariants as stmt
+use Rattle.law_edit_cuts.specs.sql_tree.declared.nodes.Action.{Action}
+use Rattle.law_edit_cuts.specs.sql_tree.declared.nodes.Body.TheVariants as body
+use Rattle.law_edit_cuts.specs.sql_tree.declared.nodes.ReindexTarget.{ReindexTarget}
+use Rattle.law_edit_cuts.specs.sql_tree.declared.nodes.Stmt.{Stmt}
+use Rattle.law_edit_cuts.specs.sql_tree.Range.{token_at}
+use Rattle.law_edit_cuts.specs.sql_tree.Statement.{Tree, IsTree}
+use Rattle.law_edit_cuts.specs.law_renumber.Moved.{span_moved, action_moved, stmt_moved}
+use Rattle.law_edit_cuts.specs.law_renumber.Renumber.{renumber}
 use Rattle.law_edit_tokens.specs.Exchange.{exchanged, made_text, made_toks, reread}
 use Rattle.law_edit_tokens.specs.Edits.{concurrently_made}
 use Rattle.law_edit_tokens.specs.Terminals.{moved_number}

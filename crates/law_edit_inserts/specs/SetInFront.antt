@@ -1,20 +1,20 @@
 -- A SET of a parameter before the first significant token of a text: one statement more, and nothing else.
 use Rattle.std.specs.Prelude.{◌≡◌, ◌<◌, ℕ, ◌+◌, ◌^◌, ◌==◌, true, false, List, [], ◌∷◌, ◌++◌, map, length, Some}
-use Rattle.sql_keyword.specs.declared.words.TheConstants.Keyword as keyword
-use Rattle.sql_token.specs.declared.terminal.Symbol.{Symbol}
-use Rattle.sql_token.specs.declared.terminal.Symbol.TheVariants as symbol
-use Rattle.sql_token.specs.declared.terminal.Terminal.{Terminal}
-use Rattle.sql_token.specs.declared.token.Tok.{Tok}
-use Rattle.sql_token.specs.declared.token.TokKind.TheVariants.{Word}
-use Rattle.sql_token.specs.Depth.{statements}
-use Rattle.sql_token.specs.Terminal.{is_significant, symbol_of, terminals}
-use Rattle.sql_token.specs.Token.{Text}
-use Rattle.sql_tree.specs.declared.kinds.StmtKind.TheVariants as stmt
-use Rattle.sql_tree.specs.declared.nodes.Body.TheVariants as body
-use Rattle.sql_tree.specs.declared.nodes.Stmt.{Stmt}
-use Rattle.sql_tree.specs.Statement.{Tree, IsTree}
-use Rattle.law_renumber.specs.Moved.{stmt_moved}
-use Rattle.law_renumber.specs.Renumber.{renumber}
+use Rattle.law_edit_cuts.specs.sql_keyword.declared.words.TheConstants.Keyword as keyword
+use Rattle.law_edit_cuts.specs.sql_token.declared.terminal.Symbol.{Symbol}
+use Rattle.law_edit_cuts.specs.sql_token.declared.terminal.Symbol.TheVariants as symbol
+use Rattle.law_edit_cuts.specs.sql_token.declared.terminal.Terminal.{Terminal}
+use Rattle.law_edit_cuts.specs.sql_token.declared.token.Tok.{Tok}
+use Rattle.law_edit_cuts.specs.sql_token.declared.token.TokKind.TheVariants.{Word}
+use Rattle.law_edit_cuts.specs.sql_token.Depth.{statements}
+use Rattle.law_edit_cuts.specs.sql_token.Terminal.{is_significant, symbol_of, terminals}
+use Rattle.law_edit_cuts.specs.sql_token.Token.{Text}
+use Rattle.law_edit_cuts.specs.sql_tree.declared.kinds.StmtKind.TheVariants as stmt
+use Rattle.law_edit_cuts.specs.sql_tree.declared.nodes.Body.TheVariants as body
+use Rattle.law_edit_cuts.specs.sql_tree.declared.nodes.Stmt.{Stmt}
+use Rattle.law_edit_cuts.specs.sql_tree.Statement.{Tree, IsTree}
+use Rattle.law_edit_cuts.specs.law_renumber.Moved.{stmt_moved}
+use Rattle.law_edit_cuts.specs.law_renumber.Renumber.{renumber}
 use Rattle.law_edit_tokens.specs.Exchange.{IsPlainWord, exchanged, made_text, made_toks, reread}
 use Rattle.law_edit_tokens.specs.Edits.{IsEnding, all_quiet, set_made}
 use Rattle.law_edit_tokens.specs.Terminals.{moved_number}

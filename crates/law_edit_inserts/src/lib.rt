@@ -3,3 +3,6 @@
 #![tactic(auto)]
 
 pub mod laws;
+
+// What crates above reach through this one.
+pub use law_edit_cuts::starts_ascend;

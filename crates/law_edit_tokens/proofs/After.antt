@@ -2,12 +2,12 @@
 use Rattle.std.proofs.Common.{◌≡◌, ℕ, ◌+◌, ◌-◌, ◌<◌, ◌≤◌, Bool, true, false, List, [], ◌∷◌, ◌++◌, map, length, take, drop, length-drop, length-append, sym, refl, ap, ◌∙◌, subst, arith}
 use Rattle.std.proofs.lemmas.List.{drop-drop, drop_at, take_at, length-take-le}
 use Rattle.std.specs.Prelude.{◌==◌, if◌then◌else◌}
-use Rattle.sql_token.specs.declared.token.Tok.{Tok}
-use Rattle.sql_token.specs.declared.token.TokKind.{TokKind}
-use Rattle.sql_token.specs.declared.token.TokKind.TheVariants.{Blank, LineComment, BlockComment, Word, Quoted, Str, UName, Dollar, Param, Number, Op, Punct, Other}
-use Rattle.sql_token.specs.Token.{Text, At, Leads, Lexed, kind_of, Takes, begins_byte_order_mark, IsRun}
-use Rattle.sql_token.proofs.Ahead.{Agree}
-use Rattle.sql_token.proofs.Reread.{at_rest}
+use Rattle.law_renumber.specs.sql_token.declared.token.Tok.{Tok}
+use Rattle.law_renumber.specs.sql_token.declared.token.TokKind.{TokKind}
+use Rattle.law_renumber.specs.sql_token.declared.token.TokKind.TheVariants.{Blank, LineComment, BlockComment, Word, Quoted, Str, UName, Dollar, Param, Number, Op, Punct, Other}
+use Rattle.law_renumber.specs.sql_token.Token.{Text, At, Leads, Lexed, kind_of, Takes, begins_byte_order_mark, IsRun}
+use Rattle.law_renumber.proofs.of_sql_token.Ahead.{Agree}
+use Rattle.law_renumber.proofs.of_sql_token.Reread.{at_rest}
 use Rattle.law_edit_tokens.specs.Exchange.{exchanged, tok_moved, FirstStays, Cut, reread, Rereads, RereadsAfterOne, FirstIsFree}
 use Rattle.law_edit_tokens.proofs.Same.{agree_take}
 use Rattle.law_edit_tokens.proofs.KindOf.{kind_unstarted}

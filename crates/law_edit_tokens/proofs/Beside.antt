@@ -4,18 +4,18 @@ use Rattle.std.proofs.lemmas.Bool.{false≢true, cases_lt}
 use Rattle.std.proofs.lemmas.Bool.Decides.{nat_tests}
 use Rattle.std.proofs.lemmas.List.{drop_all, get_or-drop}
 use Rattle.std.specs.Prelude.{◌==◌, ◌&&◌, ◌||◌, not}
-use Rattle.sql_keyword.specs.declared.words.Keyword.{Keyword}
-use Rattle.sql_keyword.specs.Find.{keyword_of}
-use Rattle.sql_token.specs.declared.token.Tok.{Tok}
-use Rattle.sql_token.specs.declared.token.TokKind.{TokKind}
-use Rattle.sql_token.specs.declared.token.TokKind.TheVariants.{Blank, LineComment, BlockComment, Word, Quoted, Number, Op, Punct}
-use Rattle.sql_token.specs.declared.terminal.Symbol.{Symbol}
-use Rattle.sql_token.specs.declared.terminal.Symbol.TheVariants as s
-use Rattle.sql_token.specs.declared.terminal.Terminal.{Terminal}
-use Rattle.sql_token.specs.Comment.{opens}
-use Rattle.sql_token.specs.Quote.{begins_dollar}
-use Rattle.sql_token.specs.Terminal.{symbol_of, word_symbol, is_significant, terminals_from, is_name, is_name_symbol, is_dot, is_dot_symbol}
-use Rattle.sql_token.specs.Token.{Text, At, Leads, text_of, kind_of, is_word, is_blank, is_punct, begins_blank, begins_line, begins_str, begins_unicode, begins_param, begins_number, begins_word, begins_op}
+use Rattle.law_renumber.specs.sql_keyword.declared.words.Keyword.{Keyword}
+use Rattle.law_renumber.specs.sql_keyword.Find.{keyword_of}
+use Rattle.law_renumber.specs.sql_token.declared.token.Tok.{Tok}
+use Rattle.law_renumber.specs.sql_token.declared.token.TokKind.{TokKind}
+use Rattle.law_renumber.specs.sql_token.declared.token.TokKind.TheVariants.{Blank, LineComment, BlockComment, Word, Quoted, Number, Op, Punct}
+use Rattle.law_renumber.specs.sql_token.declared.terminal.Symbol.{Symbol}
+use Rattle.law_renumber.specs.sql_token.declared.terminal.Symbol.TheVariants as s
+use Rattle.law_renumber.specs.sql_token.declared.terminal.Terminal.{Terminal}
+use Rattle.law_renumber.specs.sql_token.Comment.{opens}
+use Rattle.law_renumber.specs.sql_token.Quote.{begins_dollar}
+use Rattle.law_renumber.specs.sql_token.Terminal.{symbol_of, word_symbol, is_significant, terminals_from, is_name, is_name_symbol, is_dot, is_dot_symbol}
+use Rattle.law_renumber.specs.sql_token.Token.{Text, At, Leads, text_of, kind_of, is_word, is_blank, is_punct, begins_blank, begins_line, begins_str, begins_unicode, begins_param, begins_number, begins_word, begins_op}
 use Rattle.law_edit_tokens.specs.Beside.{is_punct_symbol, begins_punct_or_ends, NoWordAfter, ends_with_name, ends_with_name_or_dot, IsLetter, LetterFollows, LetterFollowsDot}
 use Rattle.law_edit_tokens.specs.Exchange.{LastKeeps, keeps_before}
 use Rattle.law_edit_tokens.specs.Terminals.{term_of}

@@ -5,13 +5,13 @@ use Rattle.std.proofs.lemmas.Bool.Decides.{nat_tests}
 use Rattle.std.proofs.lemmas.Grind.{common_steps}
 use Rattle.std.proofs.lemmas.List.{get_or-drop}
 use Rattle.std.specs.Prelude.{◌==◌, ◌&&◌, not, if◌then◌else◌, nat_le, nat_lt, codes}
-use Rattle.sql_token.specs.declared.token.Tok.{Tok}
-use Rattle.sql_token.specs.declared.token.TokKind.{TokKind}
-use Rattle.sql_token.specs.declared.token.TokKind.TheVariants.{Blank, LineComment, BlockComment, Word, Quoted, Str, UName, Dollar, Param, Number, Op, Punct, Other}
-use Rattle.sql_token.specs.Quote.{Items, quoted_item}
-use Rattle.sql_token.specs.Quote.Items.{none as no_items, more}
-use Rattle.sql_token.specs.Terminal.{is_significant}
-use Rattle.sql_token.specs.Token.{Text, At, Leads, begins_byte_order_mark, is_blank, is_word}
+use Rattle.law_renumber.specs.sql_token.declared.token.Tok.{Tok}
+use Rattle.law_renumber.specs.sql_token.declared.token.TokKind.{TokKind}
+use Rattle.law_renumber.specs.sql_token.declared.token.TokKind.TheVariants.{Blank, LineComment, BlockComment, Word, Quoted, Str, UName, Dollar, Param, Number, Op, Punct, Other}
+use Rattle.law_renumber.specs.sql_token.Quote.{Items, quoted_item}
+use Rattle.law_renumber.specs.sql_token.Quote.Items.{none as no_items, more}
+use Rattle.law_renumber.specs.sql_token.Terminal.{is_significant}
+use Rattle.law_renumber.specs.sql_token.Token.{Text, At, Leads, begins_byte_order_mark, is_blank, is_word}
 use Rattle.law_edit_tokens.specs.Exchange.{exchanged, made_text, LastKeeps, keeps_before, Fits, IsTokenBefore, IsPlainWord}
 use Rattle.law_edit_tokens.specs.Edits.{concurrently_made, ConcurrentlyRereads, WordRereads, set_made, IsEnding, all_quiet, SetRereads, WordEnds, LastOfList}
 use Rattle.law_edit_tokens.proofs.Same.{quoted_by, within_le}

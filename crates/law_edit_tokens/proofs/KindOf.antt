@@ -4,11 +4,11 @@ use Rattle.std.proofs.lemmas.Bool.{cases_Bool, and_parts}
 use Rattle.std.proofs.lemmas.Bool.Decides.{nat_tests}
 use Rattle.std.specs.Prelude.{◌==◌, ◌&&◌, ◌||◌, not, if◌then◌else◌}
 use Rattle.std.specs.Char.{is_ascii_digit}
-use Rattle.sql_token.specs.declared.token.TokKind.{TokKind}
-use Rattle.sql_token.specs.declared.token.TokKind.TheVariants.{Blank, LineComment, BlockComment, Word, Quoted, Str, UName, Dollar, Param, Number, Op, Punct, Other}
-use Rattle.sql_token.specs.Comment.{opens}
-use Rattle.sql_token.specs.Quote.{begins_dollar, delimiter_len}
-use Rattle.sql_token.specs.Token.{Text, is_blank, is_op, is_prefix, is_punct, begins_byte_order_mark, begins_blank, begins_line, begins_word, begins_str, begins_unicode, begins_param, begins_number, begins_op, begins_comment, kind_of}
+use Rattle.law_renumber.specs.sql_token.declared.token.TokKind.{TokKind}
+use Rattle.law_renumber.specs.sql_token.declared.token.TokKind.TheVariants.{Blank, LineComment, BlockComment, Word, Quoted, Str, UName, Dollar, Param, Number, Op, Punct, Other}
+use Rattle.law_renumber.specs.sql_token.Comment.{opens}
+use Rattle.law_renumber.specs.sql_token.Quote.{begins_dollar, delimiter_len}
+use Rattle.law_renumber.specs.sql_token.Token.{Text, is_blank, is_op, is_prefix, is_punct, begins_byte_order_mark, begins_blank, begins_line, begins_word, begins_str, begins_unicode, begins_param, begins_number, begins_op, begins_comment, kind_of}
 
 -- What a list of tests in order gives.
 abbrev pub kind_by : (a b c d e f g h i j l m : Bool) → TokKind

@@ -5,13 +5,13 @@ use Rattle.std.proofs.lemmas.Bool.Decides.{nat_tests}
 use Rattle.std.proofs.lemmas.List.{get_or-drop}
 use Rattle.std.specs.Prelude.{◌==◌, ◌&&◌, not, if◌then◌else◌, nat_le, nat_lt}
 use Rattle.std.specs.Char.{is_ascii_digit}
-use Rattle.sql_token.specs.declared.token.Tok.{Tok}
-use Rattle.sql_token.specs.declared.token.TokKind.{TokKind}
-use Rattle.sql_token.specs.declared.token.TokKind.TheVariants.{Blank, LineComment, BlockComment, Word, Quoted, Str, UName, Dollar, Param, Number, Op, Punct, Other}
-use Rattle.sql_token.specs.Comment.{opens, Comment, comment}
-use Rattle.sql_token.specs.Quote.{IsQuoted, quoted_item, begins_dollar, delimiter_len}
-use Rattle.sql_token.specs.Token.{Text, At, Leads, kind_of, Takes, begins_byte_order_mark, begins_word, is_blank, is_word, is_punct, IsRun, blank_from}
-use Rattle.sql_token.proofs.Ahead.{Agree}
+use Rattle.law_renumber.specs.sql_token.declared.token.Tok.{Tok}
+use Rattle.law_renumber.specs.sql_token.declared.token.TokKind.{TokKind}
+use Rattle.law_renumber.specs.sql_token.declared.token.TokKind.TheVariants.{Blank, LineComment, BlockComment, Word, Quoted, Str, UName, Dollar, Param, Number, Op, Punct, Other}
+use Rattle.law_renumber.specs.sql_token.Comment.{opens, Comment, comment}
+use Rattle.law_renumber.specs.sql_token.Quote.{IsQuoted, quoted_item, begins_dollar, delimiter_len}
+use Rattle.law_renumber.specs.sql_token.Token.{Text, At, Leads, kind_of, Takes, begins_byte_order_mark, begins_word, is_blank, is_word, is_punct, IsRun, blank_from}
+use Rattle.law_renumber.proofs.of_sql_token.Ahead.{Agree}
 use Rattle.law_edit_tokens.specs.Exchange.{exchanged, made_text, made_toks, keeps_before, LastKeeps, LastStays, MadeRereads}
 use Rattle.law_edit_tokens.proofs.Same.{agree_drop, comment_same, comment_grows, quoted_by, quoted_item_same, items_same}
 use Rattle.law_edit_tokens.proofs.KindOf.{kind_same, mark_same, unicode_same, word_kind_is, word_begun, quoted_begun, punct_begun, blank_begun, quoted_kind, punct_kind}

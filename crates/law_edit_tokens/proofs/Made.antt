@@ -5,10 +5,10 @@ use Rattle.std.proofs.lemmas.Bool.Decides.{nat_tests}
 use Rattle.std.proofs.lemmas.List.{drop-drop, drop_at, get_or_append_left, get_or-append-add}
 use Rattle.std.specs.Prelude.{◌==◌, ◌&&◌, ◌||◌, if◌then◌else◌}
 use Rattle.std.specs.List.{list_all}
-use Rattle.sql_token.specs.declared.token.TokKind.{TokKind}
-use Rattle.sql_token.specs.declared.token.TokKind.TheVariants.{Blank, Word, Str, UName}
-use Rattle.sql_token.specs.Token.{Text, At, Leads, begins_byte_order_mark, begins_word, is_blank, is_word, is_prefix, IsRun, blank_from}
-use Rattle.sql_token.proofs.TokenLaws.{at_place}
+use Rattle.law_renumber.specs.sql_token.declared.token.TokKind.{TokKind}
+use Rattle.law_renumber.specs.sql_token.declared.token.TokKind.TheVariants.{Blank, Word, Str, UName}
+use Rattle.law_renumber.specs.sql_token.Token.{Text, At, Leads, begins_byte_order_mark, begins_word, is_blank, is_word, is_prefix, IsRun, blank_from}
+use Rattle.law_renumber.proofs.of_sql_token.TokenLaws.{at_place}
 use Rattle.law_edit_tokens.specs.Exchange.{Made, made_text, made_toks, IsTokenBefore, Fits, IsPlainWord}
 use Rattle.law_edit_tokens.proofs.KindOf.{word_kind_is}
 use Rattle.law_edit_tokens.proofs.Prefix.{not_first}

@@ -4,11 +4,11 @@ use Rattle.std.proofs.lemmas.Bool.{cases_lt, cases_Bool, false≢true}
 use Rattle.std.proofs.lemmas.Bool.Decides.{nat_tests}
 use Rattle.std.specs.Prelude.{◌==◌, ◌&&◌, ◌||◌, not, if◌then◌else◌}
 use Rattle.std.specs.Char.{is_ascii_digit}
-use Rattle.sql_token.specs.declared.token.TokKind.{TokKind}
-use Rattle.sql_token.specs.declared.token.TokKind.TheVariants.{Blank, LineComment, BlockComment, Word, Quoted, Str, UName, Dollar, Param, Number, Op, Punct, Other}
-use Rattle.sql_token.specs.Quote.{IsQuoted, begins_dollar}
-use Rattle.sql_token.specs.Token.{Text, runs_over, is_blank, is_word, is_op, is_in_number, is_prefix, is_e, begins_byte_order_mark, begins_str, begins_unicode, begins_word, begins_comment, goes_on, kind_of, blank_from, str_body, IsRun, Takes}
-use Rattle.sql_token.proofs.Ahead.{Agree}
+use Rattle.law_renumber.specs.sql_token.declared.token.TokKind.{TokKind}
+use Rattle.law_renumber.specs.sql_token.declared.token.TokKind.TheVariants.{Blank, LineComment, BlockComment, Word, Quoted, Str, UName, Dollar, Param, Number, Op, Punct, Other}
+use Rattle.law_renumber.specs.sql_token.Quote.{IsQuoted, begins_dollar}
+use Rattle.law_renumber.specs.sql_token.Token.{Text, runs_over, is_blank, is_word, is_op, is_in_number, is_prefix, is_e, begins_byte_order_mark, begins_str, begins_unicode, begins_word, begins_comment, goes_on, kind_of, blank_from, str_body, IsRun, Takes}
+use Rattle.law_renumber.proofs.of_sql_token.Ahead.{Agree}
 use Rattle.law_edit_tokens.proofs.Same.{comment_same, quoted_same, dollar_same}
 use Rattle.law_edit_tokens.proofs.KindOf.{word_kind_is, kind_same, mark_same, unicode_same, no_amp}
 

@@ -7,9 +7,9 @@ use Rattle.std.proofs.lemmas.List.{get_or-drop, get_or-take, length-take-le, get
 use Rattle.std.proofs.lemmas.List.Sums.{prefix_len_passes, prefix_len_stops, suffix_len_is, suffix_len-le-length}
 use Rattle.std.specs.Prelude.{◌&&◌, not, if◌then◌else◌, reverse}
 use Rattle.std.specs.List.{suffix_len, list_any}
-use Rattle.sql_token.specs.declared.token.TokKind.TheVariants.{Op}
-use Rattle.sql_token.specs.Token.{Text, runs_over, is_op, is_sign, is_special, begins_op, begins_comment, IsOp, op_len}
-use Rattle.sql_token.proofs.Ahead.{Agree}
+use Rattle.law_renumber.specs.sql_token.declared.token.TokKind.TheVariants.{Op}
+use Rattle.law_renumber.specs.sql_token.Token.{Text, runs_over, is_op, is_sign, is_special, begins_op, begins_comment, IsOp, op_len}
+use Rattle.law_renumber.proofs.of_sql_token.Ahead.{Agree}
 use Rattle.law_edit_tokens.proofs.Same.{take_same}
 
 -- ---- lists of bytes

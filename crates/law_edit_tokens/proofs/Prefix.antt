@@ -8,12 +8,12 @@ use Rattle.std.proofs.lemmas.List.Sums.{prefix_len_is, prefix_len_passes, prefix
 use Rattle.std.specs.Prelude.{◌==◌, ◌&&◌, ◌||◌, not, if◌then◌else◌}
 use Rattle.std.specs.List.{prefix_len}
 use Rattle.std.specs.Char.{is_ascii_digit}
-use Rattle.sql_token.specs.declared.token.Tok.{Tok}
-use Rattle.sql_token.specs.declared.token.TokKind.{TokKind}
-use Rattle.sql_token.specs.declared.token.TokKind.TheVariants.{Blank, LineComment, BlockComment, Word, Quoted, Str, UName, Dollar, Param, Number, Op, Punct, Other}
-use Rattle.sql_token.specs.Quote.{IsQuoted, IsDollar, begins_dollar, delimiter_len, is_tag, quoted_item}
-use Rattle.sql_token.specs.Token.{Text, runs_over, is_word, is_op, is_e, is_prefix, begins_str, begins_unicode, begins_word, begins_op, kind_of, str_body, IsRun, IsOp, Takes, At, Leads}
-use Rattle.sql_token.proofs.Ahead.{Agree}
+use Rattle.law_renumber.specs.sql_token.declared.token.Tok.{Tok}
+use Rattle.law_renumber.specs.sql_token.declared.token.TokKind.{TokKind}
+use Rattle.law_renumber.specs.sql_token.declared.token.TokKind.TheVariants.{Blank, LineComment, BlockComment, Word, Quoted, Str, UName, Dollar, Param, Number, Op, Punct, Other}
+use Rattle.law_renumber.specs.sql_token.Quote.{IsQuoted, IsDollar, begins_dollar, delimiter_len, is_tag, quoted_item}
+use Rattle.law_renumber.specs.sql_token.Token.{Text, runs_over, is_word, is_op, is_e, is_prefix, begins_str, begins_unicode, begins_word, begins_op, kind_of, str_body, IsRun, IsOp, Takes, At, Leads}
+use Rattle.law_renumber.proofs.of_sql_token.Ahead.{Agree}
 use Rattle.law_edit_tokens.specs.Exchange.{LastTwoStay, LastStays}
 use Rattle.law_edit_tokens.proofs.Same.{agree_drop, agree_sym, dollar_begins_same, items_grow, comment_grows}
 use Rattle.law_edit_tokens.proofs.KindOf.{op_begun, op_kind_is, comment_kind_is, word_kind_is, dollar_kind}

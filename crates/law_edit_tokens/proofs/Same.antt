@@ -7,11 +7,11 @@ use Rattle.std.specs.Prelude.{◌==◌, ◌&&◌, ◌||◌, not, nat_eq, nat_le,
 use Rattle.std.specs.List.{starts_with, prefix_len}
 use lib.Pointwise.{pointwise}
 use Rattle.std.specs.Char.{is_ascii_digit}
-use Rattle.sql_token.specs.Comment.{opens, closes, Comment, comment, Inside, none, byte, nested}
-use Rattle.sql_token.specs.Quote.{Items, quoted_item, IsQuoted, is_tag, delimiter_len, begins_dollar, dollar_item, IsDollar}
-use Rattle.sql_token.specs.Quote.Items.{none as no_items, more}
-use Rattle.sql_token.specs.Token.{Text}
-use Rattle.sql_token.proofs.Ahead.{Agree}
+use Rattle.law_renumber.specs.sql_token.Comment.{opens, closes, Comment, comment, Inside, none, byte, nested}
+use Rattle.law_renumber.specs.sql_token.Quote.{Items, quoted_item, IsQuoted, is_tag, delimiter_len, begins_dollar, dollar_item, IsDollar}
+use Rattle.law_renumber.specs.sql_token.Quote.Items.{none as no_items, more}
+use Rattle.law_renumber.specs.sql_token.Token.{Text}
+use Rattle.law_renumber.proofs.of_sql_token.Ahead.{Agree}
 
 -- ---- the same bytes
 

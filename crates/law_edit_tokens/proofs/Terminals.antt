@@ -4,11 +4,11 @@ use Rattle.std.proofs.lemmas.Bool.{and_parts, not-true}
 use Rattle.std.proofs.lemmas.Bool.Decides.{nat_tests}
 use Rattle.std.proofs.lemmas.List.{drop-drop, drop_at, take_at}
 use Rattle.std.specs.Prelude.{not}
-use Rattle.sql_token.specs.declared.token.Tok.{Tok}
-use Rattle.sql_token.specs.declared.terminal.Terminal.{Terminal}
-use Rattle.sql_token.specs.Token.{Text, Leads, text_of}
-use Rattle.sql_token.specs.Terminal.{terminals, terminals_from, is_significant, symbol_of}
-use Rattle.sql_token.proofs.Ahead.{Agree}
+use Rattle.law_renumber.specs.sql_token.declared.token.Tok.{Tok}
+use Rattle.law_renumber.specs.sql_token.declared.terminal.Terminal.{Terminal}
+use Rattle.law_renumber.specs.sql_token.Token.{Text, Leads, text_of}
+use Rattle.law_renumber.specs.sql_token.Terminal.{terminals, terminals_from, is_significant, symbol_of}
+use Rattle.law_renumber.proofs.of_sql_token.Ahead.{Agree}
 use Rattle.law_renumber.specs.Renumber.{renumber}
 use Rattle.law_edit_tokens.specs.Exchange.{exchanged, tok_moved, Made, made_text, made_toks}
 use Rattle.law_edit_tokens.specs.Edits.{all_quiet}

@@ -1,11 +1,11 @@
 -- What is beside a token.
 use Rattle.std.specs.Prelude.{◌≡◌, ℕ, ◌+◌, ◌-◌, ◌==◌, ◌||◌, Bool, true, false, List, [], ◌∷◌, ◌++◌, drop, length, slice_index}
-use Rattle.sql_token.specs.declared.token.Tok.{Tok}
-use Rattle.sql_token.specs.declared.terminal.Symbol.{Symbol}
-use Rattle.sql_token.specs.declared.terminal.Symbol.TheVariants as s
-use Rattle.sql_token.specs.declared.terminal.Terminal.{Terminal}
-use Rattle.sql_token.specs.Token.{Text, Lexed, is_word, is_blank}
-use Rattle.sql_token.specs.Terminal.{terminals_from, is_significant, is_name, is_dot}
+use Rattle.law_renumber.specs.sql_token.declared.token.Tok.{Tok}
+use Rattle.law_renumber.specs.sql_token.declared.terminal.Symbol.{Symbol}
+use Rattle.law_renumber.specs.sql_token.declared.terminal.Symbol.TheVariants as s
+use Rattle.law_renumber.specs.sql_token.declared.terminal.Terminal.{Terminal}
+use Rattle.law_renumber.specs.sql_token.Token.{Text, Lexed, is_word, is_blank}
+use Rattle.law_renumber.specs.sql_token.Terminal.{terminals_from, is_significant, is_name, is_dot}
 use Rattle.std.specs.Char.{is_ascii_digit}
 use Rattle.law_edit_tokens.specs.Exchange.{LastKeeps}
 

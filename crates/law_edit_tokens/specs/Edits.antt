@@ -1,10 +1,10 @@
 -- The edits of fixes, as new tokens: the word CONCURRENTLY, another type, a timeout in front.
 use Rattle.std.specs.Prelude.{◌≡◌, ◌<◌, ℕ, ◌+◌, Bool, true, false, not, ◌==◌, List, [], ◌∷◌, ◌++◌, drop, length, slice_index, codes}
 use Rattle.std.specs.List.{list_all}
-use Rattle.sql_token.specs.declared.token.Tok.{Tok}
-use Rattle.sql_token.specs.declared.token.TokKind.TheVariants.{Blank, Word, Op, Str, Punct}
-use Rattle.sql_token.specs.Terminal.{is_significant}
-use Rattle.sql_token.specs.Token.{Text, Lexed, At, is_word, is_blank}
+use Rattle.law_renumber.specs.sql_token.declared.token.Tok.{Tok}
+use Rattle.law_renumber.specs.sql_token.declared.token.TokKind.TheVariants.{Blank, Word, Op, Str, Punct}
+use Rattle.law_renumber.specs.sql_token.Terminal.{is_significant}
+use Rattle.law_renumber.specs.sql_token.Token.{Text, Lexed, At, is_word, is_blank}
 use Rattle.law_edit_tokens.specs.Exchange.{exchanged, Made, made_text, made_toks, reread, Cut, keeps_before, LastKeeps, IsPlainWord}
 
 -- ` concurrently`

@@ -1,11 +1,11 @@
 -- What stays of a text's tokens where a run of whole tokens is exchanged for new ones.
 use Rattle.std.specs.Prelude.{◌≡◌, ◌<◌, ◌≤◌, ℕ, ◌+◌, ◌-◌, Bool, true, false, List, [], ◌∷◌, ◌++◌, map, take, drop, length, slice_index, ◌==◌, ◌&&◌, not}
 use Rattle.std.specs.List.{flat_map, list_all}
-use Rattle.sql_token.specs.declared.token.Tok.{Tok}
-use Rattle.sql_token.specs.declared.token.TokKind.{TokKind}
-use Rattle.sql_token.specs.declared.token.TokKind.TheVariants.{Op, Blank, BlockComment, Word, Quoted, Punct}
+use Rattle.law_renumber.specs.sql_token.declared.token.Tok.{Tok}
+use Rattle.law_renumber.specs.sql_token.declared.token.TokKind.{TokKind}
+use Rattle.law_renumber.specs.sql_token.declared.token.TokKind.TheVariants.{Op, Blank, BlockComment, Word, Quoted, Punct}
 use Rattle.std.specs.Char.{is_ascii_digit}
-use Rattle.sql_token.specs.Token.{Text, At, Leads, Lexed, kind_of, Takes, is_word, is_blank, begins_word}
+use Rattle.law_renumber.specs.sql_token.Token.{Text, At, Leads, Lexed, kind_of, Takes, is_word, is_blank, begins_word}
 
 -- The text with w in place of its bytes from a to before b.
 abbrev pub exchanged : Text → ℕ → ℕ → Text → Text

@@ -1,9 +1,9 @@
 -- The terminals of a text in which a run of tokens was exchanged.
 use Rattle.std.specs.Prelude.{◌≡◌, ℕ, ◌+◌, ◌-◌, nat_lt, if◌then◌else◌, List, [], ◌∷◌, ◌++◌, map, length}
-use Rattle.sql_token.specs.declared.token.Tok.{Tok}
-use Rattle.sql_token.specs.declared.terminal.Terminal.{Terminal}
-use Rattle.sql_token.specs.Token.{Text, text_of}
-use Rattle.sql_token.specs.Terminal.{symbol_of, is_significant, terminals, terminals_from}
+use Rattle.law_renumber.specs.sql_token.declared.token.Tok.{Tok}
+use Rattle.law_renumber.specs.sql_token.declared.terminal.Terminal.{Terminal}
+use Rattle.law_renumber.specs.sql_token.Token.{Text, text_of}
+use Rattle.law_renumber.specs.sql_token.Terminal.{symbol_of, is_significant, terminals, terminals_from}
 use Rattle.law_renumber.specs.Renumber.{renumber}
 use Rattle.law_edit_tokens.specs.Exchange.{Made, exchanged, Cut, reread}
 

@@ -3,31 +3,31 @@ use Rattle.std.proofs.Common.{◌≡◌, ◌≤◌, ◌<◌, ◌⊎◌, inl, inr
 use Rattle.std.proofs.lemmas.List.{map-append, append_cancel_left}
 use Rattle.std.specs.List.{list_all}
 use Rattle.std.specs.Option.{option_map, option_and_then}
-use Rattle.sql_keyword.specs.Same.{same_keyword}
-use Rattle.sql_token.specs.declared.token.Span.{Span}
-use Rattle.sql_token.specs.declared.token.TokKind.TheVariants.{Word}
-use Rattle.sql_token.specs.declared.terminal.Symbol.{Symbol}
-use Rattle.sql_token.specs.declared.terminal.Terminal.{Terminal}
-use Rattle.sql_token.specs.Token.{Text}
-use Rattle.sql_token.specs.Terminal.{symbol_of, is_keyword, is_opener, is_closer, is_semicolon, is_unicode_name}
-use Rattle.sql_token.specs.Depth.{span_of, nothing, opened, closed}
-use Rattle.sql_token.specs.Sound.{is_sound, begins_atomic}
-use Rattle.sql_tree.specs.declared.kinds.StmtKind.{StmtKind}
-use Rattle.sql_tree.specs.declared.kinds.StmtKind.TheVariants as stmt
-use Rattle.sql_tree.specs.declared.nodes.Action.{Action}
-use Rattle.sql_tree.specs.declared.nodes.Body.{Body}
-use Rattle.sql_tree.specs.declared.nodes.Body.TheVariants as body
-use Rattle.sql_tree.specs.declared.nodes.ColType.{ColType}
-use Rattle.sql_tree.specs.declared.nodes.Stmt.{Stmt}
-use Rattle.sql_tree.specs.Action.{action}
-use Rattle.sql_tree.specs.Statement.{Tree, statement, form_of, without_semicolon, last_of, stmt_in}
-use Rattle.law_renumber.specs.Moved.{stmt_moved, action_moved, span_moved}
-use Rattle.law_renumber.specs.Renumber.{renumber}
-use Rattle.law_renumber.proofs.Statements.{statement_renumbers}
-use Rattle.law_edit_tokens.specs.Beside.{ends_with_name}
-use Rattle.law_edit_tokens.proofs.Beside.{name_or_dot}
-use Rattle.law_edit_cuts.specs.Runs.{begins_no_body, deepest}
-use Rattle.law_edit_cuts.proofs.Sound.{sound_is_closed, soundness_stays}
+use Rattle.law_edit_inserts.specs.sql_keyword.Same.{same_keyword}
+use Rattle.law_edit_inserts.specs.sql_token.declared.token.Span.{Span}
+use Rattle.law_edit_inserts.specs.sql_token.declared.token.TokKind.TheVariants.{Word}
+use Rattle.law_edit_inserts.specs.sql_token.declared.terminal.Symbol.{Symbol}
+use Rattle.law_edit_inserts.specs.sql_token.declared.terminal.Terminal.{Terminal}
+use Rattle.law_edit_inserts.specs.sql_token.Token.{Text}
+use Rattle.law_edit_inserts.specs.sql_token.Terminal.{symbol_of, is_keyword, is_opener, is_closer, is_semicolon, is_unicode_name}
+use Rattle.law_edit_inserts.specs.sql_token.Depth.{span_of, nothing, opened, closed}
+use Rattle.law_edit_inserts.specs.sql_token.Sound.{is_sound, begins_atomic}
+use Rattle.law_edit_inserts.specs.sql_tree.declared.kinds.StmtKind.{StmtKind}
+use Rattle.law_edit_inserts.specs.sql_tree.declared.kinds.StmtKind.TheVariants as stmt
+use Rattle.law_edit_inserts.specs.sql_tree.declared.nodes.Action.{Action}
+use Rattle.law_edit_inserts.specs.sql_tree.declared.nodes.Body.{Body}
+use Rattle.law_edit_inserts.specs.sql_tree.declared.nodes.Body.TheVariants as body
+use Rattle.law_edit_inserts.specs.sql_tree.declared.nodes.ColType.{ColType}
+use Rattle.law_edit_inserts.specs.sql_tree.declared.nodes.Stmt.{Stmt}
+use Rattle.law_edit_inserts.specs.sql_tree.Action.{action}
+use Rattle.law_edit_inserts.specs.sql_tree.Statement.{Tree, statement, form_of, without_semicolon, last_of, stmt_in}
+use Rattle.law_edit_inserts.specs.law_renumber.Moved.{stmt_moved, action_moved, span_moved}
+use Rattle.law_edit_inserts.specs.law_renumber.Renumber.{renumber}
+use Rattle.law_edit_inserts.proofs.of_law_renumber.Statements.{statement_renumbers}
+use Rattle.law_edit_inserts.specs.law_edit_tokens.Beside.{ends_with_name}
+use Rattle.law_edit_inserts.proofs.of_law_edit_tokens.Beside.{name_or_dot}
+use Rattle.law_edit_inserts.specs.law_edit_cuts.Runs.{begins_no_body, deepest}
+use Rattle.law_edit_inserts.proofs.of_law_edit_cuts.Sound.{sound_is_closed, soundness_stays}
 use Rattle.law_edit_inserts.proofs.ActionPlaces.{action_shows}
 use Rattle.law_edit_inserts.proofs.Fields.{ended}
 use Rattle.law_edit_inserts.proofs.TakenConcurrently.{bare_after, parts_of}

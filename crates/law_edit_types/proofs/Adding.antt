@@ -4,31 +4,31 @@ use Rattle.std.proofs.lemmas.Bool.{false≢true}
 use Rattle.std.specs.Prelude.{◌&&◌}
 use Rattle.std.specs.List.{list_all}
 use Rattle.std.specs.Option.{option_and_then}
-use Rattle.sql_keyword.specs.declared.words.Keyword.{Keyword}
-use Rattle.sql_keyword.specs.declared.words.Keyword.TheVariants as k
-use Rattle.sql_keyword.specs.declared.words.Verb.TheVariants as verbs
-use Rattle.sql_keyword.specs.declared.words.Object.TheVariants as objects
-use Rattle.sql_keyword.specs.declared.words.Other.TheVariants as others
-use Rattle.sql_keyword.specs.declared.words.TheConstants.Keyword as keyword
-use Rattle.sql_keyword.specs.Same.{same_keyword}
-use Rattle.sql_token.specs.declared.terminal.Symbol.{Symbol}
-use Rattle.sql_token.specs.declared.terminal.Symbol.TheVariants as s
-use Rattle.sql_token.specs.declared.terminal.Terminal.{Terminal}
-use Rattle.sql_token.specs.Terminal.{is_keyword, is_keyword_symbol, is_name, is_name_symbol}
-use Rattle.sql_tree.specs.declared.kinds.ActionKind.{ActionKind}
-use Rattle.sql_tree.specs.declared.kinds.ActionKind.TheVariants as a
-use Rattle.sql_tree.specs.declared.kinds.StmtKind.TheVariants as stmt
-use Rattle.sql_tree.specs.declared.forms.Captures.{Captures}
-use Rattle.sql_tree.specs.declared.forms.Fact.TheVariants as m
-use Rattle.sql_tree.specs.declared.forms.Phrase.TheVariants as phrase
-use Rattle.sql_tree.specs.declared.nodes.Action.{Action}
-use Rattle.sql_tree.specs.declared.nodes.Column.{Column}
-use Rattle.sql_tree.specs.declared.nodes.Constraint.{Constraint}
-use Rattle.sql_tree.specs.Forms.{State, at, one, or_here, word_kept, guard, record_fact, take_phrase, words_of, after_word, either_of, fresh, opened, some_left, take_part, all_taken}
-use Rattle.sql_tree.specs.ActionRows.{first_rows, first_rows_at, own_rows, general_rows, general_rows_at}
-use Rattle.sql_tree.specs.Constraint.{table_constraint, constraint_name, constraint_kind, after_exclude, two_word_kind, after_two}
-use Rattle.sql_tree.specs.Column.{column}
-use Rattle.sql_tree.specs.Action.{adding, add_constraint, takes_constraint, added_constraint, column_in, pieces_in, action_in, built, by_rows, own_part, own_action, general_action, listed_action, unlisted_action, action}
+use Rattle.law_edit_inserts.specs.sql_keyword.declared.words.Keyword.{Keyword}
+use Rattle.law_edit_inserts.specs.sql_keyword.declared.words.Keyword.TheVariants as k
+use Rattle.law_edit_inserts.specs.sql_keyword.declared.words.Verb.TheVariants as verbs
+use Rattle.law_edit_inserts.specs.sql_keyword.declared.words.Object.TheVariants as objects
+use Rattle.law_edit_inserts.specs.sql_keyword.declared.words.Other.TheVariants as others
+use Rattle.law_edit_inserts.specs.sql_keyword.declared.words.TheConstants.Keyword as keyword
+use Rattle.law_edit_inserts.specs.sql_keyword.Same.{same_keyword}
+use Rattle.law_edit_inserts.specs.sql_token.declared.terminal.Symbol.{Symbol}
+use Rattle.law_edit_inserts.specs.sql_token.declared.terminal.Symbol.TheVariants as s
+use Rattle.law_edit_inserts.specs.sql_token.declared.terminal.Terminal.{Terminal}
+use Rattle.law_edit_inserts.specs.sql_token.Terminal.{is_keyword, is_keyword_symbol, is_name, is_name_symbol}
+use Rattle.law_edit_inserts.specs.sql_tree.declared.kinds.ActionKind.{ActionKind}
+use Rattle.law_edit_inserts.specs.sql_tree.declared.kinds.ActionKind.TheVariants as a
+use Rattle.law_edit_inserts.specs.sql_tree.declared.kinds.StmtKind.TheVariants as stmt
+use Rattle.law_edit_inserts.specs.sql_tree.declared.forms.Captures.{Captures}
+use Rattle.law_edit_inserts.specs.sql_tree.declared.forms.Fact.TheVariants as m
+use Rattle.law_edit_inserts.specs.sql_tree.declared.forms.Phrase.TheVariants as phrase
+use Rattle.law_edit_inserts.specs.sql_tree.declared.nodes.Action.{Action}
+use Rattle.law_edit_inserts.specs.sql_tree.declared.nodes.Column.{Column}
+use Rattle.law_edit_inserts.specs.sql_tree.declared.nodes.Constraint.{Constraint}
+use Rattle.law_edit_inserts.specs.sql_tree.Forms.{State, at, one, or_here, word_kept, guard, record_fact, take_phrase, words_of, after_word, either_of, fresh, opened, some_left, take_part, all_taken}
+use Rattle.law_edit_inserts.specs.sql_tree.ActionRows.{first_rows, first_rows_at, own_rows, general_rows, general_rows_at}
+use Rattle.law_edit_inserts.specs.sql_tree.Constraint.{table_constraint, constraint_name, constraint_kind, after_exclude, two_word_kind, after_two}
+use Rattle.law_edit_inserts.specs.sql_tree.Column.{column}
+use Rattle.law_edit_inserts.specs.sql_tree.Action.{adding, add_constraint, takes_constraint, added_constraint, column_in, pieces_in, action_in, built, by_rows, own_part, own_action, general_action, listed_action, unlisted_action, action}
 use Rattle.law_edit_inserts.specs.Concurrently.{key}
 use Rattle.law_edit_inserts.proofs.Leading.{Given, given_any}
 use Rattle.law_edit_types.proofs.Phrases.{phrase_by, phrase_is, second_none}

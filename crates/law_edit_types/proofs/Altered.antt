@@ -4,24 +4,24 @@ use Rattle.std.proofs.lemmas.Bool.{false≢true, and_from}
 use Rattle.std.specs.Prelude.{◌&&◌}
 use Rattle.std.specs.List.{list_all}
 use Rattle.std.specs.Option.{option_map}
-use Rattle.sql_keyword.specs.declared.words.TheConstants.Keyword as keyword
-use Rattle.sql_token.specs.declared.terminal.Symbol.{Symbol}
-use Rattle.sql_token.specs.declared.terminal.Terminal.{Terminal}
-use Rattle.sql_token.specs.Terminal.{is_keyword_symbol, is_name}
-use Rattle.sql_token.specs.Depth.{span_of, nothing}
-use Rattle.sql_tree.specs.declared.forms.Captures.{Captures}
-use Rattle.sql_tree.specs.declared.kinds.ActionKind.TheVariants as a
-use Rattle.sql_tree.specs.declared.kinds.PieceKind.TheVariants as piece
-use Rattle.sql_tree.specs.declared.kinds.StmtKind.TheVariants as stmt
-use Rattle.sql_tree.specs.declared.nodes.Action.{Action}
-use Rattle.sql_tree.specs.declared.nodes.ColType.{ColType}
-use Rattle.sql_tree.specs.declared.nodes.Piece.{Piece}
-use Rattle.sql_tree.specs.ActionPieces.{type_in, is_always, piece_in, column_option}
-use Rattle.sql_tree.specs.ColumnType.{type_len, column_type}
-use Rattle.sql_tree.specs.Forms.{opened}
-use Rattle.sql_tree.specs.Action.{action, action_in, unlisted_action}
-use Rattle.sql_tree.specs.Statement.{Tree, last_of}
-use Rattle.law_renumber.specs.Moved.{action_moved, piece_moved, type_moved}
+use Rattle.law_edit_inserts.specs.sql_keyword.declared.words.TheConstants.Keyword as keyword
+use Rattle.law_edit_inserts.specs.sql_token.declared.terminal.Symbol.{Symbol}
+use Rattle.law_edit_inserts.specs.sql_token.declared.terminal.Terminal.{Terminal}
+use Rattle.law_edit_inserts.specs.sql_token.Terminal.{is_keyword_symbol, is_name}
+use Rattle.law_edit_inserts.specs.sql_token.Depth.{span_of, nothing}
+use Rattle.law_edit_inserts.specs.sql_tree.declared.forms.Captures.{Captures}
+use Rattle.law_edit_inserts.specs.sql_tree.declared.kinds.ActionKind.TheVariants as a
+use Rattle.law_edit_inserts.specs.sql_tree.declared.kinds.PieceKind.TheVariants as piece
+use Rattle.law_edit_inserts.specs.sql_tree.declared.kinds.StmtKind.TheVariants as stmt
+use Rattle.law_edit_inserts.specs.sql_tree.declared.nodes.Action.{Action}
+use Rattle.law_edit_inserts.specs.sql_tree.declared.nodes.ColType.{ColType}
+use Rattle.law_edit_inserts.specs.sql_tree.declared.nodes.Piece.{Piece}
+use Rattle.law_edit_inserts.specs.sql_tree.ActionPieces.{type_in, is_always, piece_in, column_option}
+use Rattle.law_edit_inserts.specs.sql_tree.ColumnType.{type_len, column_type}
+use Rattle.law_edit_inserts.specs.sql_tree.Forms.{opened}
+use Rattle.law_edit_inserts.specs.sql_tree.Action.{action, action_in, unlisted_action}
+use Rattle.law_edit_inserts.specs.sql_tree.Statement.{Tree, last_of}
+use Rattle.law_edit_inserts.specs.law_renumber.Moved.{action_moved, piece_moved, type_moved}
 use Rattle.law_edit_inserts.specs.Concurrently.{key}
 use Rattle.law_edit_inserts.proofs.Leading.{Given, given_is}
 use Rattle.law_edit_types.specs.Types.{is_replaced, retyped_type, retyped_piece}

@@ -4,30 +4,30 @@ use Rattle.std.proofs.lemmas.Bool.{false≢true}
 use Rattle.std.specs.Prelude.{◌&&◌}
 use Rattle.std.specs.List.{list_all}
 use Rattle.std.specs.Option.{option_and_then}
-use Rattle.sql_keyword.specs.declared.words.Keyword.{Keyword}
-use Rattle.sql_keyword.specs.declared.words.Keyword.TheVariants as k
-use Rattle.sql_keyword.specs.declared.words.Verb.TheVariants as verbs
-use Rattle.sql_keyword.specs.declared.words.Object.TheVariants as objects
-use Rattle.sql_keyword.specs.declared.words.Other.TheVariants as others
-use Rattle.sql_keyword.specs.declared.words.TheConstants.Keyword as keyword
-use Rattle.sql_keyword.specs.Same.{same_keyword}
-use Rattle.sql_token.specs.declared.terminal.Symbol.{Symbol}
-use Rattle.sql_token.specs.declared.terminal.Symbol.TheVariants as s
-use Rattle.sql_token.specs.declared.terminal.Terminal.{Terminal}
-use Rattle.sql_token.specs.Terminal.{is_keyword, is_keyword_symbol, is_name}
-use Rattle.sql_tree.specs.declared.actions.PieceList.TheVariants as lists
-use Rattle.sql_tree.specs.declared.forms.Captures.{Captures}
-use Rattle.sql_tree.specs.declared.forms.Part.{Part}
-use Rattle.sql_tree.specs.declared.forms.Part.TheVariants as p
-use Rattle.sql_tree.specs.declared.kinds.ActionKind.{ActionKind}
-use Rattle.sql_tree.specs.declared.kinds.ActionKind.TheVariants as a
-use Rattle.sql_tree.specs.declared.kinds.StmtKind.TheVariants as stmt
-use Rattle.sql_tree.specs.declared.nodes.Action.{Action}
-use Rattle.sql_tree.specs.declared.nodes.Piece.{Piece}
-use Rattle.sql_tree.specs.Forms.{State, at, or_here, word_kept, name_kept, either_of, fresh, opened, take_part, in_turn, all_taken}
-use Rattle.sql_tree.specs.ActionPieces.{pieces_of, column_option}
-use Rattle.sql_tree.specs.ActionRows.{first_rows, first_rows_at, own_rows, general_rows, general_rows_at}
-use Rattle.sql_tree.specs.Action.{add_constraint, takes_constraint, added_constraint, column_in, pieces_in, action_in, built, by_rows, own_part, own_action, general_action, listed_action, unlisted_action, action}
+use Rattle.law_edit_inserts.specs.sql_keyword.declared.words.Keyword.{Keyword}
+use Rattle.law_edit_inserts.specs.sql_keyword.declared.words.Keyword.TheVariants as k
+use Rattle.law_edit_inserts.specs.sql_keyword.declared.words.Verb.TheVariants as verbs
+use Rattle.law_edit_inserts.specs.sql_keyword.declared.words.Object.TheVariants as objects
+use Rattle.law_edit_inserts.specs.sql_keyword.declared.words.Other.TheVariants as others
+use Rattle.law_edit_inserts.specs.sql_keyword.declared.words.TheConstants.Keyword as keyword
+use Rattle.law_edit_inserts.specs.sql_keyword.Same.{same_keyword}
+use Rattle.law_edit_inserts.specs.sql_token.declared.terminal.Symbol.{Symbol}
+use Rattle.law_edit_inserts.specs.sql_token.declared.terminal.Symbol.TheVariants as s
+use Rattle.law_edit_inserts.specs.sql_token.declared.terminal.Terminal.{Terminal}
+use Rattle.law_edit_inserts.specs.sql_token.Terminal.{is_keyword, is_keyword_symbol, is_name}
+use Rattle.law_edit_inserts.specs.sql_tree.declared.actions.PieceList.TheVariants as lists
+use Rattle.law_edit_inserts.specs.sql_tree.declared.forms.Captures.{Captures}
+use Rattle.law_edit_inserts.specs.sql_tree.declared.forms.Part.{Part}
+use Rattle.law_edit_inserts.specs.sql_tree.declared.forms.Part.TheVariants as p
+use Rattle.law_edit_inserts.specs.sql_tree.declared.kinds.ActionKind.{ActionKind}
+use Rattle.law_edit_inserts.specs.sql_tree.declared.kinds.ActionKind.TheVariants as a
+use Rattle.law_edit_inserts.specs.sql_tree.declared.kinds.StmtKind.TheVariants as stmt
+use Rattle.law_edit_inserts.specs.sql_tree.declared.nodes.Action.{Action}
+use Rattle.law_edit_inserts.specs.sql_tree.declared.nodes.Piece.{Piece}
+use Rattle.law_edit_inserts.specs.sql_tree.Forms.{State, at, or_here, word_kept, name_kept, either_of, fresh, opened, take_part, in_turn, all_taken}
+use Rattle.law_edit_inserts.specs.sql_tree.ActionPieces.{pieces_of, column_option}
+use Rattle.law_edit_inserts.specs.sql_tree.ActionRows.{first_rows, first_rows_at, own_rows, general_rows, general_rows_at}
+use Rattle.law_edit_inserts.specs.sql_tree.Action.{add_constraint, takes_constraint, added_constraint, column_in, pieces_in, action_in, built, by_rows, own_part, own_action, general_action, listed_action, unlisted_action, action}
 use Rattle.law_edit_inserts.specs.Concurrently.{key}
 use Rattle.law_edit_inserts.proofs.Leading.{Given, given_any, given_then}
 use Rattle.law_edit_types.proofs.Rows.{either_given, rows_pass, unlisted_given, action_given}

@@ -5,15 +5,15 @@ use Rattle.std.proofs.lemmas.Bool.{false≢true}
 use Rattle.std.proofs.lemmas.Bool.Decides.{nat_tests}
 use Rattle.std.proofs.lemmas.List.{take_at}
 use Rattle.std.specs.Prelude.{◌==◌, ◌&&◌, nat_lt}
-use Rattle.sql_keyword.specs.declared.words.Keyword.{Keyword}
-use Rattle.sql_token.specs.declared.terminal.Terminal.{Terminal}
-use Rattle.sql_token.specs.Terminal.{is_keyword, is_opener, is_closer}
-use Rattle.sql_token.specs.Depth.{one_if, opened, closed, has_keyword, has_keyword_from}
-use Rattle.sql_tree.specs.Groups.{inside_list}
-use Rattle.sql_tree.specs.Split.{Test, word, before_from, before, has, closing, is_open_round_symbol}
-use Rattle.law_edit_cuts.specs.Runs.{is_run_from, is_closed, nowhere}
-use Rattle.law_edit_cuts.proofs.Nested.{Next, step, end_zero, open_not_closed, closed_is_level}
-use Rattle.law_edit_cuts.proofs.Nested.Next.{opens, closes, passes}
+use Rattle.law_edit_inserts.specs.sql_keyword.declared.words.Keyword.{Keyword}
+use Rattle.law_edit_inserts.specs.sql_token.declared.terminal.Terminal.{Terminal}
+use Rattle.law_edit_inserts.specs.sql_token.Terminal.{is_keyword, is_opener, is_closer}
+use Rattle.law_edit_inserts.specs.sql_token.Depth.{one_if, opened, closed, has_keyword, has_keyword_from}
+use Rattle.law_edit_inserts.specs.sql_tree.Groups.{inside_list}
+use Rattle.law_edit_inserts.specs.sql_tree.Split.{Test, word, before_from, before, has, closing, is_open_round_symbol}
+use Rattle.law_edit_inserts.specs.law_edit_cuts.Runs.{is_run_from, is_closed, nowhere}
+use Rattle.law_edit_inserts.proofs.of_law_edit_cuts.Nested.{Next, step, end_zero, open_not_closed, closed_is_level}
+use Rattle.law_edit_inserts.proofs.of_law_edit_cuts.Nested.Next.{opens, closes, passes}
 use Rattle.law_edit_types.proofs.TypeRuns.{put}
 
 -- ---- counts at each place

@@ -5,29 +5,29 @@ use Rattle.std.proofs.lemmas.Bool.Decides.{nat_tests}
 use Rattle.std.proofs.lemmas.List.{take_at, drop-drop, drop_at}
 use Rattle.std.specs.Prelude.{◌==◌, ◌&&◌, ◌||◌, not, is_some}
 use Rattle.std.specs.Option.{option_map, option_and_then}
-use Rattle.sql_keyword.specs.declared.words.Keyword.{Keyword}
-use Rattle.sql_keyword.specs.declared.words.Keyword.TheVariants as k
-use Rattle.sql_keyword.specs.declared.words.Object.TheVariants as objects
-use Rattle.sql_keyword.specs.declared.words.Other.TheVariants as others
-use Rattle.sql_keyword.specs.declared.words.TheConstants.Keyword as keyword
-use Rattle.sql_keyword.specs.Same.{same_keyword}
-use Rattle.sql_token.specs.declared.terminal.Symbol.{Symbol}
-use Rattle.sql_token.specs.declared.terminal.Symbol.TheVariants as s
-use Rattle.sql_token.specs.declared.terminal.Terminal.{Terminal}
-use Rattle.sql_token.specs.Terminal.{is_keyword, is_keyword_symbol, is_name, is_opener, is_closer}
-use Rattle.sql_token.specs.Depth.{one_if}
-use Rattle.sql_tree.specs.declared.nodes.ColType.{ColType}
-use Rattle.sql_tree.specs.declared.nodes.Column.{Column}
-use Rattle.sql_tree.specs.declared.nodes.Constraint.{Constraint}
-use Rattle.sql_tree.specs.Split.{Test, before_from, before, all_of}
-use Rattle.sql_tree.specs.Constraint.{column_constraint, column_constraints}
-use Rattle.sql_tree.specs.Pieces.{Head, before_after_head, pieces_at, pieces}
-use Rattle.sql_tree.specs.ColumnMarks.{is_type_end, type_end, is_value_end_word, is_value_end_symbol, kind_of_word, kind_of_symbol, kind_led, kind_after_name, is_bound, constraint_start, constraint_head}
-use Rattle.sql_tree.specs.ColumnType.{type_len, column_type}
-use Rattle.sql_tree.specs.Column.{column}
-use Rattle.law_edit_cuts.specs.Runs.{is_run_from}
-use Rattle.law_edit_cuts.proofs.Nested.{Next, step, end_zero, not_both}
-use Rattle.law_edit_cuts.proofs.Nested.Next.{opens, closes, passes}
+use Rattle.law_edit_inserts.specs.sql_keyword.declared.words.Keyword.{Keyword}
+use Rattle.law_edit_inserts.specs.sql_keyword.declared.words.Keyword.TheVariants as k
+use Rattle.law_edit_inserts.specs.sql_keyword.declared.words.Object.TheVariants as objects
+use Rattle.law_edit_inserts.specs.sql_keyword.declared.words.Other.TheVariants as others
+use Rattle.law_edit_inserts.specs.sql_keyword.declared.words.TheConstants.Keyword as keyword
+use Rattle.law_edit_inserts.specs.sql_keyword.Same.{same_keyword}
+use Rattle.law_edit_inserts.specs.sql_token.declared.terminal.Symbol.{Symbol}
+use Rattle.law_edit_inserts.specs.sql_token.declared.terminal.Symbol.TheVariants as s
+use Rattle.law_edit_inserts.specs.sql_token.declared.terminal.Terminal.{Terminal}
+use Rattle.law_edit_inserts.specs.sql_token.Terminal.{is_keyword, is_keyword_symbol, is_name, is_opener, is_closer}
+use Rattle.law_edit_inserts.specs.sql_token.Depth.{one_if}
+use Rattle.law_edit_inserts.specs.sql_tree.declared.nodes.ColType.{ColType}
+use Rattle.law_edit_inserts.specs.sql_tree.declared.nodes.Column.{Column}
+use Rattle.law_edit_inserts.specs.sql_tree.declared.nodes.Constraint.{Constraint}
+use Rattle.law_edit_inserts.specs.sql_tree.Split.{Test, before_from, before, all_of}
+use Rattle.law_edit_inserts.specs.sql_tree.Constraint.{column_constraint, column_constraints}
+use Rattle.law_edit_inserts.specs.sql_tree.Pieces.{Head, before_after_head, pieces_at, pieces}
+use Rattle.law_edit_inserts.specs.sql_tree.ColumnMarks.{is_type_end, type_end, is_value_end_word, is_value_end_symbol, kind_of_word, kind_of_symbol, kind_led, kind_after_name, is_bound, constraint_start, constraint_head}
+use Rattle.law_edit_inserts.specs.sql_tree.ColumnType.{type_len, column_type}
+use Rattle.law_edit_inserts.specs.sql_tree.Column.{column}
+use Rattle.law_edit_inserts.specs.law_edit_cuts.Runs.{is_run_from}
+use Rattle.law_edit_inserts.proofs.of_law_edit_cuts.Nested.{Next, step, end_zero, not_both}
+use Rattle.law_edit_inserts.proofs.of_law_edit_cuts.Nested.Next.{opens, closes, passes}
 use Rattle.law_edit_types.specs.Runs.{last_or}
 use Rattle.law_edit_types.specs.Types.{is_inside_type, IsLoose, ends_type, typed_column, ColumnTypeExchanges}
 

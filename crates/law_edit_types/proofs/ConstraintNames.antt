@@ -2,22 +2,22 @@
 use Rattle.std.proofs.Common.{◌≡◌, ℕ, Bool, true, false, cond, List, ◌∷◌, sym, refl, ap, ◌∙◌, Option, Some, None}
 use Rattle.std.proofs.lemmas.Bool.{false≢true}
 use Rattle.std.specs.Option.{option_and_then}
-use Rattle.sql_keyword.specs.declared.words.Keyword.{Keyword}
-use Rattle.sql_keyword.specs.declared.words.Keyword.TheVariants as k
-use Rattle.sql_keyword.specs.declared.words.Verb.TheVariants as verbs
-use Rattle.sql_keyword.specs.declared.words.Object.TheVariants as objects
-use Rattle.sql_keyword.specs.declared.words.Other.TheVariants as others
-use Rattle.sql_keyword.specs.declared.words.TheConstants.Keyword as keyword
-use Rattle.sql_keyword.specs.Same.{same_keyword}
-use Rattle.sql_token.specs.declared.terminal.Symbol.{Symbol}
-use Rattle.sql_token.specs.declared.terminal.Symbol.TheVariants as s
-use Rattle.sql_token.specs.declared.terminal.Terminal.{Terminal}
-use Rattle.sql_token.specs.Terminal.{is_keyword, is_keyword_symbol, is_name}
-use Rattle.sql_tree.specs.declared.nodes.ConKind.{ConKind}
-use Rattle.sql_tree.specs.declared.nodes.ConKind.TheVariants.{Check, Unique, PrimaryKey, Exclude, ForeignKey, NotNull}
-use Rattle.sql_tree.specs.declared.nodes.Constraint.{Constraint}
-use Rattle.sql_tree.specs.Forms.{after_word}
-use Rattle.sql_tree.specs.Constraint.{named, constraint_name, is_exclusion, after_exclude, after_two, kind_or, two_word_kind, constraint_kind, constraint_in, table_constraint_in, constraint_after, table_constraint}
+use Rattle.law_edit_inserts.specs.sql_keyword.declared.words.Keyword.{Keyword}
+use Rattle.law_edit_inserts.specs.sql_keyword.declared.words.Keyword.TheVariants as k
+use Rattle.law_edit_inserts.specs.sql_keyword.declared.words.Verb.TheVariants as verbs
+use Rattle.law_edit_inserts.specs.sql_keyword.declared.words.Object.TheVariants as objects
+use Rattle.law_edit_inserts.specs.sql_keyword.declared.words.Other.TheVariants as others
+use Rattle.law_edit_inserts.specs.sql_keyword.declared.words.TheConstants.Keyword as keyword
+use Rattle.law_edit_inserts.specs.sql_keyword.Same.{same_keyword}
+use Rattle.law_edit_inserts.specs.sql_token.declared.terminal.Symbol.{Symbol}
+use Rattle.law_edit_inserts.specs.sql_token.declared.terminal.Symbol.TheVariants as s
+use Rattle.law_edit_inserts.specs.sql_token.declared.terminal.Terminal.{Terminal}
+use Rattle.law_edit_inserts.specs.sql_token.Terminal.{is_keyword, is_keyword_symbol, is_name}
+use Rattle.law_edit_inserts.specs.sql_tree.declared.nodes.ConKind.{ConKind}
+use Rattle.law_edit_inserts.specs.sql_tree.declared.nodes.ConKind.TheVariants.{Check, Unique, PrimaryKey, Exclude, ForeignKey, NotNull}
+use Rattle.law_edit_inserts.specs.sql_tree.declared.nodes.Constraint.{Constraint}
+use Rattle.law_edit_inserts.specs.sql_tree.Forms.{after_word}
+use Rattle.law_edit_inserts.specs.sql_tree.Constraint.{named, constraint_name, is_exclusion, after_exclude, after_two, kind_or, two_word_kind, constraint_kind, constraint_in, table_constraint_in, constraint_after, table_constraint}
 use Rattle.law_edit_types.specs.Runs.{IsTypeSymbol}
 use Rattle.law_edit_types.proofs.Runs.{of_type}
 

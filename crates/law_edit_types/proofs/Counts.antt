@@ -4,14 +4,14 @@ use Rattle.std.proofs.lemmas.Bool.{false≢true, and_parts, and_from}
 use Rattle.std.proofs.lemmas.Bool.Decides.{nat_tests}
 use Rattle.std.specs.Prelude.{◌==◌, ◌&&◌}
 use Rattle.std.specs.List.{list_all}
-use Rattle.sql_token.specs.declared.terminal.Symbol.{Symbol}
-use Rattle.sql_token.specs.declared.terminal.Symbol.TheVariants as s
-use Rattle.sql_token.specs.declared.terminal.Terminal.{Terminal}
-use Rattle.sql_token.specs.Terminal.{is_opener, is_closer, is_name, is_opener_symbol, is_closer_symbol, is_name_symbol}
-use Rattle.sql_token.specs.Depth.{one_if, opened, closed}
-use Rattle.sql_tree.specs.Split.{Test, before_from}
-use Rattle.law_edit_tokens.specs.Beside.{ends_with_name}
-use Rattle.law_edit_cuts.proofs.Nested.{opened_is, closed_is}
+use Rattle.law_edit_inserts.specs.sql_token.declared.terminal.Symbol.{Symbol}
+use Rattle.law_edit_inserts.specs.sql_token.declared.terminal.Symbol.TheVariants as s
+use Rattle.law_edit_inserts.specs.sql_token.declared.terminal.Terminal.{Terminal}
+use Rattle.law_edit_inserts.specs.sql_token.Terminal.{is_opener, is_closer, is_name, is_opener_symbol, is_closer_symbol, is_name_symbol}
+use Rattle.law_edit_inserts.specs.sql_token.Depth.{one_if, opened, closed}
+use Rattle.law_edit_inserts.specs.sql_tree.Split.{Test, before_from}
+use Rattle.law_edit_inserts.specs.law_edit_tokens.Beside.{ends_with_name}
+use Rattle.law_edit_inserts.proofs.of_law_edit_cuts.Nested.{opened_is, closed_is}
 
 pub opened_append : (xs ys : List Terminal) → opened (xs ++ ys) ≡ opened xs + opened ys
 opened_append [] ys = omega arith

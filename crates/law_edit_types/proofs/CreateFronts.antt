@@ -3,33 +3,33 @@ use Rattle.std.proofs.Common.{◌≡◌, ℕ, Bool, true, false, cond, List, [],
 use Rattle.std.proofs.lemmas.Bool.{false≢true}
 use Rattle.std.specs.Prelude.{◌&&◌}
 use Rattle.std.specs.Option.{option_and_then}
-use Rattle.sql_keyword.specs.declared.words.Keyword.{Keyword}
-use Rattle.sql_keyword.specs.declared.words.Keyword.TheVariants as k
-use Rattle.sql_keyword.specs.declared.words.Verb.TheVariants as verbs
-use Rattle.sql_keyword.specs.declared.words.Object.TheVariants as objects
-use Rattle.sql_keyword.specs.declared.words.Other.TheVariants as others
-use Rattle.sql_keyword.specs.declared.words.TheConstants.Keyword as keyword
-use Rattle.sql_keyword.specs.Same.{same_keyword}
-use Rattle.sql_token.specs.declared.token.Span.{Span}
-use Rattle.sql_token.specs.declared.terminal.Terminal.{Terminal}
-use Rattle.sql_token.specs.Terminal.{is_keyword, is_name}
-use Rattle.sql_token.specs.Depth.{has_keyword}
-use Rattle.sql_tree.specs.declared.kinds.StmtKind.{StmtKind}
-use Rattle.sql_tree.specs.declared.kinds.StmtKind.TheVariants as stmt
-use Rattle.sql_tree.specs.declared.forms.Captures.{Captures}
-use Rattle.sql_tree.specs.declared.forms.Family.{Family}
-use Rattle.sql_tree.specs.declared.forms.Family.TheVariants as family
-use Rattle.sql_tree.specs.declared.forms.Fact.TheVariants as m
-use Rattle.sql_tree.specs.declared.forms.Phrase.TheVariants as phrase
-use Rattle.sql_tree.specs.declared.forms.Part.{Part}
-use Rattle.sql_tree.specs.declared.forms.Part.TheVariants as p
-use Rattle.sql_tree.specs.declared.nodes.Body.{Body}
-use Rattle.sql_tree.specs.declared.nodes.Body.TheVariants as body
-use Rattle.sql_tree.specs.declared.nodes.Elem.{Elem}
-use Rattle.sql_tree.specs.Column.{elements, drops_on_commit}
-use Rattle.sql_tree.specs.Forms.{State, Row, at, one, word_kept, take_mods, opened, take_part, in_turn, all_taken, finished, led_or, first_led, fresh, family_first, create_rows, alter_rows, drop_rows, rows_of, one_word_kind, led_by}
-use Rattle.sql_tree.specs.Split.{is_verb_word}
-use Rattle.sql_tree.specs.Statement.{table_kind, final_kind, body_shape_of, body_by, kind_and_body, front_by, from_verb, form_from, form_of}
+use Rattle.law_edit_inserts.specs.sql_keyword.declared.words.Keyword.{Keyword}
+use Rattle.law_edit_inserts.specs.sql_keyword.declared.words.Keyword.TheVariants as k
+use Rattle.law_edit_inserts.specs.sql_keyword.declared.words.Verb.TheVariants as verbs
+use Rattle.law_edit_inserts.specs.sql_keyword.declared.words.Object.TheVariants as objects
+use Rattle.law_edit_inserts.specs.sql_keyword.declared.words.Other.TheVariants as others
+use Rattle.law_edit_inserts.specs.sql_keyword.declared.words.TheConstants.Keyword as keyword
+use Rattle.law_edit_inserts.specs.sql_keyword.Same.{same_keyword}
+use Rattle.law_edit_inserts.specs.sql_token.declared.token.Span.{Span}
+use Rattle.law_edit_inserts.specs.sql_token.declared.terminal.Terminal.{Terminal}
+use Rattle.law_edit_inserts.specs.sql_token.Terminal.{is_keyword, is_name}
+use Rattle.law_edit_inserts.specs.sql_token.Depth.{has_keyword}
+use Rattle.law_edit_inserts.specs.sql_tree.declared.kinds.StmtKind.{StmtKind}
+use Rattle.law_edit_inserts.specs.sql_tree.declared.kinds.StmtKind.TheVariants as stmt
+use Rattle.law_edit_inserts.specs.sql_tree.declared.forms.Captures.{Captures}
+use Rattle.law_edit_inserts.specs.sql_tree.declared.forms.Family.{Family}
+use Rattle.law_edit_inserts.specs.sql_tree.declared.forms.Family.TheVariants as family
+use Rattle.law_edit_inserts.specs.sql_tree.declared.forms.Fact.TheVariants as m
+use Rattle.law_edit_inserts.specs.sql_tree.declared.forms.Phrase.TheVariants as phrase
+use Rattle.law_edit_inserts.specs.sql_tree.declared.forms.Part.{Part}
+use Rattle.law_edit_inserts.specs.sql_tree.declared.forms.Part.TheVariants as p
+use Rattle.law_edit_inserts.specs.sql_tree.declared.nodes.Body.{Body}
+use Rattle.law_edit_inserts.specs.sql_tree.declared.nodes.Body.TheVariants as body
+use Rattle.law_edit_inserts.specs.sql_tree.declared.nodes.Elem.{Elem}
+use Rattle.law_edit_inserts.specs.sql_tree.Column.{elements, drops_on_commit}
+use Rattle.law_edit_inserts.specs.sql_tree.Forms.{State, Row, at, one, word_kept, take_mods, opened, take_part, in_turn, all_taken, finished, led_or, first_led, fresh, family_first, create_rows, alter_rows, drop_rows, rows_of, one_word_kind, led_by}
+use Rattle.law_edit_inserts.specs.sql_tree.Split.{is_verb_word}
+use Rattle.law_edit_inserts.specs.sql_tree.Statement.{table_kind, final_kind, body_shape_of, body_by, kind_and_body, front_by, from_verb, form_from, form_of}
 use Rattle.law_edit_inserts.specs.Concurrently.{key}
 use Rattle.law_edit_inserts.proofs.Leading.{Given, given_then, given_any, given_is, listed_rows, RowShows, RowsShow, rows_show, families_show, is_relation, FrontShows, is_quiet, Leading, form_shows}
 use Rattle.law_edit_types.proofs.CreateShapes.{IsBreak, is_path_part, all_parts, word_part, parts_append, take_table, table_front, mods_front}

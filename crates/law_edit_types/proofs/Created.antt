@@ -3,35 +3,35 @@ use Rattle.std.proofs.Common.{◌≡◌, ℕ, ◌-◌, Bool, true, false, cond, 
 use Rattle.std.proofs.lemmas.Bool.{false≢true, and_parts}
 use Rattle.std.proofs.lemmas.List.{map-append, take-append-drop}
 use Rattle.std.specs.Prelude.{◌||◌, ◌&&◌}
-use Rattle.sql_keyword.specs.declared.words.TheConstants.Keyword as keyword
-use Rattle.sql_token.specs.declared.token.Span.{Span}
-use Rattle.sql_token.specs.declared.token.TokKind.TheVariants.{Word}
-use Rattle.sql_token.specs.declared.terminal.Symbol.{Symbol}
-use Rattle.sql_token.specs.declared.terminal.Symbol.TheVariants as s
-use Rattle.sql_token.specs.declared.terminal.Terminal.{Terminal}
-use Rattle.sql_token.specs.Token.{Text}
-use Rattle.sql_token.specs.Terminal.{symbol_of, is_keyword, is_opener, is_closer, is_name, is_dot, is_opener_symbol, is_closer_symbol, is_name_symbol, is_dot_symbol}
-use Rattle.sql_token.specs.Depth.{opened, closed, has_keyword}
-use Rattle.sql_token.specs.Sound.{is_sound}
-use Rattle.sql_tree.specs.declared.kinds.StmtKind.{StmtKind}
-use Rattle.sql_tree.specs.declared.kinds.StmtKind.TheVariants as stmt
-use Rattle.sql_tree.specs.declared.nodes.Body.{Body}
-use Rattle.sql_tree.specs.declared.nodes.Body.TheVariants as body
-use Rattle.sql_tree.specs.declared.nodes.Column.{Column}
-use Rattle.sql_tree.specs.declared.nodes.ColType.{ColType}
-use Rattle.sql_tree.specs.declared.nodes.Elem.{Elem}
-use Rattle.sql_tree.specs.declared.nodes.Elem.TheVariants as elem
-use Rattle.sql_tree.specs.declared.nodes.Stmt.{Stmt}
-use Rattle.sql_tree.specs.Column.{element, elements, listed, drops_on_commit}
-use Rattle.sql_tree.specs.Groups.{is_empty, inside_list}
-use Rattle.sql_tree.specs.Split.{split, comma, is_open_round_symbol, closing, begins_with_both, on_commit_drop, has}
-use Rattle.sql_tree.specs.Statement.{statement, form_of, without_semicolon}
-use Rattle.law_renumber.specs.Moved.{stmt_moved, column_moved, elem_moved}
-use Rattle.law_edit_tokens.specs.Beside.{ends_with_name}
-use Rattle.law_edit_cuts.specs.Runs.{is_run_from, is_closed, nowhere}
-use Rattle.law_edit_cuts.proofs.Nested.{Next, step, level_is_closed, closed_is_level}
-use Rattle.law_edit_cuts.proofs.Nested.Next.{opens, closes, passes}
-use Rattle.law_edit_cuts.proofs.Sound.{prefix_is_level, sound_is_closed}
+use Rattle.law_edit_inserts.specs.sql_keyword.declared.words.TheConstants.Keyword as keyword
+use Rattle.law_edit_inserts.specs.sql_token.declared.token.Span.{Span}
+use Rattle.law_edit_inserts.specs.sql_token.declared.token.TokKind.TheVariants.{Word}
+use Rattle.law_edit_inserts.specs.sql_token.declared.terminal.Symbol.{Symbol}
+use Rattle.law_edit_inserts.specs.sql_token.declared.terminal.Symbol.TheVariants as s
+use Rattle.law_edit_inserts.specs.sql_token.declared.terminal.Terminal.{Terminal}
+use Rattle.law_edit_inserts.specs.sql_token.Token.{Text}
+use Rattle.law_edit_inserts.specs.sql_token.Terminal.{symbol_of, is_keyword, is_opener, is_closer, is_name, is_dot, is_opener_symbol, is_closer_symbol, is_name_symbol, is_dot_symbol}
+use Rattle.law_edit_inserts.specs.sql_token.Depth.{opened, closed, has_keyword}
+use Rattle.law_edit_inserts.specs.sql_token.Sound.{is_sound}
+use Rattle.law_edit_inserts.specs.sql_tree.declared.kinds.StmtKind.{StmtKind}
+use Rattle.law_edit_inserts.specs.sql_tree.declared.kinds.StmtKind.TheVariants as stmt
+use Rattle.law_edit_inserts.specs.sql_tree.declared.nodes.Body.{Body}
+use Rattle.law_edit_inserts.specs.sql_tree.declared.nodes.Body.TheVariants as body
+use Rattle.law_edit_inserts.specs.sql_tree.declared.nodes.Column.{Column}
+use Rattle.law_edit_inserts.specs.sql_tree.declared.nodes.ColType.{ColType}
+use Rattle.law_edit_inserts.specs.sql_tree.declared.nodes.Elem.{Elem}
+use Rattle.law_edit_inserts.specs.sql_tree.declared.nodes.Elem.TheVariants as elem
+use Rattle.law_edit_inserts.specs.sql_tree.declared.nodes.Stmt.{Stmt}
+use Rattle.law_edit_inserts.specs.sql_tree.Column.{element, elements, listed, drops_on_commit}
+use Rattle.law_edit_inserts.specs.sql_tree.Groups.{is_empty, inside_list}
+use Rattle.law_edit_inserts.specs.sql_tree.Split.{split, comma, is_open_round_symbol, closing, begins_with_both, on_commit_drop, has}
+use Rattle.law_edit_inserts.specs.sql_tree.Statement.{statement, form_of, without_semicolon}
+use Rattle.law_edit_inserts.specs.law_renumber.Moved.{stmt_moved, column_moved, elem_moved}
+use Rattle.law_edit_inserts.specs.law_edit_tokens.Beside.{ends_with_name}
+use Rattle.law_edit_inserts.specs.law_edit_cuts.Runs.{is_run_from, is_closed, nowhere}
+use Rattle.law_edit_inserts.proofs.of_law_edit_cuts.Nested.{Next, step, level_is_closed, closed_is_level}
+use Rattle.law_edit_inserts.proofs.of_law_edit_cuts.Nested.Next.{opens, closes, passes}
+use Rattle.law_edit_inserts.proofs.of_law_edit_cuts.Sound.{prefix_is_level, sound_is_closed}
 use Rattle.law_edit_inserts.proofs.Fields.{ended}
 use Rattle.law_edit_inserts.proofs.TakenConcurrently.{parts_of}
 use Rattle.law_edit_types.specs.Runs.{fused, word_term, IsTypeSymbol, last_or, BecomesWord}

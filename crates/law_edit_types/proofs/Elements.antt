@@ -3,23 +3,23 @@ use Rattle.std.proofs.Common.{◌≡◌, ◌≤◌, ℕ, Bool, true, false, cond
 use Rattle.std.proofs.lemmas.Bool.{or_parts}
 use Rattle.std.proofs.lemmas.List.{map-append}
 use Rattle.std.specs.Prelude.{◌||◌, ◌&&◌}
-use Rattle.sql_keyword.specs.declared.words.TheConstants.Keyword as keyword
-use Rattle.sql_keyword.specs.Same.{same_keyword}
-use Rattle.sql_token.specs.declared.terminal.Symbol.{Symbol}
-use Rattle.sql_token.specs.declared.terminal.Terminal.{Terminal}
-use Rattle.sql_token.specs.Terminal.{is_keyword, is_name}
-use Rattle.sql_token.specs.Depth.{opened}
-use Rattle.sql_tree.specs.declared.nodes.Column.{Column}
-use Rattle.sql_tree.specs.declared.nodes.ColType.{ColType}
-use Rattle.sql_tree.specs.declared.nodes.Constraint.{Constraint}
-use Rattle.sql_tree.specs.declared.nodes.Elem.{Elem}
-use Rattle.sql_tree.specs.declared.nodes.Elem.TheVariants as elem
-use Rattle.sql_tree.specs.Column.{column, element, leads_constraint, constraint_element, column_element, is_constraint_symbol}
-use Rattle.sql_tree.specs.Constraint.{is_exclusion, table_constraint}
-use Rattle.sql_tree.specs.Split.{split, comma}
-use Rattle.law_edit_cuts.specs.Runs.{is_closed}
-use Rattle.law_edit_cuts.proofs.CutLaws.{part_exchanges}
-use Rattle.law_edit_cuts.proofs.Nested.{opened_is, closed_is}
+use Rattle.law_edit_inserts.specs.sql_keyword.declared.words.TheConstants.Keyword as keyword
+use Rattle.law_edit_inserts.specs.sql_keyword.Same.{same_keyword}
+use Rattle.law_edit_inserts.specs.sql_token.declared.terminal.Symbol.{Symbol}
+use Rattle.law_edit_inserts.specs.sql_token.declared.terminal.Terminal.{Terminal}
+use Rattle.law_edit_inserts.specs.sql_token.Terminal.{is_keyword, is_name}
+use Rattle.law_edit_inserts.specs.sql_token.Depth.{opened}
+use Rattle.law_edit_inserts.specs.sql_tree.declared.nodes.Column.{Column}
+use Rattle.law_edit_inserts.specs.sql_tree.declared.nodes.ColType.{ColType}
+use Rattle.law_edit_inserts.specs.sql_tree.declared.nodes.Constraint.{Constraint}
+use Rattle.law_edit_inserts.specs.sql_tree.declared.nodes.Elem.{Elem}
+use Rattle.law_edit_inserts.specs.sql_tree.declared.nodes.Elem.TheVariants as elem
+use Rattle.law_edit_inserts.specs.sql_tree.Column.{column, element, leads_constraint, constraint_element, column_element, is_constraint_symbol}
+use Rattle.law_edit_inserts.specs.sql_tree.Constraint.{is_exclusion, table_constraint}
+use Rattle.law_edit_inserts.specs.sql_tree.Split.{split, comma}
+use Rattle.law_edit_inserts.specs.law_edit_cuts.Runs.{is_closed}
+use Rattle.law_edit_inserts.proofs.of_law_edit_cuts.CutLaws.{part_exchanges}
+use Rattle.law_edit_inserts.proofs.of_law_edit_cuts.Nested.{opened_is, closed_is}
 use Rattle.law_edit_inserts.proofs.ActionPlaces.{last_part, part_is_level}
 use Rattle.law_edit_types.specs.Runs.{IsTypeSymbol}
 use Rattle.law_edit_types.specs.Types.{is_replaced}

@@ -24,3 +24,6 @@ pub mod Created
 pub mod WordPlaces
 pub mod NamePlaces
 pub mod Named
+pub use Rattle.law_edit_inserts.proofs as of_law_edit_inserts
+pub use Rattle.law_edit_inserts.proofs.of_law_edit_tokens
+pub use Rattle.law_edit_inserts.proofs.of_law_renumber

@@ -4,33 +4,33 @@ use Rattle.std.proofs.lemmas.Bool.{false≢true}
 use Rattle.std.proofs.lemmas.List.{map-append}
 use Rattle.std.specs.Prelude.{◌==◌}
 use Rattle.std.specs.Option.{option_map, option_and_then}
-use Rattle.sql_token.specs.declared.token.TokKind.TheVariants.{Word}
-use Rattle.sql_token.specs.declared.terminal.Symbol.TheVariants as s
-use Rattle.sql_token.specs.declared.terminal.Terminal.{Terminal}
-use Rattle.sql_token.specs.Token.{Text}
-use Rattle.sql_token.specs.Terminal.{symbol_of, is_name}
-use Rattle.sql_token.specs.Depth.{opened}
-use Rattle.sql_tree.specs.declared.kinds.StmtKind.{StmtKind}
-use Rattle.sql_tree.specs.declared.kinds.StmtKind.TheVariants as stmt
-use Rattle.sql_tree.specs.declared.nodes.Body.{Body}
-use Rattle.sql_tree.specs.declared.nodes.ColType.{ColType}
-use Rattle.sql_tree.specs.declared.nodes.Column.{Column}
-use Rattle.sql_tree.specs.declared.nodes.Elem.{Elem}
-use Rattle.sql_tree.specs.declared.nodes.Elem.TheVariants as elem
-use Rattle.sql_tree.specs.declared.nodes.Stmt.{Stmt}
-use Rattle.sql_tree.specs.declared.nodes.TyKind.TheVariants as kind
-use Rattle.sql_tree.specs.Column.{element, elements}
-use Rattle.sql_tree.specs.Forms.{State}
-use Rattle.sql_tree.specs.Split.{split, comma}
-use Rattle.sql_tree.specs.Statement.{Tree, statement, body_shape_of, body_by, final_kind, kind_and_body, from_verb, form_from, form_of, without_semicolon}
-use Rattle.law_renumber.specs.Moved.{stmt_moved}
-use Rattle.law_renumber.specs.Options.{LeftKept, FrontKept, StatementKept}
-use Rattle.law_renumber.specs.Renumber.{renumber}
-use Rattle.law_renumber.proofs.Names.{statements_read_alike}
-use Rattle.law_renumber.proofs.Statements.{statement_renumbers}
-use Rattle.law_edit_tokens.specs.Beside.{ends_with_name_or_dot}
-use Rattle.law_edit_cuts.specs.Runs.{is_closed, nowhere}
-use Rattle.law_edit_cuts.proofs.CutLaws.{part_exchanges}
+use Rattle.law_edit_inserts.specs.sql_token.declared.token.TokKind.TheVariants.{Word}
+use Rattle.law_edit_inserts.specs.sql_token.declared.terminal.Symbol.TheVariants as s
+use Rattle.law_edit_inserts.specs.sql_token.declared.terminal.Terminal.{Terminal}
+use Rattle.law_edit_inserts.specs.sql_token.Token.{Text}
+use Rattle.law_edit_inserts.specs.sql_token.Terminal.{symbol_of, is_name}
+use Rattle.law_edit_inserts.specs.sql_token.Depth.{opened}
+use Rattle.law_edit_inserts.specs.sql_tree.declared.kinds.StmtKind.{StmtKind}
+use Rattle.law_edit_inserts.specs.sql_tree.declared.kinds.StmtKind.TheVariants as stmt
+use Rattle.law_edit_inserts.specs.sql_tree.declared.nodes.Body.{Body}
+use Rattle.law_edit_inserts.specs.sql_tree.declared.nodes.ColType.{ColType}
+use Rattle.law_edit_inserts.specs.sql_tree.declared.nodes.Column.{Column}
+use Rattle.law_edit_inserts.specs.sql_tree.declared.nodes.Elem.{Elem}
+use Rattle.law_edit_inserts.specs.sql_tree.declared.nodes.Elem.TheVariants as elem
+use Rattle.law_edit_inserts.specs.sql_tree.declared.nodes.Stmt.{Stmt}
+use Rattle.law_edit_inserts.specs.sql_tree.declared.nodes.TyKind.TheVariants as kind
+use Rattle.law_edit_inserts.specs.sql_tree.Column.{element, elements}
+use Rattle.law_edit_inserts.specs.sql_tree.Forms.{State}
+use Rattle.law_edit_inserts.specs.sql_tree.Split.{split, comma}
+use Rattle.law_edit_inserts.specs.sql_tree.Statement.{Tree, statement, body_shape_of, body_by, final_kind, kind_and_body, from_verb, form_from, form_of, without_semicolon}
+use Rattle.law_edit_inserts.specs.law_renumber.Moved.{stmt_moved}
+use Rattle.law_edit_inserts.specs.law_renumber.Options.{LeftKept, FrontKept, StatementKept}
+use Rattle.law_edit_inserts.specs.law_renumber.Renumber.{renumber}
+use Rattle.law_edit_inserts.proofs.of_law_renumber.Names.{statements_read_alike}
+use Rattle.law_edit_inserts.proofs.of_law_renumber.Statements.{statement_renumbers}
+use Rattle.law_edit_inserts.specs.law_edit_tokens.Beside.{ends_with_name_or_dot}
+use Rattle.law_edit_inserts.specs.law_edit_cuts.Runs.{is_closed, nowhere}
+use Rattle.law_edit_inserts.proofs.of_law_edit_cuts.CutLaws.{part_exchanges}
 use Rattle.law_edit_inserts.proofs.ActionPlaces.{last_part}
 use Rattle.law_edit_inserts.proofs.Fields.{ended}
 use Rattle.law_edit_inserts.proofs.TakenConcurrently.{parts_of}

@@ -3,18 +3,18 @@ use Rattle.std.proofs.Common.{◌≡◌, Bool, true, List, [], ◌∷◌, map, r
 use Rattle.std.proofs.lemmas.Bool.{and_parts}
 use Rattle.std.specs.List.{list_all}
 use Rattle.std.specs.Option.{option_and_then}
-use Rattle.sql_keyword.specs.declared.words.TheConstants.Keyword as keyword
-use Rattle.sql_token.specs.declared.terminal.Terminal.{Terminal}
-use Rattle.sql_tree.specs.declared.forms.Part.{Part}
-use Rattle.sql_tree.specs.declared.kinds.ActionKind.{ActionKind}
-use Rattle.sql_tree.specs.declared.kinds.StmtKind.TheVariants as stmt
-use Rattle.sql_tree.specs.declared.nodes.Action.{Action}
-use Rattle.sql_tree.specs.declared.nodes.Constraint.{Constraint}
-use Rattle.sql_tree.specs.declared.actions.TheConstants.{OTHER}
-use Rattle.sql_tree.specs.Forms.{State, ActionRow, at, after_word, either_of, fresh, in_turn, all_taken, finished, first_whole}
-use Rattle.sql_tree.specs.ActionRows.{first_rows_at, own_rows, general_rows_at}
-use Rattle.sql_tree.specs.Constraint.{table_constraint}
-use Rattle.sql_tree.specs.Action.{adding, adding_after, add_constraint, takes_constraint, added_constraint, built, by_rows, own_part, own_action, general_action, listed_action, options, unlisted_action, action}
+use Rattle.law_edit_inserts.specs.sql_keyword.declared.words.TheConstants.Keyword as keyword
+use Rattle.law_edit_inserts.specs.sql_token.declared.terminal.Terminal.{Terminal}
+use Rattle.law_edit_inserts.specs.sql_tree.declared.forms.Part.{Part}
+use Rattle.law_edit_inserts.specs.sql_tree.declared.kinds.ActionKind.{ActionKind}
+use Rattle.law_edit_inserts.specs.sql_tree.declared.kinds.StmtKind.TheVariants as stmt
+use Rattle.law_edit_inserts.specs.sql_tree.declared.nodes.Action.{Action}
+use Rattle.law_edit_inserts.specs.sql_tree.declared.nodes.Constraint.{Constraint}
+use Rattle.law_edit_inserts.specs.sql_tree.declared.actions.TheConstants.{OTHER}
+use Rattle.law_edit_inserts.specs.sql_tree.Forms.{State, ActionRow, at, after_word, either_of, fresh, in_turn, all_taken, finished, first_whole}
+use Rattle.law_edit_inserts.specs.sql_tree.ActionRows.{first_rows_at, own_rows, general_rows_at}
+use Rattle.law_edit_inserts.specs.sql_tree.Constraint.{table_constraint}
+use Rattle.law_edit_inserts.specs.sql_tree.Action.{adding, adding_after, add_constraint, takes_constraint, added_constraint, built, by_rows, own_part, own_action, general_action, listed_action, options, unlisted_action, action}
 use Rattle.law_edit_inserts.proofs.Leading.{Given, given_then, given_any}
 
 -- ---- rows of any kind

@@ -2,33 +2,33 @@
 use Rattle.std.proofs.Common.{◌≡◌, ◌≤◌, ◌<◌, ℕ, ◌+◌, ◌-◌, ◌^◌, Bool, true, List, [], ◌∷◌, ◌++◌, map, length, take, drop, get_or, length-append, append_assoc, sym, refl, ap, ◌∙◌, subst, arith, Some, Ok}
 use Rattle.std.proofs.lemmas.Bool.Decides.{nat_tests}
 use Rattle.std.proofs.lemmas.List.{map-append, take_at, drop_at, get_or_at}
-use Rattle.sql_keyword.specs.declared.words.TheConstants.Keyword as keyword
-use Rattle.sql_token.specs.declared.token.Tok.{Tok}
-use Rattle.sql_token.specs.declared.token.TokKind.TheVariants.{Word}
-use Rattle.sql_token.specs.declared.terminal.Symbol.{Symbol}
-use Rattle.sql_token.specs.declared.terminal.Symbol.TheVariants as s
-use Rattle.sql_token.specs.declared.terminal.Terminal.{Terminal}
-use Rattle.sql_token.specs.Token.{Text, Leads, is_word, text_of}
-use Rattle.sql_token.specs.Terminal.{symbol_of, is_significant, terminals, terminals_from, is_opener, is_closer, is_name, is_dot}
-use Rattle.sql_token.specs.Depth.{statements}
-use Rattle.sql_tree.specs.declared.nodes.Stmt.{Stmt}
-use Rattle.sql_tree.specs.Range.{token_at}
-use Rattle.sql_tree.specs.Statement.{Tree, IsTree, statement, all_statements, no_token}
-use Rattle.law_renumber.specs.Moved.{stmt_moved}
-use Rattle.law_renumber.specs.Renumber.{renumber}
-use Rattle.law_renumber.proofs.Seen.{numbers}
-use Rattle.law_renumber.proofs.Readings.{statements_renumber, NoneEmpty, statements_full}
-use Rattle.law_edit_tokens.specs.Beside.{ends_with_name, ends_with_name_or_dot}
-use Rattle.law_edit_tokens.specs.Exchange.{exchanged, made_text, made_toks, Cut, reread}
-use Rattle.law_edit_tokens.specs.Terminals.{made_terms, moved_number}
-use Rattle.law_edit_tokens.proofs.After.{exchanged_at, leads_within, leads_append, leads_split}
-use Rattle.law_edit_tokens.proofs.Prefix.{leads_grow}
-use Rattle.law_edit_tokens.proofs.Beside.{letter_follows_dot, name_or_dot}
-use Rattle.law_edit_tokens.proofs.Edits.{word_rereads}
-use Rattle.law_edit_tokens.proofs.Terminals.{terminals_reread, made_terminals}
-use Rattle.law_edit_cuts.specs.Exchanges.{joined}
-use Rattle.law_edit_cuts.proofs.CutLaws.{statement_exchanges}
-use Rattle.law_edit_cuts.proofs.Sound.{prefix_is_level}
+use Rattle.law_edit_inserts.specs.sql_keyword.declared.words.TheConstants.Keyword as keyword
+use Rattle.law_edit_inserts.specs.sql_token.declared.token.Tok.{Tok}
+use Rattle.law_edit_inserts.specs.sql_token.declared.token.TokKind.TheVariants.{Word}
+use Rattle.law_edit_inserts.specs.sql_token.declared.terminal.Symbol.{Symbol}
+use Rattle.law_edit_inserts.specs.sql_token.declared.terminal.Symbol.TheVariants as s
+use Rattle.law_edit_inserts.specs.sql_token.declared.terminal.Terminal.{Terminal}
+use Rattle.law_edit_inserts.specs.sql_token.Token.{Text, Leads, is_word, text_of}
+use Rattle.law_edit_inserts.specs.sql_token.Terminal.{symbol_of, is_significant, terminals, terminals_from, is_opener, is_closer, is_name, is_dot}
+use Rattle.law_edit_inserts.specs.sql_token.Depth.{statements}
+use Rattle.law_edit_inserts.specs.sql_tree.declared.nodes.Stmt.{Stmt}
+use Rattle.law_edit_inserts.specs.sql_tree.Range.{token_at}
+use Rattle.law_edit_inserts.specs.sql_tree.Statement.{Tree, IsTree, statement, all_statements, no_token}
+use Rattle.law_edit_inserts.specs.law_renumber.Moved.{stmt_moved}
+use Rattle.law_edit_inserts.specs.law_renumber.Renumber.{renumber}
+use Rattle.law_edit_inserts.proofs.of_law_renumber.Seen.{numbers}
+use Rattle.law_edit_inserts.proofs.of_law_renumber.Readings.{statements_renumber, NoneEmpty, statements_full}
+use Rattle.law_edit_inserts.specs.law_edit_tokens.Beside.{ends_with_name, ends_with_name_or_dot}
+use Rattle.law_edit_inserts.specs.law_edit_tokens.Exchange.{exchanged, made_text, made_toks, Cut, reread}
+use Rattle.law_edit_inserts.specs.law_edit_tokens.Terminals.{made_terms, moved_number}
+use Rattle.law_edit_inserts.proofs.of_law_edit_tokens.After.{exchanged_at, leads_within, leads_append, leads_split}
+use Rattle.law_edit_inserts.proofs.of_law_edit_tokens.Prefix.{leads_grow}
+use Rattle.law_edit_inserts.proofs.of_law_edit_tokens.Beside.{letter_follows_dot, name_or_dot}
+use Rattle.law_edit_inserts.proofs.of_law_edit_tokens.Edits.{word_rereads}
+use Rattle.law_edit_inserts.proofs.of_law_edit_tokens.Terminals.{terminals_reread, made_terminals}
+use Rattle.law_edit_inserts.specs.law_edit_cuts.Exchanges.{joined}
+use Rattle.law_edit_inserts.proofs.of_law_edit_cuts.CutLaws.{statement_exchanges}
+use Rattle.law_edit_inserts.proofs.of_law_edit_cuts.Sound.{prefix_is_level}
 use Rattle.law_edit_inserts.proofs.Apart.{lasts}
 use Rattle.law_edit_inserts.proofs.TakenConcurrently.{parts_of}
 use Rattle.law_edit_inserts.proofs.Statements.{all_renumber, joined_append, full_parts, full_rest, stmt_at_place, all_between, read_of, of_read, of_terminals, joined_at}

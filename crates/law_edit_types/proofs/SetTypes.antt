@@ -4,29 +4,29 @@ use Rattle.std.proofs.lemmas.Bool.{false≢true, and_parts}
 use Rattle.std.specs.Prelude.{◌&&◌}
 use Rattle.std.specs.List.{list_all}
 use Rattle.std.specs.Option.{option_and_then}
-use Rattle.sql_keyword.specs.declared.words.Keyword.{Keyword}
-use Rattle.sql_keyword.specs.declared.words.Keyword.TheVariants as k
-use Rattle.sql_keyword.specs.declared.words.Verb.TheVariants as verbs
-use Rattle.sql_keyword.specs.declared.words.Object.TheVariants as objects
-use Rattle.sql_keyword.specs.declared.words.Other.TheVariants as others
-use Rattle.sql_keyword.specs.declared.words.TheConstants.Keyword as keyword
-use Rattle.sql_keyword.specs.Same.{same_keyword}
-use Rattle.sql_token.specs.declared.terminal.Symbol.{Symbol}
-use Rattle.sql_token.specs.declared.terminal.Symbol.TheVariants as s
-use Rattle.sql_token.specs.declared.terminal.Terminal.{Terminal}
-use Rattle.sql_token.specs.Terminal.{is_keyword, is_keyword_symbol, is_name}
-use Rattle.sql_tree.specs.declared.actions.PieceList.TheVariants as lists
-use Rattle.sql_tree.specs.declared.actions.TheConstants.{COLUMN_OPTION, OTHER_OPTION}
-use Rattle.sql_tree.specs.declared.forms.Fact.TheVariants as m
-use Rattle.sql_tree.specs.declared.forms.Part.{Part}
-use Rattle.sql_tree.specs.declared.forms.Part.TheVariants as p
-use Rattle.sql_tree.specs.declared.forms.Phrase.TheVariants as phrase
-use Rattle.sql_tree.specs.declared.kinds.PieceKind.{PieceKind}
-use Rattle.sql_tree.specs.declared.kinds.PieceKind.TheVariants as piece
-use Rattle.sql_tree.specs.declared.nodes.Piece.{Piece}
-use Rattle.sql_tree.specs.ActionPieces.{PieceRow, piece_in, piece_by, piece_rows, piece_len, pieces_of, alone, one_option, other_option, column_option}
-use Rattle.sql_tree.specs.Forms.{State, at, one, or_here, nothing_kept, words_of, after_words, fresh, take_part, in_turn, all_taken, finished, first_whole}
-use Rattle.sql_tree.specs.Split.{chunks, all_of, and_others}
+use Rattle.law_edit_inserts.specs.sql_keyword.declared.words.Keyword.{Keyword}
+use Rattle.law_edit_inserts.specs.sql_keyword.declared.words.Keyword.TheVariants as k
+use Rattle.law_edit_inserts.specs.sql_keyword.declared.words.Verb.TheVariants as verbs
+use Rattle.law_edit_inserts.specs.sql_keyword.declared.words.Object.TheVariants as objects
+use Rattle.law_edit_inserts.specs.sql_keyword.declared.words.Other.TheVariants as others
+use Rattle.law_edit_inserts.specs.sql_keyword.declared.words.TheConstants.Keyword as keyword
+use Rattle.law_edit_inserts.specs.sql_keyword.Same.{same_keyword}
+use Rattle.law_edit_inserts.specs.sql_token.declared.terminal.Symbol.{Symbol}
+use Rattle.law_edit_inserts.specs.sql_token.declared.terminal.Symbol.TheVariants as s
+use Rattle.law_edit_inserts.specs.sql_token.declared.terminal.Terminal.{Terminal}
+use Rattle.law_edit_inserts.specs.sql_token.Terminal.{is_keyword, is_keyword_symbol, is_name}
+use Rattle.law_edit_inserts.specs.sql_tree.declared.actions.PieceList.TheVariants as lists
+use Rattle.law_edit_inserts.specs.sql_tree.declared.actions.TheConstants.{COLUMN_OPTION, OTHER_OPTION}
+use Rattle.law_edit_inserts.specs.sql_tree.declared.forms.Fact.TheVariants as m
+use Rattle.law_edit_inserts.specs.sql_tree.declared.forms.Part.{Part}
+use Rattle.law_edit_inserts.specs.sql_tree.declared.forms.Part.TheVariants as p
+use Rattle.law_edit_inserts.specs.sql_tree.declared.forms.Phrase.TheVariants as phrase
+use Rattle.law_edit_inserts.specs.sql_tree.declared.kinds.PieceKind.{PieceKind}
+use Rattle.law_edit_inserts.specs.sql_tree.declared.kinds.PieceKind.TheVariants as piece
+use Rattle.law_edit_inserts.specs.sql_tree.declared.nodes.Piece.{Piece}
+use Rattle.law_edit_inserts.specs.sql_tree.ActionPieces.{PieceRow, piece_in, piece_by, piece_rows, piece_len, pieces_of, alone, one_option, other_option, column_option}
+use Rattle.law_edit_inserts.specs.sql_tree.Forms.{State, at, one, or_here, nothing_kept, words_of, after_words, fresh, take_part, in_turn, all_taken, finished, first_whole}
+use Rattle.law_edit_inserts.specs.sql_tree.Split.{chunks, all_of, and_others}
 use Rattle.law_edit_inserts.specs.Concurrently.{key}
 use Rattle.law_edit_inserts.proofs.Leading.{Given, given_then, given_more}
 use Rattle.law_edit_types.specs.Runs.{last_or}

@@ -4,26 +4,26 @@ use Rattle.std.proofs.lemmas.Bool.{false≢true}
 use Rattle.std.proofs.lemmas.List.{take-append-drop}
 use Rattle.std.specs.Prelude.{◌==◌, ◌&&◌, ◌||◌, nat_lt}
 use Rattle.std.specs.Option.{option_and_then}
-use Rattle.sql_keyword.specs.declared.words.Keyword.{Keyword}
-use Rattle.sql_keyword.specs.declared.words.Keyword.TheVariants as k
-use Rattle.sql_keyword.specs.declared.words.Other.TheVariants as others
-use Rattle.sql_keyword.specs.declared.words.TheConstants.Keyword as keyword
-use Rattle.sql_token.specs.declared.token.Span.{Span}
-use Rattle.sql_token.specs.declared.terminal.Symbol.{Symbol}
-use Rattle.sql_token.specs.declared.terminal.Symbol.TheVariants as s
-use Rattle.sql_token.specs.declared.terminal.Terminal.{Terminal}
-use Rattle.sql_token.specs.Terminal.{is_name, is_dot, is_opener, is_closer, is_name_symbol, is_dot_symbol}
-use Rattle.sql_token.specs.Depth.{span_of}
-use Rattle.sql_tree.specs.declared.nodes.ColType.{ColType}
-use Rattle.sql_tree.specs.declared.nodes.Column.{Column}
-use Rattle.sql_tree.specs.declared.nodes.TyKind.{TyKind}
-use Rattle.sql_tree.specs.declared.nodes.TyKind.TheVariants as kind
-use Rattle.sql_tree.specs.Column.{column}
-use Rattle.sql_tree.specs.ColumnType.{plain_of, arguments, with_arguments, after_varying, character_kind, character_type, double_type, zone, list_len, maybe_span, time_type, word_type, symbol_type, path_type, plain_type, before_groups, arrayed, array_of, array_by_groups, has_word_array, array_by_word, type_len, column_type}
-use Rattle.sql_tree.specs.Forms.{either_of, names_end}
-use Rattle.sql_tree.specs.Groups.{path_first}
-use Rattle.sql_tree.specs.Split.{begins_with}
-use Rattle.law_edit_cuts.proofs.Nested.{opened_is, closed_is}
+use Rattle.law_edit_inserts.specs.sql_keyword.declared.words.Keyword.{Keyword}
+use Rattle.law_edit_inserts.specs.sql_keyword.declared.words.Keyword.TheVariants as k
+use Rattle.law_edit_inserts.specs.sql_keyword.declared.words.Other.TheVariants as others
+use Rattle.law_edit_inserts.specs.sql_keyword.declared.words.TheConstants.Keyword as keyword
+use Rattle.law_edit_inserts.specs.sql_token.declared.token.Span.{Span}
+use Rattle.law_edit_inserts.specs.sql_token.declared.terminal.Symbol.{Symbol}
+use Rattle.law_edit_inserts.specs.sql_token.declared.terminal.Symbol.TheVariants as s
+use Rattle.law_edit_inserts.specs.sql_token.declared.terminal.Terminal.{Terminal}
+use Rattle.law_edit_inserts.specs.sql_token.Terminal.{is_name, is_dot, is_opener, is_closer, is_name_symbol, is_dot_symbol}
+use Rattle.law_edit_inserts.specs.sql_token.Depth.{span_of}
+use Rattle.law_edit_inserts.specs.sql_tree.declared.nodes.ColType.{ColType}
+use Rattle.law_edit_inserts.specs.sql_tree.declared.nodes.Column.{Column}
+use Rattle.law_edit_inserts.specs.sql_tree.declared.nodes.TyKind.{TyKind}
+use Rattle.law_edit_inserts.specs.sql_tree.declared.nodes.TyKind.TheVariants as kind
+use Rattle.law_edit_inserts.specs.sql_tree.Column.{column}
+use Rattle.law_edit_inserts.specs.sql_tree.ColumnType.{plain_of, arguments, with_arguments, after_varying, character_kind, character_type, double_type, zone, list_len, maybe_span, time_type, word_type, symbol_type, path_type, plain_type, before_groups, arrayed, array_of, array_by_groups, has_word_array, array_by_word, type_len, column_type}
+use Rattle.law_edit_inserts.specs.sql_tree.Forms.{either_of, names_end}
+use Rattle.law_edit_inserts.specs.sql_tree.Groups.{path_first}
+use Rattle.law_edit_inserts.specs.sql_tree.Split.{begins_with}
+use Rattle.law_edit_inserts.proofs.of_law_edit_cuts.Nested.{opened_is, closed_is}
 use Rattle.law_edit_inserts.proofs.Leading.{Given, given_then, given_any, given_is}
 use Rattle.law_edit_types.specs.Runs.{last_or}
 use Rattle.law_edit_types.proofs.Counts.{Flat, none_flat}

@@ -5,26 +5,26 @@ use Rattle.std.proofs.lemmas.Bool.Decides.{nat_tests}
 use Rattle.std.proofs.lemmas.List.{take_at, drop_at, length-append, length-take-le, take-append-drop}
 use Rattle.std.specs.Prelude.{◌==◌, ◌&&◌, nat_lt, not}
 use Rattle.std.specs.Option.{option_and_then}
-use Rattle.sql_keyword.specs.declared.words.Keyword.{Keyword}
-use Rattle.sql_keyword.specs.declared.words.Keyword.TheVariants as k
-use Rattle.sql_keyword.specs.declared.words.Verb.TheVariants as verbs
-use Rattle.sql_keyword.specs.declared.words.Object.TheVariants as objects
-use Rattle.sql_keyword.specs.declared.words.Other.TheVariants as others
-use Rattle.sql_keyword.specs.declared.words.TheConstants.Keyword as keyword
-use Rattle.sql_keyword.specs.Same.{same_keyword}
-use Rattle.sql_token.specs.declared.terminal.Symbol.{Symbol}
-use Rattle.sql_token.specs.declared.terminal.Symbol.TheVariants as s
-use Rattle.sql_token.specs.declared.terminal.Terminal.{Terminal}
-use Rattle.sql_token.specs.Terminal.{is_keyword, is_keyword_symbol, is_opener, is_closer, is_opener_symbol}
-use Rattle.sql_token.specs.Depth.{span_of, one_if, opened, closed}
-use Rattle.sql_tree.specs.declared.nodes.ColType.{ColType}
-use Rattle.sql_tree.specs.Forms.{either_of}
-use Rattle.sql_tree.specs.Groups.{is_open_square_symbol}
-use Rattle.sql_tree.specs.Split.{before_from, before, closing, begins_with}
-use Rattle.sql_tree.specs.ColumnType.{plain_type, no_group, only_groups, before_groups, arrayed, array_of, array_by_groups, ends_with, has_word_array, array_by_word, column_type}
-use Rattle.law_edit_cuts.specs.Runs.{is_run_from, is_closed, nowhere}
-use Rattle.law_edit_cuts.proofs.Nested.{open_not_closed, opened_is, closed_is, closed_is_level}
-use Rattle.law_edit_cuts.proofs.Nested.Next.{opens, closes, passes}
+use Rattle.law_edit_inserts.specs.sql_keyword.declared.words.Keyword.{Keyword}
+use Rattle.law_edit_inserts.specs.sql_keyword.declared.words.Keyword.TheVariants as k
+use Rattle.law_edit_inserts.specs.sql_keyword.declared.words.Verb.TheVariants as verbs
+use Rattle.law_edit_inserts.specs.sql_keyword.declared.words.Object.TheVariants as objects
+use Rattle.law_edit_inserts.specs.sql_keyword.declared.words.Other.TheVariants as others
+use Rattle.law_edit_inserts.specs.sql_keyword.declared.words.TheConstants.Keyword as keyword
+use Rattle.law_edit_inserts.specs.sql_keyword.Same.{same_keyword}
+use Rattle.law_edit_inserts.specs.sql_token.declared.terminal.Symbol.{Symbol}
+use Rattle.law_edit_inserts.specs.sql_token.declared.terminal.Symbol.TheVariants as s
+use Rattle.law_edit_inserts.specs.sql_token.declared.terminal.Terminal.{Terminal}
+use Rattle.law_edit_inserts.specs.sql_token.Terminal.{is_keyword, is_keyword_symbol, is_opener, is_closer, is_opener_symbol}
+use Rattle.law_edit_inserts.specs.sql_token.Depth.{span_of, one_if, opened, closed}
+use Rattle.law_edit_inserts.specs.sql_tree.declared.nodes.ColType.{ColType}
+use Rattle.law_edit_inserts.specs.sql_tree.Forms.{either_of}
+use Rattle.law_edit_inserts.specs.sql_tree.Groups.{is_open_square_symbol}
+use Rattle.law_edit_inserts.specs.sql_tree.Split.{before_from, before, closing, begins_with}
+use Rattle.law_edit_inserts.specs.sql_tree.ColumnType.{plain_type, no_group, only_groups, before_groups, arrayed, array_of, array_by_groups, ends_with, has_word_array, array_by_word, column_type}
+use Rattle.law_edit_inserts.specs.law_edit_cuts.Runs.{is_run_from, is_closed, nowhere}
+use Rattle.law_edit_inserts.proofs.of_law_edit_cuts.Nested.{open_not_closed, opened_is, closed_is, closed_is_level}
+use Rattle.law_edit_inserts.proofs.of_law_edit_cuts.Nested.Next.{opens, closes, passes}
 use Rattle.law_edit_inserts.proofs.Apart.{lasts}
 use Rattle.law_edit_inserts.proofs.Leading.{given_is}
 use Rattle.law_edit_types.specs.Runs.{IsTypeSymbol, last_or, is_type_run}

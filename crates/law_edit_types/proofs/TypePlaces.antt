@@ -5,23 +5,23 @@ use Rattle.std.proofs.lemmas.Bool.Decides.{nat_tests}
 use Rattle.std.proofs.lemmas.List.{take-append-drop}
 use Rattle.std.specs.Prelude.{◌==◌, ◌&&◌}
 use Rattle.std.specs.Option.{option_map, option_and_then}
-use Rattle.sql_token.specs.declared.token.Span.{Span}
-use Rattle.sql_token.specs.declared.terminal.Terminal.{Terminal}
-use Rattle.sql_token.specs.Terminal.{is_name, is_opener, is_closer}
-use Rattle.sql_token.specs.Depth.{span_of, one_if, opened, closed, nothing}
-use Rattle.sql_tree.specs.declared.nodes.ColType.{ColType}
-use Rattle.sql_tree.specs.declared.nodes.Column.{Column}
-use Rattle.sql_tree.specs.declared.nodes.Constraint.{Constraint}
-use Rattle.sql_tree.specs.Split.{before_from, before}
-use Rattle.sql_tree.specs.Constraint.{column_constraints}
-use Rattle.sql_tree.specs.ColumnMarks.{is_type_end, type_end}
-use Rattle.sql_tree.specs.ColumnType.{type_len, column_type}
-use Rattle.sql_tree.specs.Column.{column, column_with}
-use Rattle.sql_tree.specs.Statement.{last_of}
-use Rattle.law_renumber.specs.Moved.{type_moved, column_moved}
-use Rattle.law_edit_cuts.specs.Runs.{is_run_from, is_closed, nowhere}
-use Rattle.law_edit_cuts.proofs.Nested.{Next, step}
-use Rattle.law_edit_cuts.proofs.Nested.Next.{opens, closes, passes}
+use Rattle.law_edit_inserts.specs.sql_token.declared.token.Span.{Span}
+use Rattle.law_edit_inserts.specs.sql_token.declared.terminal.Terminal.{Terminal}
+use Rattle.law_edit_inserts.specs.sql_token.Terminal.{is_name, is_opener, is_closer}
+use Rattle.law_edit_inserts.specs.sql_token.Depth.{span_of, one_if, opened, closed, nothing}
+use Rattle.law_edit_inserts.specs.sql_tree.declared.nodes.ColType.{ColType}
+use Rattle.law_edit_inserts.specs.sql_tree.declared.nodes.Column.{Column}
+use Rattle.law_edit_inserts.specs.sql_tree.declared.nodes.Constraint.{Constraint}
+use Rattle.law_edit_inserts.specs.sql_tree.Split.{before_from, before}
+use Rattle.law_edit_inserts.specs.sql_tree.Constraint.{column_constraints}
+use Rattle.law_edit_inserts.specs.sql_tree.ColumnMarks.{is_type_end, type_end}
+use Rattle.law_edit_inserts.specs.sql_tree.ColumnType.{type_len, column_type}
+use Rattle.law_edit_inserts.specs.sql_tree.Column.{column, column_with}
+use Rattle.law_edit_inserts.specs.sql_tree.Statement.{last_of}
+use Rattle.law_edit_inserts.specs.law_renumber.Moved.{type_moved, column_moved}
+use Rattle.law_edit_inserts.specs.law_edit_cuts.Runs.{is_run_from, is_closed, nowhere}
+use Rattle.law_edit_inserts.proofs.of_law_edit_cuts.Nested.{Next, step}
+use Rattle.law_edit_inserts.proofs.of_law_edit_cuts.Nested.Next.{opens, closes, passes}
 use Rattle.law_edit_inserts.proofs.TakenConcurrently.{last_after}
 use Rattle.law_edit_types.specs.Runs.{IsTypeSymbol, last_or}
 use Rattle.law_edit_types.specs.Types.{is_replaced, retyped_type, retyped_column, is_inside_type, IsLoose, ends_type, typed_column}

@@ -3,14 +3,14 @@ use Rattle.std.proofs.Common.{◌≡◌, ℕ, zero, suc, Bool, true, false, cond
 use Rattle.std.proofs.lemmas.Bool.{false≢true}
 use Rattle.std.proofs.lemmas.Bool.Decides.{nat_tests}
 use Rattle.std.specs.Prelude.{◌==◌, ◌||◌, not}
-use Rattle.sql_token.specs.declared.terminal.Symbol.{Symbol}
-use Rattle.sql_token.specs.declared.terminal.Symbol.TheVariants as s
-use Rattle.sql_token.specs.declared.terminal.Terminal.{Terminal}
-use Rattle.sql_token.specs.Terminal.{is_opener, is_closer, is_name, is_dot, is_semicolon, is_opener_symbol, is_name_symbol, is_dot_symbol, is_semicolon_symbol}
-use Rattle.sql_tree.specs.Split.{is_comma_symbol}
-use Rattle.law_edit_cuts.specs.Runs.{is_run_from, is_closed, is_neutral, is_uncut, nowhere}
-use Rattle.law_edit_cuts.proofs.Nested.{Next, step, end_zero}
-use Rattle.law_edit_cuts.proofs.Nested.Next.{opens, closes, passes}
+use Rattle.law_edit_inserts.specs.sql_token.declared.terminal.Symbol.{Symbol}
+use Rattle.law_edit_inserts.specs.sql_token.declared.terminal.Symbol.TheVariants as s
+use Rattle.law_edit_inserts.specs.sql_token.declared.terminal.Terminal.{Terminal}
+use Rattle.law_edit_inserts.specs.sql_token.Terminal.{is_opener, is_closer, is_name, is_dot, is_semicolon, is_opener_symbol, is_name_symbol, is_dot_symbol, is_semicolon_symbol}
+use Rattle.law_edit_inserts.specs.sql_tree.Split.{is_comma_symbol}
+use Rattle.law_edit_inserts.specs.law_edit_cuts.Runs.{is_run_from, is_closed, is_neutral, is_uncut, nowhere}
+use Rattle.law_edit_inserts.proofs.of_law_edit_cuts.Nested.{Next, step, end_zero}
+use Rattle.law_edit_inserts.proofs.of_law_edit_cuts.Nested.Next.{opens, closes, passes}
 use Rattle.law_edit_types.specs.Runs.{is_unnamed, is_type_run}
 
 -- ---- the next terminal of a run

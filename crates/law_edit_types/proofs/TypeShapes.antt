@@ -4,28 +4,28 @@ use Rattle.std.proofs.lemmas.Bool.{false≢true, and_parts}
 use Rattle.std.proofs.lemmas.Bool.Decides.{nat_tests}
 use Rattle.std.specs.Prelude.{◌==◌, ◌&&◌, ◌||◌, not}
 use Rattle.std.specs.Option.{option_and_then}
-use Rattle.sql_keyword.specs.declared.words.Keyword.{Keyword}
-use Rattle.sql_keyword.specs.declared.words.Keyword.TheVariants as k
-use Rattle.sql_keyword.specs.declared.words.Verb.TheVariants as verbs
-use Rattle.sql_keyword.specs.declared.words.Object.TheVariants as objects
-use Rattle.sql_keyword.specs.declared.words.Other.TheVariants as others
-use Rattle.sql_keyword.specs.declared.words.TheConstants.Keyword as keyword
-use Rattle.sql_keyword.specs.Same.{same_keyword}
-use Rattle.sql_token.specs.declared.token.Span.{Span}
-use Rattle.sql_token.specs.declared.terminal.Symbol.{Symbol}
-use Rattle.sql_token.specs.declared.terminal.Symbol.TheVariants as s
-use Rattle.sql_token.specs.declared.terminal.Terminal.{Terminal}
-use Rattle.sql_token.specs.Terminal.{is_keyword, is_keyword_symbol, is_opener, is_closer, is_closer_symbol, is_opener_symbol, is_name, is_name_symbol, is_dot, is_dot_symbol}
-use Rattle.sql_token.specs.Depth.{span_of, one_if, opened, closed}
-use Rattle.sql_tree.specs.declared.nodes.ColType.{ColType}
-use Rattle.sql_tree.specs.declared.nodes.TyKind.{TyKind}
-use Rattle.sql_tree.specs.declared.nodes.TyKind.TheVariants as kind
-use Rattle.sql_tree.specs.Forms.{either_of, names_end}
-use Rattle.sql_tree.specs.Groups.{is_empty, is_list, path_first}
-use Rattle.sql_tree.specs.Split.{closing, begins_with, begins_list, is_open_round_symbol}
-use Rattle.sql_tree.specs.ColumnType.{plain_of, arguments, with_arguments, after_varying, character_type, double_type, is_time_zone, zone, list_len, maybe_span, time_type, word_type, symbol_type, path_type, plain_type}
-use Rattle.law_edit_cuts.specs.Runs.{is_run_from}
-use Rattle.law_edit_cuts.proofs.Nested.{open_not_closed, opened_is, closed_is}
+use Rattle.law_edit_inserts.specs.sql_keyword.declared.words.Keyword.{Keyword}
+use Rattle.law_edit_inserts.specs.sql_keyword.declared.words.Keyword.TheVariants as k
+use Rattle.law_edit_inserts.specs.sql_keyword.declared.words.Verb.TheVariants as verbs
+use Rattle.law_edit_inserts.specs.sql_keyword.declared.words.Object.TheVariants as objects
+use Rattle.law_edit_inserts.specs.sql_keyword.declared.words.Other.TheVariants as others
+use Rattle.law_edit_inserts.specs.sql_keyword.declared.words.TheConstants.Keyword as keyword
+use Rattle.law_edit_inserts.specs.sql_keyword.Same.{same_keyword}
+use Rattle.law_edit_inserts.specs.sql_token.declared.token.Span.{Span}
+use Rattle.law_edit_inserts.specs.sql_token.declared.terminal.Symbol.{Symbol}
+use Rattle.law_edit_inserts.specs.sql_token.declared.terminal.Symbol.TheVariants as s
+use Rattle.law_edit_inserts.specs.sql_token.declared.terminal.Terminal.{Terminal}
+use Rattle.law_edit_inserts.specs.sql_token.Terminal.{is_keyword, is_keyword_symbol, is_opener, is_closer, is_closer_symbol, is_opener_symbol, is_name, is_name_symbol, is_dot, is_dot_symbol}
+use Rattle.law_edit_inserts.specs.sql_token.Depth.{span_of, one_if, opened, closed}
+use Rattle.law_edit_inserts.specs.sql_tree.declared.nodes.ColType.{ColType}
+use Rattle.law_edit_inserts.specs.sql_tree.declared.nodes.TyKind.{TyKind}
+use Rattle.law_edit_inserts.specs.sql_tree.declared.nodes.TyKind.TheVariants as kind
+use Rattle.law_edit_inserts.specs.sql_tree.Forms.{either_of, names_end}
+use Rattle.law_edit_inserts.specs.sql_tree.Groups.{is_empty, is_list, path_first}
+use Rattle.law_edit_inserts.specs.sql_tree.Split.{closing, begins_with, begins_list, is_open_round_symbol}
+use Rattle.law_edit_inserts.specs.sql_tree.ColumnType.{plain_of, arguments, with_arguments, after_varying, character_type, double_type, is_time_zone, zone, list_len, maybe_span, time_type, word_type, symbol_type, path_type, plain_type}
+use Rattle.law_edit_inserts.specs.law_edit_cuts.Runs.{is_run_from}
+use Rattle.law_edit_inserts.proofs.of_law_edit_cuts.Nested.{open_not_closed, opened_is, closed_is}
 use Rattle.law_edit_inserts.proofs.Leading.{Given, given_then, given_any}
 use Rattle.law_edit_types.specs.Runs.{last_or, is_unnamed}
 use Rattle.law_edit_types.specs.Types.{is_replaced, IsLoose}

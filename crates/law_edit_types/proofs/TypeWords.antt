@@ -4,21 +4,21 @@ use Rattle.std.proofs.lemmas.Bool.{false≢true}
 use Rattle.std.proofs.lemmas.Bool.Decides.{nat_tests}
 use Rattle.std.specs.Prelude.{◌==◌, ◌&&◌, not, nat_lt}
 use Rattle.std.specs.Option.{option_and_then}
-use Rattle.sql_keyword.specs.Same.{same_keyword}
-use Rattle.sql_keyword.specs.declared.words.TheConstants.Keyword as keyword
-use Rattle.sql_token.specs.declared.token.Span.{Span}
-use Rattle.sql_token.specs.declared.terminal.Symbol.{Symbol}
-use Rattle.sql_token.specs.declared.terminal.Symbol.TheVariants as s
-use Rattle.sql_token.specs.declared.terminal.Terminal.{Terminal}
-use Rattle.sql_token.specs.Terminal.{is_keyword, is_keyword_symbol, is_name, is_opener, is_closer, is_opener_symbol, is_closer_symbol}
-use Rattle.sql_token.specs.Depth.{one_if}
-use Rattle.sql_tree.specs.declared.nodes.ColType.{ColType}
-use Rattle.sql_tree.specs.declared.nodes.TyKind.TheVariants.{Path}
-use Rattle.sql_tree.specs.Forms.{either_of}
-use Rattle.sql_tree.specs.Groups.{path_first, is_open_square_symbol}
-use Rattle.sql_tree.specs.Split.{before, before_from, closing}
-use Rattle.sql_tree.specs.ColumnMarks.{is_type_end}
-use Rattle.sql_tree.specs.ColumnType.{plain_of, arguments, with_arguments, path_type, plain_type, symbol_type, word_type, no_group, only_groups, before_groups, arrayed, array_of, array_by_groups, ends_with, has_word_array, array_by_word, column_type}
+use Rattle.law_edit_inserts.specs.sql_keyword.Same.{same_keyword}
+use Rattle.law_edit_inserts.specs.sql_keyword.declared.words.TheConstants.Keyword as keyword
+use Rattle.law_edit_inserts.specs.sql_token.declared.token.Span.{Span}
+use Rattle.law_edit_inserts.specs.sql_token.declared.terminal.Symbol.{Symbol}
+use Rattle.law_edit_inserts.specs.sql_token.declared.terminal.Symbol.TheVariants as s
+use Rattle.law_edit_inserts.specs.sql_token.declared.terminal.Terminal.{Terminal}
+use Rattle.law_edit_inserts.specs.sql_token.Terminal.{is_keyword, is_keyword_symbol, is_name, is_opener, is_closer, is_opener_symbol, is_closer_symbol}
+use Rattle.law_edit_inserts.specs.sql_token.Depth.{one_if}
+use Rattle.law_edit_inserts.specs.sql_tree.declared.nodes.ColType.{ColType}
+use Rattle.law_edit_inserts.specs.sql_tree.declared.nodes.TyKind.TheVariants.{Path}
+use Rattle.law_edit_inserts.specs.sql_tree.Forms.{either_of}
+use Rattle.law_edit_inserts.specs.sql_tree.Groups.{path_first, is_open_square_symbol}
+use Rattle.law_edit_inserts.specs.sql_tree.Split.{before, before_from, closing}
+use Rattle.law_edit_inserts.specs.sql_tree.ColumnMarks.{is_type_end}
+use Rattle.law_edit_inserts.specs.sql_tree.ColumnType.{plain_of, arguments, with_arguments, path_type, plain_type, symbol_type, word_type, no_group, only_groups, before_groups, arrayed, array_of, array_by_groups, ends_with, has_word_array, array_by_word, column_type}
 use Rattle.law_edit_types.specs.Runs.{IsTypeSymbol}
 use Rattle.law_edit_types.specs.Types.{IsLoose}
 use Rattle.law_edit_types.proofs.Runs.{of_type}

@@ -5,24 +5,24 @@ use Rattle.std.proofs.lemmas.Bool.Decides.{nat_tests}
 use Rattle.std.proofs.lemmas.List.{map-append, get_or_at}
 use Rattle.std.specs.Prelude.{◌==◌}
 use Rattle.std.specs.Option.{option_map}
-use Rattle.sql_keyword.specs.declared.words.TheConstants.Keyword as keyword
-use Rattle.sql_token.specs.declared.terminal.Symbol.{Symbol}
-use Rattle.sql_token.specs.declared.terminal.Symbol.TheVariants as s
-use Rattle.sql_token.specs.declared.terminal.Terminal.{Terminal}
-use Rattle.sql_token.specs.Terminal.{is_keyword, is_keyword_symbol, is_name, is_name_symbol}
-use Rattle.sql_token.specs.Depth.{nothing}
-use Rattle.sql_tree.specs.declared.kinds.StmtKind.TheVariants as stmt
-use Rattle.sql_tree.specs.declared.nodes.Action.{Action}
-use Rattle.sql_tree.specs.Action.{action}
-use Rattle.sql_tree.specs.ActionPieces.{is_word_symbol}
-use Rattle.law_renumber.specs.Moved.{action_moved}
-use Rattle.law_renumber.specs.Names.{word_for, as_words, same}
-use Rattle.law_renumber.specs.Options.{StaysWord, OptionsKept, ActionKept}
-use Rattle.law_renumber.specs.Renumber.{renumber}
-use Rattle.law_renumber.specs.Trees.{ActionRenumbers}
-use Rattle.law_renumber.proofs.Actions.{action_renumbers, action_numbers}
-use Rattle.law_renumber.proofs.Names.{words_keep, unnumbered}
-use Rattle.law_renumber.proofs.Seen.{for_kept}
+use Rattle.law_edit_inserts.specs.sql_keyword.declared.words.TheConstants.Keyword as keyword
+use Rattle.law_edit_inserts.specs.sql_token.declared.terminal.Symbol.{Symbol}
+use Rattle.law_edit_inserts.specs.sql_token.declared.terminal.Symbol.TheVariants as s
+use Rattle.law_edit_inserts.specs.sql_token.declared.terminal.Terminal.{Terminal}
+use Rattle.law_edit_inserts.specs.sql_token.Terminal.{is_keyword, is_keyword_symbol, is_name, is_name_symbol}
+use Rattle.law_edit_inserts.specs.sql_token.Depth.{nothing}
+use Rattle.law_edit_inserts.specs.sql_tree.declared.kinds.StmtKind.TheVariants as stmt
+use Rattle.law_edit_inserts.specs.sql_tree.declared.nodes.Action.{Action}
+use Rattle.law_edit_inserts.specs.sql_tree.Action.{action}
+use Rattle.law_edit_inserts.specs.sql_tree.ActionPieces.{is_word_symbol}
+use Rattle.law_edit_inserts.specs.law_renumber.Moved.{action_moved}
+use Rattle.law_edit_inserts.specs.law_renumber.Names.{word_for, as_words, same}
+use Rattle.law_edit_inserts.specs.law_renumber.Options.{StaysWord, OptionsKept, ActionKept}
+use Rattle.law_edit_inserts.specs.law_renumber.Renumber.{renumber}
+use Rattle.law_edit_inserts.specs.law_renumber.Trees.{ActionRenumbers}
+use Rattle.law_edit_inserts.proofs.of_law_renumber.Actions.{action_renumbers, action_numbers}
+use Rattle.law_edit_inserts.proofs.of_law_renumber.Names.{words_keep, unnumbered}
+use Rattle.law_edit_inserts.proofs.of_law_renumber.Seen.{for_kept}
 use Rattle.law_edit_inserts.proofs.Tokens.{AtLeast, Under, least_weaker, under_weaker}
 use Rattle.law_edit_types.specs.Names.{is_key_word}
 use Rattle.law_edit_types.specs.Runs.{last_or}

@@ -1,22 +1,22 @@
 -- The type that an ALTER TABLE gives to a column becomes one word: the tree is the old one, that type aside.
 use Rattle.std.specs.Prelude.{◌≡◌, ◌<◌, ℕ, ◌^◌, true, false, List, ◌∷◌, ◌++◌, map, length, Option, Some, None}
 use Rattle.std.specs.Option.{option_map}
-use Rattle.sql_keyword.specs.declared.words.TheConstants.Keyword as keyword
-use Rattle.sql_token.specs.declared.terminal.Symbol.TheVariants as s
-use Rattle.sql_token.specs.declared.token.Span.{Span}
-use Rattle.sql_token.specs.Token.{Text}
-use Rattle.sql_tree.specs.declared.kinds.ActionKind.TheVariants as a
-use Rattle.sql_tree.specs.declared.kinds.PieceKind.TheVariants as piece
-use Rattle.sql_tree.specs.declared.kinds.StmtKind.TheVariants as stmt
-use Rattle.sql_tree.specs.declared.nodes.Action.{Action}
-use Rattle.sql_tree.specs.declared.nodes.Body.TheVariants as body
-use Rattle.sql_tree.specs.declared.nodes.Column.{Column}
-use Rattle.sql_tree.specs.declared.nodes.ColType.{ColType}
-use Rattle.sql_tree.specs.declared.nodes.Constraint.{Constraint}
-use Rattle.sql_tree.specs.declared.nodes.Piece.{Piece}
-use Rattle.sql_tree.specs.declared.nodes.Stmt.{Stmt}
-use Rattle.sql_tree.specs.Statement.{Tree, IsTree}
-use Rattle.law_renumber.specs.Moved.{span_moved, action_moved, piece_moved, stmt_moved}
+use Rattle.law_edit_inserts.specs.sql_keyword.declared.words.TheConstants.Keyword as keyword
+use Rattle.law_edit_inserts.specs.sql_token.declared.terminal.Symbol.TheVariants as s
+use Rattle.law_edit_inserts.specs.sql_token.declared.token.Span.{Span}
+use Rattle.law_edit_inserts.specs.sql_token.Token.{Text}
+use Rattle.law_edit_inserts.specs.sql_tree.declared.kinds.ActionKind.TheVariants as a
+use Rattle.law_edit_inserts.specs.sql_tree.declared.kinds.PieceKind.TheVariants as piece
+use Rattle.law_edit_inserts.specs.sql_tree.declared.kinds.StmtKind.TheVariants as stmt
+use Rattle.law_edit_inserts.specs.sql_tree.declared.nodes.Action.{Action}
+use Rattle.law_edit_inserts.specs.sql_tree.declared.nodes.Body.TheVariants as body
+use Rattle.law_edit_inserts.specs.sql_tree.declared.nodes.Column.{Column}
+use Rattle.law_edit_inserts.specs.sql_tree.declared.nodes.ColType.{ColType}
+use Rattle.law_edit_inserts.specs.sql_tree.declared.nodes.Constraint.{Constraint}
+use Rattle.law_edit_inserts.specs.sql_tree.declared.nodes.Piece.{Piece}
+use Rattle.law_edit_inserts.specs.sql_tree.declared.nodes.Stmt.{Stmt}
+use Rattle.law_edit_inserts.specs.sql_tree.Statement.{Tree, IsTree}
+use Rattle.law_edit_inserts.specs.law_renumber.Moved.{span_moved, action_moved, piece_moved, stmt_moved}
 use Rattle.law_edit_types.specs.Names.{symbol_at}
 use Rattle.law_edit_types.specs.Runs.{fused, worded_text, IsTypeName, IsApart, Worded}
 use Rattle.law_edit_types.specs.Types.{is_replaced, retyped_column, retyped_piece}

@@ -1,23 +1,23 @@
 -- The last name of a column's type becomes another word: the tree stays.
 use Rattle.std.specs.Prelude.{◌≡◌, ◌<◌, ◌^◌, false, List, ◌∷◌, ◌++◌, length, Option, Some}
-use Rattle.sql_token.specs.declared.terminal.Symbol.TheVariants as s
-use Rattle.sql_token.specs.declared.token.Span.{Span}
-use Rattle.sql_token.specs.declared.token.TokKind.TheVariants.{Word}
-use Rattle.sql_token.specs.Terminal.{symbol_of}
-use Rattle.sql_token.specs.Token.{Text}
-use Rattle.sql_tree.specs.declared.kinds.PieceKind.TheVariants as piece
-use Rattle.sql_tree.specs.declared.kinds.StmtKind.TheVariants as stmt
-use Rattle.sql_tree.specs.declared.nodes.Action.{Action}
-use Rattle.sql_tree.specs.declared.nodes.Body.TheVariants as body
-use Rattle.sql_tree.specs.declared.nodes.Column.{Column}
-use Rattle.sql_tree.specs.declared.nodes.ColType.{ColType}
-use Rattle.sql_tree.specs.declared.nodes.Elem.{Elem}
-use Rattle.sql_tree.specs.declared.nodes.Elem.TheVariants as elem
-use Rattle.sql_tree.specs.declared.nodes.Piece.{Piece}
-use Rattle.sql_tree.specs.declared.nodes.Stmt.{Stmt}
-use Rattle.sql_tree.specs.declared.nodes.TyKind.TheVariants as kind
-use Rattle.sql_tree.specs.Statement.{Tree, IsTree}
-use Rattle.law_renumber.specs.Moved.{stmt_moved}
+use Rattle.law_edit_inserts.specs.sql_token.declared.terminal.Symbol.TheVariants as s
+use Rattle.law_edit_inserts.specs.sql_token.declared.token.Span.{Span}
+use Rattle.law_edit_inserts.specs.sql_token.declared.token.TokKind.TheVariants.{Word}
+use Rattle.law_edit_inserts.specs.sql_token.Terminal.{symbol_of}
+use Rattle.law_edit_inserts.specs.sql_token.Token.{Text}
+use Rattle.law_edit_inserts.specs.sql_tree.declared.kinds.PieceKind.TheVariants as piece
+use Rattle.law_edit_inserts.specs.sql_tree.declared.kinds.StmtKind.TheVariants as stmt
+use Rattle.law_edit_inserts.specs.sql_tree.declared.nodes.Action.{Action}
+use Rattle.law_edit_inserts.specs.sql_tree.declared.nodes.Body.TheVariants as body
+use Rattle.law_edit_inserts.specs.sql_tree.declared.nodes.Column.{Column}
+use Rattle.law_edit_inserts.specs.sql_tree.declared.nodes.ColType.{ColType}
+use Rattle.law_edit_inserts.specs.sql_tree.declared.nodes.Elem.{Elem}
+use Rattle.law_edit_inserts.specs.sql_tree.declared.nodes.Elem.TheVariants as elem
+use Rattle.law_edit_inserts.specs.sql_tree.declared.nodes.Piece.{Piece}
+use Rattle.law_edit_inserts.specs.sql_tree.declared.nodes.Stmt.{Stmt}
+use Rattle.law_edit_inserts.specs.sql_tree.declared.nodes.TyKind.TheVariants as kind
+use Rattle.law_edit_inserts.specs.sql_tree.Statement.{Tree, IsTree}
+use Rattle.law_edit_inserts.specs.law_renumber.Moved.{stmt_moved}
 use Rattle.law_edit_types.specs.Names.{symbol_at, is_key_word}
 use Rattle.law_edit_types.specs.Runs.{fused, worded_text, IsTypeName, IsApart, Worded}
 use Rattle.law_edit_types.specs.Created.{TableHead, table_of}

@@ -1,11 +1,11 @@
 -- What a token of a tree is to the grammar.
 use Rattle.std.specs.Prelude.{ℕ, Bool, true, false}
-use Rattle.sql_token.specs.declared.terminal.Symbol.{Symbol}
-use Rattle.sql_token.specs.declared.terminal.Symbol.TheVariants as s
-use Rattle.sql_token.specs.Token.{text_of}
-use Rattle.sql_token.specs.Terminal.{symbol_of}
-use Rattle.sql_tree.specs.Range.{token_at}
-use Rattle.sql_tree.specs.Statement.{Tree}
+use Rattle.law_edit_inserts.specs.sql_token.declared.terminal.Symbol.{Symbol}
+use Rattle.law_edit_inserts.specs.sql_token.declared.terminal.Symbol.TheVariants as s
+use Rattle.law_edit_inserts.specs.sql_token.Token.{text_of}
+use Rattle.law_edit_inserts.specs.sql_token.Terminal.{symbol_of}
+use Rattle.law_edit_inserts.specs.sql_tree.Range.{token_at}
+use Rattle.law_edit_inserts.specs.sql_tree.Statement.{Tree}
 
 -- token n
 abbrev pub symbol_at : Tree → ℕ → Symbol

@@ -1,21 +1,21 @@
 -- A run of tokens of one statement becomes one word.
 use Rattle.std.specs.Prelude.{◌≡◌, ◌<◌, ◌≤◌, ℕ, ◌+◌, ◌-◌, ◌^◌, nat_lt, nat_le, Bool, true, false, not, ◌||◌, if◌then◌else◌, List, [], ◌∷◌, ◌++◌, map, length, take, drop, slice_index, Some}
-use Rattle.sql_keyword.specs.declared.words.TheConstants.Keyword as keyword
-use Rattle.sql_token.specs.declared.token.TokKind.TheVariants.{Word}
-use Rattle.sql_token.specs.declared.terminal.Symbol.{Symbol}
-use Rattle.sql_token.specs.declared.terminal.Symbol.TheVariants as s
-use Rattle.sql_token.specs.declared.terminal.Terminal.{Terminal}
-use Rattle.sql_token.specs.Depth.{statements}
-use Rattle.sql_token.specs.Token.{Text, is_word}
-use Rattle.sql_token.specs.Terminal.{symbol_of, is_opener, is_name, is_dot, terminals}
-use Rattle.sql_tree.specs.declared.nodes.Stmt.{Stmt}
-use Rattle.sql_tree.specs.Range.{token_at}
-use Rattle.sql_tree.specs.Statement.{Tree, IsTree, statement}
-use Rattle.law_renumber.specs.Moved.{stmt_moved}
-use Rattle.law_renumber.specs.Renumber.{renumber}
-use Rattle.law_edit_tokens.specs.Beside.{ends_with_name, IsLetter}
-use Rattle.law_edit_tokens.specs.Exchange.{exchanged, Made, made_text, made_toks, reread, IsPlainWord}
-use Rattle.law_edit_cuts.specs.Runs.{is_run_from}
+use Rattle.law_edit_inserts.specs.sql_keyword.declared.words.TheConstants.Keyword as keyword
+use Rattle.law_edit_inserts.specs.sql_token.declared.token.TokKind.TheVariants.{Word}
+use Rattle.law_edit_inserts.specs.sql_token.declared.terminal.Symbol.{Symbol}
+use Rattle.law_edit_inserts.specs.sql_token.declared.terminal.Symbol.TheVariants as s
+use Rattle.law_edit_inserts.specs.sql_token.declared.terminal.Terminal.{Terminal}
+use Rattle.law_edit_inserts.specs.sql_token.Depth.{statements}
+use Rattle.law_edit_inserts.specs.sql_token.Token.{Text, is_word}
+use Rattle.law_edit_inserts.specs.sql_token.Terminal.{symbol_of, is_opener, is_name, is_dot, terminals}
+use Rattle.law_edit_inserts.specs.sql_tree.declared.nodes.Stmt.{Stmt}
+use Rattle.law_edit_inserts.specs.sql_tree.Range.{token_at}
+use Rattle.law_edit_inserts.specs.sql_tree.Statement.{Tree, IsTree, statement}
+use Rattle.law_edit_inserts.specs.law_renumber.Moved.{stmt_moved}
+use Rattle.law_edit_inserts.specs.law_renumber.Renumber.{renumber}
+use Rattle.law_edit_inserts.specs.law_edit_tokens.Beside.{ends_with_name, IsLetter}
+use Rattle.law_edit_inserts.specs.law_edit_tokens.Exchange.{exchanged, Made, made_text, made_toks, reread, IsPlainWord}
+use Rattle.law_edit_inserts.specs.law_edit_cuts.Runs.{is_run_from}
 
 -- ---- one word in place of a run of tokens
 

@@ -1,18 +1,18 @@
 -- Column types in the terminals that they are read of: where one ends, and which become one word.
 use Rattle.std.specs.Prelude.{◌≡◌, ℕ, Bool, true, false, List, [], ◌∷◌, ◌++◌, Option, None, is_some}
 use Rattle.std.specs.Option.{option_map}
-use Rattle.sql_keyword.specs.declared.words.TheConstants.Keyword as keyword
-use Rattle.sql_token.specs.declared.terminal.Terminal.{Terminal}
-use Rattle.sql_token.specs.Terminal.{is_keyword}
-use Rattle.sql_tree.specs.declared.nodes.Column.{Column}
-use Rattle.sql_tree.specs.declared.nodes.ColType.{ColType}
-use Rattle.sql_tree.specs.declared.nodes.Piece.{Piece}
-use Rattle.sql_tree.specs.declared.nodes.TyKind.{TyKind}
-use Rattle.sql_tree.specs.declared.nodes.TyKind.TheVariants as kind
-use Rattle.sql_tree.specs.Column.{column}
-use Rattle.sql_tree.specs.ColumnMarks.{is_type_end}
-use Rattle.sql_tree.specs.ColumnType.{column_type}
-use Rattle.law_edit_cuts.specs.Runs.{is_run_from}
+use Rattle.law_edit_inserts.specs.sql_keyword.declared.words.TheConstants.Keyword as keyword
+use Rattle.law_edit_inserts.specs.sql_token.declared.terminal.Terminal.{Terminal}
+use Rattle.law_edit_inserts.specs.sql_token.Terminal.{is_keyword}
+use Rattle.law_edit_inserts.specs.sql_tree.declared.nodes.Column.{Column}
+use Rattle.law_edit_inserts.specs.sql_tree.declared.nodes.ColType.{ColType}
+use Rattle.law_edit_inserts.specs.sql_tree.declared.nodes.Piece.{Piece}
+use Rattle.law_edit_inserts.specs.sql_tree.declared.nodes.TyKind.{TyKind}
+use Rattle.law_edit_inserts.specs.sql_tree.declared.nodes.TyKind.TheVariants as kind
+use Rattle.law_edit_inserts.specs.sql_tree.Column.{column}
+use Rattle.law_edit_inserts.specs.sql_tree.ColumnMarks.{is_type_end}
+use Rattle.law_edit_inserts.specs.sql_tree.ColumnType.{column_type}
+use Rattle.law_edit_inserts.specs.law_edit_cuts.Runs.{is_run_from}
 use Rattle.law_edit_types.specs.Runs.{last_or}
 
 -- ---- which types become one word

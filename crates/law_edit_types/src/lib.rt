@@ -4,3 +4,6 @@
 #![tactic(auto)]
 
 pub mod laws;
+
+// What crates above reach through this one.
+pub use law_edit_inserts::starts_ascend;

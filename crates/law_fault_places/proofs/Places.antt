@@ -7,12 +7,12 @@ use Rattle.std.proofs.lemmas.Bool.Decides.{nat_tests}
 use Rattle.std.proofs.lemmas.Str.{IsCharBoundary-before_ascii, IsCharBoundary-start}
 use Rattle.std.proofs.lemmas.List.{get_or-drop}
 use Rattle.std.proofs.Math.ListN.{get_or-eq_default}
-use Rattle.sql_token.proofs.Boundaries.{token_between}
-use Rattle.sql_token.specs.declared.token.Tok.{Tok}
-use Rattle.sql_token.specs.declared.token.TokKind.{TokKind}
-use Rattle.sql_token.specs.Comment.{opens}
-use Rattle.sql_token.specs.Quote.{begins_dollar}
-use Rattle.sql_token.specs.Token.{Text, begins_blank, begins_line, begins_number, begins_op, begins_param, begins_str, begins_unicode, begins_word, is_closing, is_punct, kind_of}
+use Rattle.sql_tree.proofs.of_sql_token.Boundaries.{token_between}
+use Rattle.sql_tree.specs.sql_token.declared.token.Tok.{Tok}
+use Rattle.sql_tree.specs.sql_token.declared.token.TokKind.{TokKind}
+use Rattle.sql_tree.specs.sql_token.Comment.{opens}
+use Rattle.sql_tree.specs.sql_token.Quote.{begins_dollar}
+use Rattle.sql_tree.specs.sql_token.Token.{Text, begins_blank, begins_line, begins_number, begins_op, begins_param, begins_str, begins_unicode, begins_word, is_closing, is_punct, kind_of}
 use Rattle.sql_tree.specs.Statement.{no_token}
 use Rattle.law_fault_places.specs.Between.{OpenBetween, SyntaxBetween}
 

@@ -1,7 +1,7 @@
 -- Places where a text can't be read are between two characters.
 use Rattle.std.specs.Prelude.{ℕ}
 use Rattle.std.specs.Str.{IsCharBoundary, IsUtf8}
-use Rattle.sql_token.specs.Token.{OpenAt, Text}
+use Rattle.sql_tree.specs.sql_token.Token.{OpenAt, Text}
 use Rattle.sql_tree.specs.Statement.{IsSyntaxAt}
 
 -- A token that never closes begins between two characters.

@@ -3,34 +3,34 @@ use Rattle.std.proofs.Common.{◌≡◌, ℕ, suc, ◌<◌, ◌≤◌, ◌⊎◌
 use Rattle.std.proofs.lemmas.List.Elements.{All-nil, All-cons, All-head, All-tail}
 use Rattle.std.specs.Prelude.{All}
 use Rattle.std.specs.Option.{option_map}
-use Rattle.sql_keyword.specs.declared.words.TheConstants.Keyword as keyword
-use Rattle.sql_token.specs.declared.terminal.Terminal.{Terminal}
-use Rattle.sql_token.specs.declared.token.Span.{Span}
-use Rattle.sql_tree.specs.declared.kinds.StmtKind.TheVariants as stmt
-use Rattle.sql_tree.specs.declared.nodes.Action.{Action}
-use Rattle.sql_tree.specs.declared.nodes.Body.TheVariants as body
-use Rattle.sql_tree.specs.declared.nodes.ColType.{ColType}
-use Rattle.sql_tree.specs.declared.nodes.Stmt.{Stmt}
-use Rattle.sql_tree.specs.Action.{action, several_actions}
-use Rattle.sql_tree.specs.Split.{all_of, and_others, comma, split}
-use Rattle.sql_tree.specs.Statement.{Tree, IsTree, without_semicolon}
-use Rattle.law_renumber.specs.Moved.{action_moved, type_moved}
-use Rattle.law_renumber.proofs.Actions.{action_numbers}
-use Rattle.law_renumber.proofs.NodeOrder.{Fixes, Sliced, fixed, split_sliced}
-use Rattle.law_renumber.proofs.Ordered.{Numbered, numbered_le}
-use Rattle.law_renumber.proofs.There.{IfThere}
-use Rattle.law_edit_inserts.specs.Apart.{outside}
-use Rattle.law_edit_inserts.specs.Concurrently.{key}
-use Rattle.law_edit_inserts.proofs.AlterShapes.{alter_table_shows}
-use Rattle.law_edit_inserts.proofs.Apart.{stays_within}
-use Rattle.law_edit_inserts.proofs.Detaches.{detach_shows}
-use Rattle.lint_node.specs.ColumnTypes.{action_types}
-use Rattle.lint_node.specs.Plain.{is_plain_detach}
-use Rattle.law_fixes.proofs.Detached.{is_plain}
+use Rattle.law_type_fixes.specs.sql_keyword.declared.words.TheConstants.Keyword as keyword
+use Rattle.law_type_fixes.specs.sql_token.declared.terminal.Terminal.{Terminal}
+use Rattle.law_type_fixes.specs.sql_token.declared.token.Span.{Span}
+use Rattle.law_type_fixes.specs.sql_tree.declared.kinds.StmtKind.TheVariants as stmt
+use Rattle.law_type_fixes.specs.sql_tree.declared.nodes.Action.{Action}
+use Rattle.law_type_fixes.specs.sql_tree.declared.nodes.Body.TheVariants as body
+use Rattle.law_type_fixes.specs.sql_tree.declared.nodes.ColType.{ColType}
+use Rattle.law_type_fixes.specs.sql_tree.declared.nodes.Stmt.{Stmt}
+use Rattle.law_type_fixes.specs.sql_tree.Action.{action, several_actions}
+use Rattle.law_type_fixes.specs.sql_tree.Split.{all_of, and_others, comma, split}
+use Rattle.law_type_fixes.specs.sql_tree.Statement.{Tree, IsTree, without_semicolon}
+use Rattle.law_type_fixes.specs.law_renumber.Moved.{action_moved, type_moved}
+use Rattle.law_type_fixes.proofs.of_law_renumber.Actions.{action_numbers}
+use Rattle.law_type_fixes.proofs.of_law_renumber.NodeOrder.{Fixes, Sliced, fixed, split_sliced}
+use Rattle.law_type_fixes.proofs.of_law_renumber.Ordered.{Numbered, numbered_le}
+use Rattle.law_type_fixes.proofs.of_law_renumber.There.{IfThere}
+use Rattle.law_type_fixes.specs.law_edit_inserts.Apart.{outside}
+use Rattle.law_type_fixes.specs.law_edit_inserts.Concurrently.{key}
+use Rattle.law_type_fixes.proofs.of_law_edit_inserts.AlterShapes.{alter_table_shows}
+use Rattle.law_type_fixes.proofs.of_law_edit_inserts.Apart.{stays_within}
+use Rattle.law_type_fixes.proofs.of_law_edit_inserts.Detaches.{detach_shows}
+use Rattle.law_type_fixes.specs.lint_node.ColumnTypes.{action_types}
+use Rattle.law_type_fixes.specs.lint_node.Plain.{is_plain_detach}
+use Rattle.law_type_fixes.proofs.of_law_fixes.Detached.{is_plain}
 use Rattle.law_type_fixes.proofs.ColumnTypes.{action_types_moved}
 use Rattle.law_type_fixes.proofs.Homes.{Home}
 use Rattle.law_type_fixes.proofs.TypesApart.{numbered_parts}
-use Rattle.law_edit_inserts.proofs.Apart.{stays}
+use Rattle.law_type_fixes.proofs.of_law_edit_inserts.Apart.{stays}
 use Rattle.law_fix_steps.proofs.Ascending.{ascends}
 use Rattle.law_fix_steps.proofs.Moved.{fixed_types}
 

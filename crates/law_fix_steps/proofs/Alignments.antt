@@ -2,10 +2,10 @@
 use Rattle.std.proofs.Common.{◌≡◌, ℕ, zero, suc, Bool, true, false, List, [], ◌∷◌, length, sym, refl, ap, ◌∙◌, subst}
 use Rattle.std.proofs.lemmas.List.Elements.{All-nil, All-cons, All-head}
 use Rattle.std.specs.Prelude.{◌&&◌, ◌||◌, not}
-use Rattle.sql_tree.specs.Statement.{Tree}
-use Rattle.lint_transaction.specs.Earlier.{any_below, concat_below, since}
-use Rattle.lint_transaction.specs.Transaction.{creates, creates_at, ends_at, is_open, opens_at, stmt_at}
-use Rattle.pass_session.specs.RequireTimeoutSettings.{sets_at, slow_at}
+use Rattle.law_type_fixes.specs.sql_tree.Statement.{Tree}
+use Rattle.law_type_fixes.specs.lint_transaction.Earlier.{any_below, concat_below, since}
+use Rattle.law_type_fixes.specs.lint_transaction.Transaction.{creates, creates_at, ends_at, is_open, opens_at, stmt_at}
+use Rattle.law_type_fixes.specs.pass_session.RequireTimeoutSettings.{sets_at, slow_at}
 use Rattle.law_fix_steps.specs.Kept.{Kept}
 use Rattle.law_fix_steps.specs.Left.{Left}
 use Rattle.law_fix_steps.proofs.Earlier.{any_shifted, since_shifted}

@@ -1,15 +1,15 @@
 -- The terminals of a statement ascend.
 use Rattle.std.proofs.Common.{◌≡◌, ℕ, suc, ◌+◌, ◌≤◌, List, [], ◌∷◌, ◌++◌, length, sym, refl, ap, ◌∙◌, subst, arith, Ok}
-use Rattle.sql_token.specs.declared.terminal.Terminal.{Terminal}
-use Rattle.sql_token.specs.Depth.{statements}
-use Rattle.sql_token.specs.Terminal.{terminals}
-use Rattle.sql_tree.specs.declared.nodes.Stmt.{Stmt}
-use Rattle.sql_tree.specs.Statement.{Tree, IsTree, without_semicolon}
-use Rattle.law_renumber.proofs.Ordered.{Numbered}
-use Rattle.law_edit_cuts.specs.Exchanges.{joined}
-use Rattle.law_edit_inserts.proofs.Fields.{ended}
-use Rattle.law_edit_inserts.proofs.TakenConcurrently.{Read, parts_of}
-use Rattle.law_edit_inserts.proofs.Statements.{joined_append, of_read, statements_join, stmt_at_place}
+use Rattle.law_type_fixes.specs.sql_token.declared.terminal.Terminal.{Terminal}
+use Rattle.law_type_fixes.specs.sql_token.Depth.{statements}
+use Rattle.law_type_fixes.specs.sql_token.Terminal.{terminals}
+use Rattle.law_type_fixes.specs.sql_tree.declared.nodes.Stmt.{Stmt}
+use Rattle.law_type_fixes.specs.sql_tree.Statement.{Tree, IsTree, without_semicolon}
+use Rattle.law_type_fixes.proofs.of_law_renumber.Ordered.{Numbered}
+use Rattle.law_type_fixes.specs.law_edit_cuts.Exchanges.{joined}
+use Rattle.law_type_fixes.proofs.of_law_edit_inserts.Fields.{ended}
+use Rattle.law_type_fixes.proofs.of_law_edit_inserts.TakenConcurrently.{Read, parts_of}
+use Rattle.law_type_fixes.proofs.of_law_edit_inserts.Statements.{joined_append, of_read, statements_join, stmt_at_place}
 use Rattle.law_type_fixes.proofs.TypesApart.{all_numbered, numbered_parts}
 
 -- and one more

@@ -2,20 +2,20 @@
 use Rattle.std.proofs.Common.{ℕ, Bool, true, false, cond, [], ◌∷◌, ◌++◌, refl, None, Some}
 use Rattle.std.proofs.lemmas.List.Elements.{All-nil, All-cons}
 use Rattle.std.specs.Prelude.{All}
-use Rattle.sql_tree.specs.declared.nodes.Body.{Body}
-use Rattle.sql_tree.specs.declared.nodes.Body.TheVariants as body
-use Rattle.sql_tree.specs.declared.nodes.Stmt.{Stmt}
-use Rattle.sql_tree.specs.Path.{path_cuts}
-use Rattle.sql_tree.specs.Range.{token_at}
-use Rattle.sql_tree.specs.Statement.{Tree}
-use Rattle.lint_base.specs.declared.settings.LinterSettings.{LinterSettings}
-use Rattle.lint_base.specs.declared.violation.Violation.{Violation}
-use Rattle.lint_node.specs.Plain.{is_plain_drop, is_plain_reindex}
-use Rattle.lint_transaction.specs.Transaction.{is_new}
-use Rattle.pass_concurrent.specs.RequireConcurrentIndexCreation as build
-use Rattle.pass_concurrent.specs.RequireConcurrentIndexDeletion as drops
-use Rattle.pass_concurrent.specs.RequireConcurrentReindex as reindexes
-use Rattle.law_fixes.specs.Mended.{builds_of}
+use Rattle.law_type_fixes.specs.sql_tree.declared.nodes.Body.{Body}
+use Rattle.law_type_fixes.specs.sql_tree.declared.nodes.Body.TheVariants as body
+use Rattle.law_type_fixes.specs.sql_tree.declared.nodes.Stmt.{Stmt}
+use Rattle.law_type_fixes.specs.sql_tree.Path.{path_cuts}
+use Rattle.law_type_fixes.specs.sql_tree.Range.{token_at}
+use Rattle.law_type_fixes.specs.sql_tree.Statement.{Tree}
+use Rattle.law_type_fixes.specs.lint_base.declared.settings.LinterSettings.{LinterSettings}
+use Rattle.law_type_fixes.specs.lint_base.declared.violation.Violation.{Violation}
+use Rattle.law_type_fixes.specs.lint_node.Plain.{is_plain_drop, is_plain_reindex}
+use Rattle.law_type_fixes.specs.lint_transaction.Transaction.{is_new}
+use Rattle.law_type_fixes.specs.pass_concurrent.RequireConcurrentIndexCreation as build
+use Rattle.law_type_fixes.specs.pass_concurrent.RequireConcurrentIndexDeletion as drops
+use Rattle.law_type_fixes.specs.pass_concurrent.RequireConcurrentReindex as reindexes
+use Rattle.law_type_fixes.specs.law_fixes.Mended.{builds_of}
 use Rattle.law_fix_steps.proofs.Left.{BeginsAt}
 
 one_begins : (place : ℕ) (v : Violation) → BeginsAt place v → All (BeginsAt place) (v ∷ [])

@@ -3,25 +3,25 @@ use Rattle.std.proofs.Common.{◌≡◌, ℕ, zero, suc, get_or, ◌+◌, ◌-�
 use Rattle.std.proofs.lemmas.List.{drop-drop, drop_more, take-append-drop, take_more}
 use Rattle.std.specs.Prelude.{◌||◌}
 use Rattle.std.specs.List.{list_any, starts_with}
-use Rattle.sql_token.proofs.Ahead.{Agree}
-use Rattle.sql_token.specs.declared.token.Tok.{Tok}
-use Rattle.sql_token.specs.declared.token.TokKind.{TokKind}
-use Rattle.sql_token.specs.declared.token.TokKind.TheVariants.{LineComment, BlockComment}
-use Rattle.sql_token.specs.Token.{Text, Leads, Lexed, text_of}
-use Rattle.sql_tree.specs.declared.nodes.Stmt.{Stmt}
-use Rattle.sql_tree.specs.Statement.{Tree, IsTree, no_token}
-use Rattle.law_edit_inserts.specs.Built.{concurrently_tree}
-use Rattle.law_edit_inserts.specs.SetInFront.{set_tree}
-use Rattle.law_edit_types.specs.Runs.{word_made, worded_tree}
-use Rattle.law_edit_tokens.specs.Edits.{concurrently_made, set_made}
-use Rattle.law_edit_tokens.specs.Exchange.{Made, exchanged, made_text, made_toks, reread, tok_moved}
-use Rattle.law_edit_tokens.proofs.After.{exchanged_after, exchanged_agrees, leads_append, leads_split, leads_within}
-use Rattle.law_edit_tokens.proofs.Prefix.{leads_grow}
-use Rattle.lint_ignore.specs.Comment.{inside, body_of, file_text, has_disable_comment, ignore_in, ignore_in_token, is_disable_body, is_disable_comment, line_text}
-use Rattle.lint_ignore.specs.declared.ignore.IgnoreKind.{IgnoreKind}
-use Rattle.lint_ignore.specs.declared.ignore.IgnoreKind.TheVariants.{File, Line}
-use Rattle.lint_ignore.specs.Part.{Part, part_after, part_before}
-use Rattle.law_fixes.proofs.Tokens.{text_after, text_prefix}
+use Rattle.law_type_fixes.proofs.of_sql_token.Ahead.{Agree}
+use Rattle.law_type_fixes.specs.sql_token.declared.token.Tok.{Tok}
+use Rattle.law_type_fixes.specs.sql_token.declared.token.TokKind.{TokKind}
+use Rattle.law_type_fixes.specs.sql_token.declared.token.TokKind.TheVariants.{LineComment, BlockComment}
+use Rattle.law_type_fixes.specs.sql_token.Token.{Text, Leads, Lexed, text_of}
+use Rattle.law_type_fixes.specs.sql_tree.declared.nodes.Stmt.{Stmt}
+use Rattle.law_type_fixes.specs.sql_tree.Statement.{Tree, IsTree, no_token}
+use Rattle.law_type_fixes.specs.law_edit_inserts.Built.{concurrently_tree}
+use Rattle.law_type_fixes.specs.law_edit_inserts.SetInFront.{set_tree}
+use Rattle.law_type_fixes.specs.law_edit_types.Runs.{word_made, worded_tree}
+use Rattle.law_type_fixes.specs.law_edit_tokens.Edits.{concurrently_made, set_made}
+use Rattle.law_type_fixes.specs.law_edit_tokens.Exchange.{Made, exchanged, made_text, made_toks, reread, tok_moved}
+use Rattle.law_type_fixes.proofs.of_law_edit_tokens.After.{exchanged_after, exchanged_agrees, leads_append, leads_split, leads_within}
+use Rattle.law_type_fixes.proofs.of_law_edit_tokens.Prefix.{leads_grow}
+use Rattle.law_type_fixes.specs.lint_ignore.Comment.{inside, body_of, file_text, has_disable_comment, ignore_in, ignore_in_token, is_disable_body, is_disable_comment, line_text}
+use Rattle.law_type_fixes.specs.lint_ignore.declared.ignore.IgnoreKind.{IgnoreKind}
+use Rattle.law_type_fixes.specs.lint_ignore.declared.ignore.IgnoreKind.TheVariants.{File, Line}
+use Rattle.law_type_fixes.specs.lint_ignore.Part.{Part, part_after, part_before}
+use Rattle.law_type_fixes.proofs.of_law_fixes.Tokens.{text_after, text_prefix}
 use Rattle.std.specs.Option.{option_and_then}
 use Rattle.std.specs.Prelude.{None, Some, is_some, nat_eq}
 use Rattle.law_fix_steps.specs.Step.{has_ignore_comment}

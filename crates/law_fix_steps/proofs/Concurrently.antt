@@ -6,51 +6,51 @@ use Rattle.std.proofs.lemmas.List.{length-map, map-append}
 use Rattle.std.proofs.lemmas.List.Elements.{All-nil, All-cons, All-tail, All-weaker}
 use Rattle.std.specs.Prelude.{All, ◌==◌, ◌&&◌}
 use Rattle.std.specs.List.{flat_map}
-use Rattle.sql_token.specs.declared.token.Span.{Span}
-use Rattle.sql_token.specs.declared.token.Tok.{Tok}
-use Rattle.sql_token.specs.Token.{text_of}
-use Rattle.sql_tree.specs.declared.kinds.ActionKind.TheVariants as action
-use Rattle.sql_tree.specs.declared.kinds.StmtKind.{StmtKind}
-use Rattle.sql_tree.specs.declared.kinds.StmtKind.TheVariants as stmt
-use Rattle.sql_tree.specs.declared.nodes.Action.{Action}
-use Rattle.sql_tree.specs.declared.nodes.Body.{Body}
-use Rattle.sql_tree.specs.declared.nodes.Body.TheVariants as body
-use Rattle.sql_tree.specs.declared.nodes.ColType.{ColType}
-use Rattle.sql_tree.specs.declared.nodes.Stmt.{Stmt}
-use Rattle.sql_tree.specs.Nodes.{actions_in, elements_in}
-use Rattle.sql_tree.specs.Range.{token_at}
-use Rattle.sql_tree.specs.Statement.{Tree, IsTree}
-use Rattle.law_renumber.specs.Moved.{action_moved, body_moved, stmt_moved, type_moved}
-use Rattle.law_edit_tokens.specs.Edits.{concurrently_made}
-use Rattle.law_edit_tokens.specs.Exchange.{made_text}
-use Rattle.law_edit_tokens.proofs.After.{exchanged_after, exchanged_agrees}
-use Rattle.law_edit_inserts.specs.Apart.{outside}
-use Rattle.law_edit_inserts.specs.Built.{concurrently_tree, detached_stmt, concurrent_stmt, room_after, DetachTakesConcurrently, TakesConcurrently}
-use Rattle.law_edit_inserts.specs.Built.TakesConcurrently.{index, dropped, rebuilt}
-use Rattle.law_edit_inserts.specs.Concurrently.{concurrent_action, concurrent_body}
-use Rattle.law_edit_inserts.proofs.Apart.{stays_within, statements_apart}
-use Rattle.lint_base.specs.declared.settings.LinterSettings.{LinterSettings}
-use Rattle.lint_base.specs.declared.violation.Violation.{Violation}
-use Rattle.lint_lock.specs.Slow.{has_reference, is_slow}
-use Rattle.lint_node.specs.ColumnTypes.{action_types, column_types, element_types}
-use Rattle.lint_node.specs.Plain.{drops_plainly, is_plain_detach, rebuilds_plainly}
-use Rattle.lint_node.specs.Same.{same_action, same_kind}
-use Rattle.lint_pass.specs.Those.{that, those}
-use Rattle.lint_transaction.specs.Transaction.{begins, created_by, is_path, stmt_at}
-use Rattle.pass_concurrent.specs.RequireConcurrentIndexCreation as build
-use Rattle.pass_concurrent.specs.RequireConcurrentIndexDeletion as drops
-use Rattle.pass_concurrent.specs.RequireConcurrentPartitionDetach as detaches
-use Rattle.pass_concurrent.specs.RequireConcurrentReindex as reindexes
-use Rattle.pass_session.specs.RequireTimeoutSettings.{is_parameter, parameter_by}
-use Rattle.law_fixes.specs.Mended.{builds_of}
-use Rattle.law_fixes.specs.Moved.{start_moved}
-use Rattle.law_fixes.specs.Stays.{place_of, inserted}
-use Rattle.law_fixes.proofs.Detached.{all_after, all_before, stmt_actions_fixed}
-use Rattle.law_fixes.proofs.Detached as detached
-use Rattle.law_fixes.proofs.Statements.{Added, Aside, Other, inside, others, path_aside, this_new, this_old}
-use Rattle.law_fixes.proofs.Tokens.{high_token, low_token, placed, text_after, text_prefix}
-use Rattle.law_fixes.proofs.WordRules.{added}
-use Rattle.law_fixes.proofs.Words.{start_low, start_high}
+use Rattle.law_type_fixes.specs.sql_token.declared.token.Span.{Span}
+use Rattle.law_type_fixes.specs.sql_token.declared.token.Tok.{Tok}
+use Rattle.law_type_fixes.specs.sql_token.Token.{text_of}
+use Rattle.law_type_fixes.specs.sql_tree.declared.kinds.ActionKind.TheVariants as action
+use Rattle.law_type_fixes.specs.sql_tree.declared.kinds.StmtKind.{StmtKind}
+use Rattle.law_type_fixes.specs.sql_tree.declared.kinds.StmtKind.TheVariants as stmt
+use Rattle.law_type_fixes.specs.sql_tree.declared.nodes.Action.{Action}
+use Rattle.law_type_fixes.specs.sql_tree.declared.nodes.Body.{Body}
+use Rattle.law_type_fixes.specs.sql_tree.declared.nodes.Body.TheVariants as body
+use Rattle.law_type_fixes.specs.sql_tree.declared.nodes.ColType.{ColType}
+use Rattle.law_type_fixes.specs.sql_tree.declared.nodes.Stmt.{Stmt}
+use Rattle.law_type_fixes.specs.sql_tree.Nodes.{actions_in, elements_in}
+use Rattle.law_type_fixes.specs.sql_tree.Range.{token_at}
+use Rattle.law_type_fixes.specs.sql_tree.Statement.{Tree, IsTree}
+use Rattle.law_type_fixes.specs.law_renumber.Moved.{action_moved, body_moved, stmt_moved, type_moved}
+use Rattle.law_type_fixes.specs.law_edit_tokens.Edits.{concurrently_made}
+use Rattle.law_type_fixes.specs.law_edit_tokens.Exchange.{made_text}
+use Rattle.law_type_fixes.proofs.of_law_edit_tokens.After.{exchanged_after, exchanged_agrees}
+use Rattle.law_type_fixes.specs.law_edit_inserts.Apart.{outside}
+use Rattle.law_type_fixes.specs.law_edit_inserts.Built.{concurrently_tree, detached_stmt, concurrent_stmt, room_after, DetachTakesConcurrently, TakesConcurrently}
+use Rattle.law_type_fixes.specs.law_edit_inserts.Built.TakesConcurrently.{index, dropped, rebuilt}
+use Rattle.law_type_fixes.specs.law_edit_inserts.Concurrently.{concurrent_action, concurrent_body}
+use Rattle.law_type_fixes.proofs.of_law_edit_inserts.Apart.{stays_within, statements_apart}
+use Rattle.law_type_fixes.specs.lint_base.declared.settings.LinterSettings.{LinterSettings}
+use Rattle.law_type_fixes.specs.lint_base.declared.violation.Violation.{Violation}
+use Rattle.law_type_fixes.specs.lint_lock.Slow.{has_reference, is_slow}
+use Rattle.law_type_fixes.specs.lint_node.ColumnTypes.{action_types, column_types, element_types}
+use Rattle.law_type_fixes.specs.lint_node.Plain.{drops_plainly, is_plain_detach, rebuilds_plainly}
+use Rattle.law_type_fixes.specs.lint_node.Same.{same_action, same_kind}
+use Rattle.law_type_fixes.specs.lint_pass.Those.{that, those}
+use Rattle.law_type_fixes.specs.lint_transaction.Transaction.{begins, created_by, is_path, stmt_at}
+use Rattle.law_type_fixes.specs.pass_concurrent.RequireConcurrentIndexCreation as build
+use Rattle.law_type_fixes.specs.pass_concurrent.RequireConcurrentIndexDeletion as drops
+use Rattle.law_type_fixes.specs.pass_concurrent.RequireConcurrentPartitionDetach as detaches
+use Rattle.law_type_fixes.specs.pass_concurrent.RequireConcurrentReindex as reindexes
+use Rattle.law_type_fixes.specs.pass_session.RequireTimeoutSettings.{is_parameter, parameter_by}
+use Rattle.law_type_fixes.specs.law_fixes.Mended.{builds_of}
+use Rattle.law_type_fixes.specs.law_fixes.Moved.{start_moved}
+use Rattle.law_type_fixes.specs.law_fixes.Stays.{place_of, inserted}
+use Rattle.law_type_fixes.proofs.of_law_fixes.Detached.{all_after, all_before, stmt_actions_fixed}
+use Rattle.law_type_fixes.proofs.of_law_fixes.Detached as detached
+use Rattle.law_type_fixes.proofs.of_law_fixes.Statements.{Added, Aside, Other, inside, others, path_aside, this_new, this_old}
+use Rattle.law_type_fixes.proofs.of_law_fixes.Tokens.{high_token, low_token, placed, text_after, text_prefix}
+use Rattle.law_type_fixes.proofs.of_law_fixes.WordRules.{added}
+use Rattle.law_type_fixes.proofs.of_law_fixes.Words.{start_low, start_high}
 use Rattle.law_type_fixes.specs.Rules.{TypeRule, reports_on}
 use Rattle.law_type_fixes.proofs.ColumnTypes.{types_moved}
 use Rattle.law_type_fixes.proofs.Homes.{flat_append}

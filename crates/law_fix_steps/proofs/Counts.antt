@@ -6,10 +6,10 @@ use Rattle.std.proofs.lemmas.Map.Views.{length-le_from_below}
 use Rattle.std.specs.Prelude.{All}
 use Rattle.std.specs.List.{flat_map}
 use Rattle.std.specs.List.Sorted.{IsStrictlyIncreasing}
-use Rattle.lint_base.specs.declared.violation.Violation.{Violation}
-use Rattle.lint_pass.specs.Those.{that, those}
-use Rattle.lint_transaction.specs.Earlier.{concat_below}
-use Rattle.law_renumber.proofs.Ordered.{Up}
+use Rattle.law_type_fixes.specs.lint_base.declared.violation.Violation.{Violation}
+use Rattle.law_type_fixes.specs.lint_pass.Those.{that, those}
+use Rattle.law_type_fixes.specs.lint_transaction.Earlier.{concat_below}
+use Rattle.law_type_fixes.proofs.of_law_renumber.Ordered.{Up}
 
 -- ---- joined lists
 

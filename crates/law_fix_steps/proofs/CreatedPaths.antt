@@ -2,47 +2,47 @@
 use Rattle.std.proofs.Common.{◌≡◌, ℕ, suc, ◌-◌, ◌<◌, ◌≤◌, Bool, true, false, cond, List, [], ◌∷◌, ◌++◌, map, take, sym, refl, ap, ◌∙◌, subst, arith, Option, Some, None}
 use Rattle.std.specs.List.{flat_map}
 use Rattle.std.specs.Option.{option_map, option_to_list}
-use Rattle.sql_keyword.specs.declared.words.TheConstants.Keyword as keyword
-use Rattle.sql_token.specs.declared.terminal.Terminal.{Terminal}
-use Rattle.sql_token.specs.declared.token.Span.{Span}
-use Rattle.sql_token.specs.Depth.{has_keyword}
-use Rattle.sql_token.specs.declared.terminal.Symbol.{Symbol}
-use Rattle.sql_token.specs.declared.terminal.Symbol.TheVariants as s
-use Rattle.sql_token.specs.Terminal.{is_keyword, is_semicolon, is_semicolon_symbol}
-use Rattle.sql_tree.specs.declared.kinds.StmtKind.{StmtKind}
-use Rattle.sql_tree.specs.declared.kinds.StmtKind.TheVariants as stmt
-use Rattle.sql_tree.specs.declared.nodes.Body.{Body}
-use Rattle.sql_tree.specs.declared.nodes.Body.TheVariants as body
-use Rattle.sql_tree.specs.declared.nodes.ColType.{ColType}
-use Rattle.sql_tree.specs.declared.nodes.Elem.{Elem}
-use Rattle.sql_tree.specs.declared.nodes.Elem.TheVariants as elem
-use Rattle.sql_tree.specs.declared.nodes.Stmt.{Stmt}
-use Rattle.sql_tree.specs.Column.{element, elements, listed, type_in}
-use Rattle.sql_tree.specs.ColumnType.{type_len}
-use Rattle.sql_tree.specs.Groups.{inside_list, is_empty}
-use Rattle.sql_tree.specs.Nodes as node
-use Rattle.sql_tree.specs.Nodes.{elements_in}
-use Rattle.sql_tree.specs.Split.{begins_list, closing, comma, is_open_round_symbol, split}
-use Rattle.sql_tree.specs.Statement.{Tree, IsTree, form_of, without_semicolon}
-use Rattle.law_renumber.specs.Moved.{form_moved, span_moved}
-use Rattle.law_renumber.specs.Renumber.{renumber}
-use Rattle.law_renumber.proofs.ElementOrder.{element_is}
-use Rattle.law_renumber.proofs.NodeOrder.{Sliced, fixed, split_sliced, take_numbered}
-use Rattle.law_renumber.proofs.Ordered.{Numbered, numbered_le, numbered_lower}
-use Rattle.law_renumber.proofs.Seen.{numbers}
-use Rattle.law_renumber.proofs.Statements.{form_renumbers, numbers_kept}
-use Rattle.law_renumber.specs.Options.{FormKept}
-use Rattle.law_edit_inserts.specs.Apart.{outside}
-use Rattle.law_edit_inserts.proofs.Apart.{stays_within}
-use Rattle.law_edit_inserts.proofs.TakenConcurrently.{bare_one}
-use Rattle.law_edit_types.specs.Created.{TableHead, table_of}
-use Rattle.law_edit_types.proofs.Created.{begun, round_break}
-use Rattle.law_edit_types.proofs.CreateFronts.{create_table_shows}
-use Rattle.lint_node.specs.ColumnTypes.{column_types, element_type, element_types}
+use Rattle.law_type_fixes.specs.sql_keyword.declared.words.TheConstants.Keyword as keyword
+use Rattle.law_type_fixes.specs.sql_token.declared.terminal.Terminal.{Terminal}
+use Rattle.law_type_fixes.specs.sql_token.declared.token.Span.{Span}
+use Rattle.law_type_fixes.specs.sql_token.Depth.{has_keyword}
+use Rattle.law_type_fixes.specs.sql_token.declared.terminal.Symbol.{Symbol}
+use Rattle.law_type_fixes.specs.sql_token.declared.terminal.Symbol.TheVariants as s
+use Rattle.law_type_fixes.specs.sql_token.Terminal.{is_keyword, is_semicolon, is_semicolon_symbol}
+use Rattle.law_type_fixes.specs.sql_tree.declared.kinds.StmtKind.{StmtKind}
+use Rattle.law_type_fixes.specs.sql_tree.declared.kinds.StmtKind.TheVariants as stmt
+use Rattle.law_type_fixes.specs.sql_tree.declared.nodes.Body.{Body}
+use Rattle.law_type_fixes.specs.sql_tree.declared.nodes.Body.TheVariants as body
+use Rattle.law_type_fixes.specs.sql_tree.declared.nodes.ColType.{ColType}
+use Rattle.law_type_fixes.specs.sql_tree.declared.nodes.Elem.{Elem}
+use Rattle.law_type_fixes.specs.sql_tree.declared.nodes.Elem.TheVariants as elem
+use Rattle.law_type_fixes.specs.sql_tree.declared.nodes.Stmt.{Stmt}
+use Rattle.law_type_fixes.specs.sql_tree.Column.{element, elements, listed, type_in}
+use Rattle.law_type_fixes.specs.sql_tree.ColumnType.{type_len}
+use Rattle.law_type_fixes.specs.sql_tree.Groups.{inside_list, is_empty}
+use Rattle.law_type_fixes.specs.sql_tree.Nodes as node
+use Rattle.law_type_fixes.specs.sql_tree.Nodes.{elements_in}
+use Rattle.law_type_fixes.specs.sql_tree.Split.{begins_list, closing, comma, is_open_round_symbol, split}
+use Rattle.law_type_fixes.specs.sql_tree.Statement.{Tree, IsTree, form_of, without_semicolon}
+use Rattle.law_type_fixes.specs.law_renumber.Moved.{form_moved, span_moved}
+use Rattle.law_type_fixes.specs.law_renumber.Renumber.{renumber}
+use Rattle.law_type_fixes.proofs.of_law_renumber.ElementOrder.{element_is}
+use Rattle.law_type_fixes.proofs.of_law_renumber.NodeOrder.{Sliced, fixed, split_sliced, take_numbered}
+use Rattle.law_type_fixes.proofs.of_law_renumber.Ordered.{Numbered, numbered_le, numbered_lower}
+use Rattle.law_type_fixes.proofs.of_law_renumber.Seen.{numbers}
+use Rattle.law_type_fixes.proofs.of_law_renumber.Statements.{form_renumbers, numbers_kept}
+use Rattle.law_type_fixes.specs.law_renumber.Options.{FormKept}
+use Rattle.law_type_fixes.specs.law_edit_inserts.Apart.{outside}
+use Rattle.law_type_fixes.proofs.of_law_edit_inserts.Apart.{stays_within}
+use Rattle.law_type_fixes.proofs.of_law_edit_inserts.TakenConcurrently.{bare_one}
+use Rattle.law_type_fixes.specs.law_edit_types.Created.{TableHead, table_of}
+use Rattle.law_type_fixes.proofs.of_law_edit_types.Created.{begun, round_break}
+use Rattle.law_type_fixes.proofs.of_law_edit_types.CreateFronts.{create_table_shows}
+use Rattle.law_type_fixes.specs.lint_node.ColumnTypes.{column_types, element_type, element_types}
 use Rattle.law_type_fixes.proofs.Inners.{made_types, none_of}
 use Rattle.law_type_fixes.proofs.Ranged.{Ranged, ranged_le, ranged_parts, walk_ranged}
 use Rattle.law_type_fixes.proofs.TypesApart.{numbered_parts}
-use Rattle.law_edit_inserts.proofs.Apart.{stays}
+use Rattle.law_type_fixes.proofs.of_law_edit_inserts.Apart.{stays}
 use Rattle.law_fix_steps.proofs.Ascending.{ascends, numbered_one}
 
 -- ---- the types of elements

@@ -3,7 +3,7 @@ use Rattle.std.proofs.Common.{◌≡◌, ℕ, zero, suc, Bool, true, false, refl
 use Rattle.std.proofs.lemmas.Bool.Decides.{nat_tests}
 use Rattle.std.proofs.Common.{arith}
 use Rattle.std.specs.Prelude.{◌&&◌, ◌||◌, not, nat_lt}
-use Rattle.lint_transaction.specs.Earlier.{any_below, any_between, since}
+use Rattle.law_type_fixes.specs.lint_transaction.Earlier.{any_below, any_between, since}
 
 pub any_shifted : (p q : ℕ → Bool) → p 0 ≡ false → ((i : ℕ) → p (suc i) ≡ q i) → (n : ℕ) → any_below p (suc n) ≡ any_below q n
 any_shifted p q none same zero = none

@@ -1,10 +1,10 @@
 -- What is asked of the edits of a fix that is a step.
 use Rattle.std.specs.Prelude.{List, All}
-use Rattle.sql_tree.specs.Statement.{Tree, IsTree}
-use Rattle.lint_base.specs.declared.edit.Edit.{Edit}
-use Rattle.lint_base.specs.declared.settings.LinterSettings.{LinterSettings}
-use Rattle.lint_base.specs.RuleSets.{Rules}
-use Rattle.law_fixes.specs.Mended.{Table}
+use Rattle.law_type_fixes.specs.sql_tree.Statement.{Tree, IsTree}
+use Rattle.law_type_fixes.specs.lint_base.declared.edit.Edit.{Edit}
+use Rattle.law_type_fixes.specs.lint_base.declared.settings.LinterSettings.{LinterSettings}
+use Rattle.law_type_fixes.specs.lint_base.RuleSets.{Rules}
+use Rattle.law_type_fixes.specs.law_fixes.Mended.{Table}
 use Rattle.law_type_fixes.specs.Mended.{AreApart}
 use Rattle.law_fix_steps.specs.Leaves.{FixLeaves}
 use Rattle.law_fix_steps.specs.Step.{FixSteps}

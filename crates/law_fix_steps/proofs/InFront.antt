@@ -4,36 +4,36 @@ use Rattle.std.proofs.lemmas.Bool.Decides.{nat_tests}
 use Rattle.std.proofs.lemmas.List.{get_or-append_right, get_or-map, length-map}
 use Rattle.std.proofs.lemmas.List.Elements.{All-nil, All-cons}
 use Rattle.std.specs.Prelude.{All, ◌==◌, ◌&&◌}
-use Rattle.sql_token.specs.declared.terminal.Terminal.{Terminal}
-use Rattle.sql_token.specs.declared.token.Span.{Span}
-use Rattle.sql_token.specs.declared.token.Tok.{Tok}
-use Rattle.sql_token.specs.Depth.{statements}
-use Rattle.sql_token.specs.Terminal.{terminals, terminals_from}
-use Rattle.sql_token.specs.Token.{Leads, Text, text_of}
-use Rattle.sql_tree.specs.declared.nodes.ColType.{ColType}
-use Rattle.sql_tree.specs.declared.nodes.Stmt.{Stmt}
-use Rattle.sql_tree.specs.Range.{token_at}
-use Rattle.sql_tree.specs.Statement.{Tree, IsTree, no_token, statement}
-use Rattle.law_renumber.specs.Moved.{stmt_moved}
-use Rattle.law_edit_cuts.specs.Exchanges.{joined}
-use Rattle.law_edit_tokens.specs.Edits.{set_made}
-use Rattle.law_edit_tokens.specs.Exchange.{made_text, made_toks, tok_moved}
-use Rattle.law_edit_tokens.proofs.After.{exchanged_after, leads_split, leads_within}
-use Rattle.law_edit_tokens.proofs.Terminals.{quiet_terms, terms_append}
-use Rattle.law_edit_inserts.specs.SetInFront.{room_before, set_stmt, set_tree}
-use Rattle.law_edit_inserts.proofs.Apart.{span_is, stays_within, statements_apart}
-use Rattle.law_edit_inserts.proofs.Statements.{full_parts, joined_append, of_read, statements_join, stmt_at_place}
-use Rattle.law_renumber.proofs.Readings.{NoneEmpty, statements_full}
-use Rattle.law_edit_inserts.proofs.Tokens.{AtLeast, least_parts, terms_least}
-use Rattle.lint_base.specs.declared.violation.Violation.{Violation}
-use Rattle.lint_node.specs.Same.{same_kind}
-use Rattle.lint_transaction.specs.Transaction.{no_stmt}
-use Rattle.pass_concurrent.specs.RequireConcurrentIndexDeletion as drops
-use Rattle.sql_tree.specs.declared.kinds.StmtKind.TheVariants as stmt
-use Rattle.law_fixes.specs.Moved.{start_moved}
-use Rattle.law_fixes.proofs.TimeoutFixes.{FirstOf}
-use Rattle.law_fixes.proofs.Tokens.{placed, text_after}
-use Rattle.law_fixes.proofs.Words.{start_high}
+use Rattle.law_type_fixes.specs.sql_token.declared.terminal.Terminal.{Terminal}
+use Rattle.law_type_fixes.specs.sql_token.declared.token.Span.{Span}
+use Rattle.law_type_fixes.specs.sql_token.declared.token.Tok.{Tok}
+use Rattle.law_type_fixes.specs.sql_token.Depth.{statements}
+use Rattle.law_type_fixes.specs.sql_token.Terminal.{terminals, terminals_from}
+use Rattle.law_type_fixes.specs.sql_token.Token.{Leads, Text, text_of}
+use Rattle.law_type_fixes.specs.sql_tree.declared.nodes.ColType.{ColType}
+use Rattle.law_type_fixes.specs.sql_tree.declared.nodes.Stmt.{Stmt}
+use Rattle.law_type_fixes.specs.sql_tree.Range.{token_at}
+use Rattle.law_type_fixes.specs.sql_tree.Statement.{Tree, IsTree, no_token, statement}
+use Rattle.law_type_fixes.specs.law_renumber.Moved.{stmt_moved}
+use Rattle.law_type_fixes.specs.law_edit_cuts.Exchanges.{joined}
+use Rattle.law_type_fixes.specs.law_edit_tokens.Edits.{set_made}
+use Rattle.law_type_fixes.specs.law_edit_tokens.Exchange.{made_text, made_toks, tok_moved}
+use Rattle.law_type_fixes.proofs.of_law_edit_tokens.After.{exchanged_after, leads_split, leads_within}
+use Rattle.law_type_fixes.proofs.of_law_edit_tokens.Terminals.{quiet_terms, terms_append}
+use Rattle.law_type_fixes.specs.law_edit_inserts.SetInFront.{room_before, set_stmt, set_tree}
+use Rattle.law_type_fixes.proofs.of_law_edit_inserts.Apart.{span_is, stays_within, statements_apart}
+use Rattle.law_type_fixes.proofs.of_law_edit_inserts.Statements.{full_parts, joined_append, of_read, statements_join, stmt_at_place}
+use Rattle.law_type_fixes.proofs.of_law_renumber.Readings.{NoneEmpty, statements_full}
+use Rattle.law_type_fixes.proofs.of_law_edit_inserts.Tokens.{AtLeast, least_parts, terms_least}
+use Rattle.law_type_fixes.specs.lint_base.declared.violation.Violation.{Violation}
+use Rattle.law_type_fixes.specs.lint_node.Same.{same_kind}
+use Rattle.law_type_fixes.specs.lint_transaction.Transaction.{no_stmt}
+use Rattle.law_type_fixes.specs.pass_concurrent.RequireConcurrentIndexDeletion as drops
+use Rattle.law_type_fixes.specs.sql_tree.declared.kinds.StmtKind.TheVariants as stmt
+use Rattle.law_type_fixes.specs.law_fixes.Moved.{start_moved}
+use Rattle.law_type_fixes.proofs.of_law_fixes.TimeoutFixes.{FirstOf}
+use Rattle.law_type_fixes.proofs.of_law_fixes.Tokens.{placed, text_after}
+use Rattle.law_type_fixes.proofs.of_law_fixes.Words.{start_high}
 use Rattle.law_type_fixes.specs.Rules.{TypeRule, reports_on}
 use Rattle.law_type_fixes.proofs.ColumnTypes.{no_types}
 use Rattle.law_fix_steps.specs.Kept.{Kept}

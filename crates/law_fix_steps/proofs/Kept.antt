@@ -2,9 +2,9 @@
 use Rattle.std.proofs.Common.{◌≡◌, ℕ, zero, suc, ◌<◌, ◌≤◌, inl, inr, Bool, true, false, cond, List, [], ◌∷◌, ◌++◌, map, length, sym, refl, ◌∙◌, subst, arith}
 use Rattle.std.proofs.lemmas.List.Elements.{All-head, All-tail}
 use Rattle.std.specs.Prelude.{All}
-use Rattle.lint_base.specs.declared.violation.Violation.{Violation}
-use Rattle.lint_transaction.specs.Earlier.{concat_below}
-use Rattle.lint_pass.specs.Those.{that, those}
+use Rattle.law_type_fixes.specs.lint_base.declared.violation.Violation.{Violation}
+use Rattle.law_type_fixes.specs.lint_transaction.Earlier.{concat_below}
+use Rattle.law_type_fixes.specs.lint_pass.Those.{that, those}
 use Rattle.law_fix_steps.specs.Kept.{SameAt, Kept}
 
 module _ (move : ℕ → ℕ) where

@@ -3,22 +3,22 @@ use Rattle.std.proofs.Common.{◌≡◌, ℕ, Bool, true, false, cond, List, [],
 use Rattle.std.proofs.lemmas.Bool.{false≢true}
 use Rattle.std.proofs.lemmas.List.Elements.{All-nil, All-cons, All-head, All-tail, All-weaker}
 use Rattle.std.specs.Prelude.{All, ◌&&◌}
-use Rattle.sql_tree.specs.declared.nodes.Stmt.{Stmt}
-use Rattle.sql_tree.specs.Range.{token_at}
-use Rattle.sql_tree.specs.Statement.{Tree}
-use Rattle.lint_base.specs.declared.rule.Rule.{Rule}
-use Rattle.lint_base.specs.declared.rule.Rule.TheVariants as rule
-use Rattle.lint_base.specs.declared.settings.LinterSettings.{LinterSettings}
-use Rattle.lint_base.specs.declared.violation.Violation.{Violation}
-use Rattle.lint_base.specs.RuleSets.{Rules, has}
-use Rattle.lint_lock.specs.Slow.{is_slow}
-use Rattle.lint_node.specs.ColumnTypes.{column_types}
-use Rattle.lint_pass.specs.RuleTables.{enabled_reports}
-use Rattle.lint_transaction.specs.Earlier.{concat_below}
-use Rattle.lint_transaction.specs.Transaction.{begins, ends, chains, creates, is_new, stmt_at}
-use Rattle.pass_concurrent.specs.RequireConcurrentPartitionDetach.{reports_of_require_concurrent_partition_detach}
-use Rattle.pass_session.specs.RequireTimeoutSettings.{both_reports, is_first_slow, is_set, lock_report, lock_reports, lock_timeout, sets, statement_report, statement_reports, statement_timeout, timeouts_at, unless}
-use Rattle.law_fixes.specs.Mended.{Reports, Table, table_by, builds_of, deletions_of, rebuilds_of, detachments_of, builds, dropped, rebuilt, detached}
+use Rattle.law_type_fixes.specs.sql_tree.declared.nodes.Stmt.{Stmt}
+use Rattle.law_type_fixes.specs.sql_tree.Range.{token_at}
+use Rattle.law_type_fixes.specs.sql_tree.Statement.{Tree}
+use Rattle.law_type_fixes.specs.lint_base.declared.rule.Rule.{Rule}
+use Rattle.law_type_fixes.specs.lint_base.declared.rule.Rule.TheVariants as rule
+use Rattle.law_type_fixes.specs.lint_base.declared.settings.LinterSettings.{LinterSettings}
+use Rattle.law_type_fixes.specs.lint_base.declared.violation.Violation.{Violation}
+use Rattle.law_type_fixes.specs.lint_base.RuleSets.{Rules, has}
+use Rattle.law_type_fixes.specs.lint_lock.Slow.{is_slow}
+use Rattle.law_type_fixes.specs.lint_node.ColumnTypes.{column_types}
+use Rattle.law_type_fixes.specs.lint_pass.RuleTables.{enabled_reports}
+use Rattle.law_type_fixes.specs.lint_transaction.Earlier.{concat_below}
+use Rattle.law_type_fixes.specs.lint_transaction.Transaction.{begins, ends, chains, creates, is_new, stmt_at}
+use Rattle.law_type_fixes.specs.pass_concurrent.RequireConcurrentPartitionDetach.{reports_of_require_concurrent_partition_detach}
+use Rattle.law_type_fixes.specs.pass_session.RequireTimeoutSettings.{both_reports, is_first_slow, is_set, lock_report, lock_reports, lock_timeout, sets, statement_report, statement_reports, statement_timeout, timeouts_at, unless}
+use Rattle.law_type_fixes.specs.law_fixes.Mended.{Reports, Table, table_by, builds_of, deletions_of, rebuilds_of, detachments_of, builds, dropped, rebuilt, detached}
 use Rattle.law_type_fixes.specs.Rules.{TypeRule, reports_on, type_reports, type_table, ints, smallints, timestamps, varchars}
 use Rattle.law_fix_steps.specs.Kept.{SameAt, Kept}
 use Rattle.law_fix_steps.specs.Leaves.{followed_tables}

@@ -4,40 +4,40 @@ use Rattle.std.proofs.lemmas.List.{length-map}
 use Rattle.std.proofs.lemmas.List.Elements.{All-nil, All-cons, All-weaker}
 use Rattle.std.specs.Prelude.{All}
 use Rattle.std.specs.List.{flat_map}
-use Rattle.sql_token.proofs.Boundaries.{tokens_few}
-use Rattle.sql_token.specs.declared.terminal.Terminal.{Terminal}
-use Rattle.sql_tree.specs.declared.kinds.StmtKind.TheVariants as stmt
-use Rattle.sql_tree.specs.declared.nodes.Action.{Action}
-use Rattle.sql_tree.specs.declared.nodes.Body.{Body}
-use Rattle.sql_tree.specs.declared.nodes.Body.TheVariants as body
-use Rattle.sql_tree.specs.declared.nodes.ColType.{ColType}
-use Rattle.sql_tree.specs.declared.nodes.Stmt.{Stmt}
-use Rattle.sql_tree.specs.Nodes.{action_starts, actions_in, statement_starts, types_in}
-use Rattle.sql_tree.specs.Path.{path_cuts}
-use Rattle.sql_tree.specs.Statement.{Tree, IsTree, statement}
-use Rattle.law_renumber.specs.Moved.{action_moved}
-use Rattle.law_renumber.proofs.NodeOrder.{actions_ascend, statements_ascend, tree_up}
-use Rattle.law_renumber.proofs.Ordered.{Numbered, Up, up_lower}
-use Rattle.law_renumber.proofs.There.{IfThere}
-use Rattle.law_edit_inserts.specs.Apart.{outside}
-use Rattle.law_edit_inserts.proofs.Apart.{stays_within, statements_apart}
-use Rattle.lint_base.specs.declared.rule.Rule.{Rule}
-use Rattle.lint_base.specs.declared.rule.Rule.TheVariants as rule
-use Rattle.lint_base.specs.declared.settings.LinterSettings.{LinterSettings}
-use Rattle.lint_base.specs.declared.violation.Violation.{Violation}
-use Rattle.lint_base.specs.RuleSets.{Rules, has}
-use Rattle.lint_node.specs.ColumnTypes.{column_types}
-use Rattle.lint_node.specs.Plain.{is_plain_detach, is_plain_drop, is_plain_reindex}
-use Rattle.lint_node.specs.Same.{same_kind}
-use Rattle.lint_pass.specs.RuleTables.{enabled_reports}
-use Rattle.lint_transaction.specs.Transaction.{no_stmt, is_new, stmt_at}
-use Rattle.pass_concurrent.specs.RequireConcurrentIndexCreation as build
-use Rattle.pass_concurrent.specs.RequireConcurrentIndexDeletion as drops
-use Rattle.pass_concurrent.specs.RequireConcurrentPartitionDetach as detaches
-use Rattle.pass_concurrent.specs.RequireConcurrentReindex as reindexes
-use Rattle.pass_session.specs.RequireTimeoutSettings.{both_reports, is_first_slow, is_set, lock_report, lock_reports, lock_timeout, statement_report, statement_reports, statement_timeout, timeouts_at, unless}
-use Rattle.law_fixes.specs.Mended.{Reports, table_by, builds_of, deletions_of, rebuilds_of, detachments_of, builds, dropped, rebuilt, detached}
-use Rattle.law_fixes.proofs.Detached.{stmt_actions_fixed}
+use Rattle.law_type_fixes.proofs.of_sql_token.Boundaries.{tokens_few}
+use Rattle.law_type_fixes.specs.sql_token.declared.terminal.Terminal.{Terminal}
+use Rattle.law_type_fixes.specs.sql_tree.declared.kinds.StmtKind.TheVariants as stmt
+use Rattle.law_type_fixes.specs.sql_tree.declared.nodes.Action.{Action}
+use Rattle.law_type_fixes.specs.sql_tree.declared.nodes.Body.{Body}
+use Rattle.law_type_fixes.specs.sql_tree.declared.nodes.Body.TheVariants as body
+use Rattle.law_type_fixes.specs.sql_tree.declared.nodes.ColType.{ColType}
+use Rattle.law_type_fixes.specs.sql_tree.declared.nodes.Stmt.{Stmt}
+use Rattle.law_type_fixes.specs.sql_tree.Nodes.{action_starts, actions_in, statement_starts, types_in}
+use Rattle.law_type_fixes.specs.sql_tree.Path.{path_cuts}
+use Rattle.law_type_fixes.specs.sql_tree.Statement.{Tree, IsTree, statement}
+use Rattle.law_type_fixes.specs.law_renumber.Moved.{action_moved}
+use Rattle.law_type_fixes.proofs.of_law_renumber.NodeOrder.{actions_ascend, statements_ascend, tree_up}
+use Rattle.law_type_fixes.proofs.of_law_renumber.Ordered.{Numbered, Up, up_lower}
+use Rattle.law_type_fixes.proofs.of_law_renumber.There.{IfThere}
+use Rattle.law_type_fixes.specs.law_edit_inserts.Apart.{outside}
+use Rattle.law_type_fixes.proofs.of_law_edit_inserts.Apart.{stays_within, statements_apart}
+use Rattle.law_type_fixes.specs.lint_base.declared.rule.Rule.{Rule}
+use Rattle.law_type_fixes.specs.lint_base.declared.rule.Rule.TheVariants as rule
+use Rattle.law_type_fixes.specs.lint_base.declared.settings.LinterSettings.{LinterSettings}
+use Rattle.law_type_fixes.specs.lint_base.declared.violation.Violation.{Violation}
+use Rattle.law_type_fixes.specs.lint_base.RuleSets.{Rules, has}
+use Rattle.law_type_fixes.specs.lint_node.ColumnTypes.{column_types}
+use Rattle.law_type_fixes.specs.lint_node.Plain.{is_plain_detach, is_plain_drop, is_plain_reindex}
+use Rattle.law_type_fixes.specs.lint_node.Same.{same_kind}
+use Rattle.law_type_fixes.specs.lint_pass.RuleTables.{enabled_reports}
+use Rattle.law_type_fixes.specs.lint_transaction.Transaction.{no_stmt, is_new, stmt_at}
+use Rattle.law_type_fixes.specs.pass_concurrent.RequireConcurrentIndexCreation as build
+use Rattle.law_type_fixes.specs.pass_concurrent.RequireConcurrentIndexDeletion as drops
+use Rattle.law_type_fixes.specs.pass_concurrent.RequireConcurrentPartitionDetach as detaches
+use Rattle.law_type_fixes.specs.pass_concurrent.RequireConcurrentReindex as reindexes
+use Rattle.law_type_fixes.specs.pass_session.RequireTimeoutSettings.{both_reports, is_first_slow, is_set, lock_report, lock_reports, lock_timeout, statement_report, statement_reports, statement_timeout, timeouts_at, unless}
+use Rattle.law_type_fixes.specs.law_fixes.Mended.{Reports, table_by, builds_of, deletions_of, rebuilds_of, detachments_of, builds, dropped, rebuilt, detached}
+use Rattle.law_type_fixes.proofs.of_law_fixes.Detached.{stmt_actions_fixed}
 use Rattle.law_type_fixes.specs.Rules.{TypeRule, type_reports, type_table, ints, smallints, timestamps, varchars}
 use Rattle.law_type_fixes.proofs.Bodies.{statement_walk}
 use Rattle.law_type_fixes.proofs.ColumnTypes.{types_ranged}

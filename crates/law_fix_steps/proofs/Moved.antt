@@ -5,45 +5,45 @@ use Rattle.std.specs.Prelude.{All, ◌&&◌, ◌||◌, ◌==◌, codes}
 use Rattle.std.specs.List.{list_any}
 use Rattle.std.specs.Option.{option_map}
 use Rattle.std.specs.Str.{bytes_eq}
-use Rattle.sql_name.specs.Name.{full_name}
-use Rattle.sql_token.specs.declared.token.Span.{Span}
-use Rattle.sql_token.specs.Token.{text_of}
-use Rattle.sql_tree.specs.declared.kinds.StmtKind.{StmtKind}
-use Rattle.sql_tree.specs.declared.kinds.StmtKind.TheVariants as stmt
-use Rattle.sql_tree.specs.declared.nodes.Action.{Action}
-use Rattle.sql_tree.specs.declared.nodes.Body.{Body}
-use Rattle.sql_tree.specs.declared.nodes.Body.TheVariants as body
-use Rattle.sql_tree.specs.declared.nodes.ColType.{ColType}
-use Rattle.sql_tree.specs.declared.nodes.Elem.{Elem}
-use Rattle.sql_tree.specs.declared.nodes.Elem.TheVariants as elem
-use Rattle.sql_tree.specs.declared.nodes.Stmt.{Stmt}
-use Rattle.sql_tree.specs.Nodes.{actions_in}
-use Rattle.sql_tree.specs.Path.{path_cuts}
-use Rattle.sql_tree.specs.Range.{span_range_of, token_at}
-use Rattle.sql_tree.specs.Statement.{Tree}
-use Rattle.law_renumber.specs.Moved.{action_moved, body_moved, constraint_moved, elem_moved, span_moved, stmt_moved, type_moved}
-use Rattle.law_edit_inserts.specs.Apart.{outside}
-use Rattle.law_edit_inserts.proofs.Apart.{stays_within}
-use Rattle.lint_base.specs.declared.settings.LinterSettings.{LinterSettings}
-use Rattle.lint_base.specs.declared.violation.Violation.{Violation}
-use Rattle.lint_base.specs.Edits.{insertion}
-use Rattle.lint_lock.specs.Slow.{has_reference, is_reference, refers, slow_by}
-use Rattle.lint_node.specs.ColumnTypes.{column_types}
-use Rattle.lint_node.specs.Plain.{drops_plainly, is_plain_detach, is_plain_drop, is_plain_reindex, rebuilds_plainly}
-use Rattle.lint_node.specs.Same.{same_kind}
-use Rattle.lint_pass.specs.Those.{those}
-use Rattle.lint_transaction.specs.Transaction.{ends, chains, created, creates, is_new, is_path, same_path}
-use Rattle.pass_concurrent.specs.RequireConcurrentIndexCreation as build
-use Rattle.pass_concurrent.specs.RequireConcurrentIndexDeletion as drops
-use Rattle.pass_concurrent.specs.RequireConcurrentPartitionDetach as detaches
-use Rattle.pass_concurrent.specs.RequireConcurrentReindex as reindexes
-use Rattle.pass_session.specs.RequireTimeoutSettings.{is_parameter, parameter_by, sets}
-use Rattle.law_fixes.specs.Mended.{builds_of}
-use Rattle.law_fixes.proofs.Detached.{actions_of_body, stmt_actions_fixed}
+use Rattle.law_type_fixes.specs.sql_name.Name.{full_name}
+use Rattle.law_type_fixes.specs.sql_token.declared.token.Span.{Span}
+use Rattle.law_type_fixes.specs.sql_token.Token.{text_of}
+use Rattle.law_type_fixes.specs.sql_tree.declared.kinds.StmtKind.{StmtKind}
+use Rattle.law_type_fixes.specs.sql_tree.declared.kinds.StmtKind.TheVariants as stmt
+use Rattle.law_type_fixes.specs.sql_tree.declared.nodes.Action.{Action}
+use Rattle.law_type_fixes.specs.sql_tree.declared.nodes.Body.{Body}
+use Rattle.law_type_fixes.specs.sql_tree.declared.nodes.Body.TheVariants as body
+use Rattle.law_type_fixes.specs.sql_tree.declared.nodes.ColType.{ColType}
+use Rattle.law_type_fixes.specs.sql_tree.declared.nodes.Elem.{Elem}
+use Rattle.law_type_fixes.specs.sql_tree.declared.nodes.Elem.TheVariants as elem
+use Rattle.law_type_fixes.specs.sql_tree.declared.nodes.Stmt.{Stmt}
+use Rattle.law_type_fixes.specs.sql_tree.Nodes.{actions_in}
+use Rattle.law_type_fixes.specs.sql_tree.Path.{path_cuts}
+use Rattle.law_type_fixes.specs.sql_tree.Range.{span_range_of, token_at}
+use Rattle.law_type_fixes.specs.sql_tree.Statement.{Tree}
+use Rattle.law_type_fixes.specs.law_renumber.Moved.{action_moved, body_moved, constraint_moved, elem_moved, span_moved, stmt_moved, type_moved}
+use Rattle.law_type_fixes.specs.law_edit_inserts.Apart.{outside}
+use Rattle.law_type_fixes.proofs.of_law_edit_inserts.Apart.{stays_within}
+use Rattle.law_type_fixes.specs.lint_base.declared.settings.LinterSettings.{LinterSettings}
+use Rattle.law_type_fixes.specs.lint_base.declared.violation.Violation.{Violation}
+use Rattle.law_type_fixes.specs.lint_base.Edits.{insertion}
+use Rattle.law_type_fixes.specs.lint_lock.Slow.{has_reference, is_reference, refers, slow_by}
+use Rattle.law_type_fixes.specs.lint_node.ColumnTypes.{column_types}
+use Rattle.law_type_fixes.specs.lint_node.Plain.{drops_plainly, is_plain_detach, is_plain_drop, is_plain_reindex, rebuilds_plainly}
+use Rattle.law_type_fixes.specs.lint_node.Same.{same_kind}
+use Rattle.law_type_fixes.specs.lint_pass.Those.{those}
+use Rattle.law_type_fixes.specs.lint_transaction.Transaction.{ends, chains, created, creates, is_new, is_path, same_path}
+use Rattle.law_type_fixes.specs.pass_concurrent.RequireConcurrentIndexCreation as build
+use Rattle.law_type_fixes.specs.pass_concurrent.RequireConcurrentIndexDeletion as drops
+use Rattle.law_type_fixes.specs.pass_concurrent.RequireConcurrentPartitionDetach as detaches
+use Rattle.law_type_fixes.specs.pass_concurrent.RequireConcurrentReindex as reindexes
+use Rattle.law_type_fixes.specs.pass_session.RequireTimeoutSettings.{is_parameter, parameter_by, sets}
+use Rattle.law_type_fixes.specs.law_fixes.Mended.{builds_of}
+use Rattle.law_type_fixes.proofs.of_law_fixes.Detached.{actions_of_body, stmt_actions_fixed}
 use Rattle.law_type_fixes.specs.Rules.{TypeRule, reports_on}
 use Rattle.law_type_fixes.proofs.ColumnTypes.{types_moved}
-use Rattle.law_fixes.proofs.DetachStays.{plain_moved}
-use Rattle.law_fixes.proofs.Statements.{created_moved}
+use Rattle.law_type_fixes.proofs.of_law_fixes.DetachStays.{plain_moved}
+use Rattle.law_type_fixes.proofs.of_law_fixes.Statements.{created_moved}
 use Rattle.law_fix_steps.specs.Kept.{Kept}
 use Rattle.law_fix_steps.specs.Left.{Carried, EditsFollow, FixFollows, Left}
 use Rattle.law_fix_steps.proofs.Kept.{NodeKept, those_kept}

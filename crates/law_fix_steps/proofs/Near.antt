@@ -1,11 +1,11 @@
 -- Tokens that keep their distance, and edits at them.
 use Rattle.std.proofs.Common.{◌≡◌, ◌∙◌, ℕ, ◌+◌, ◌-◌, ◌≤◌, max, [], ◌∷◌, refl, ap, arith}
-use Rattle.sql_token.specs.declared.token.Tok.{Tok}
-use Rattle.sql_token.specs.Token.{Text}
-use Rattle.sql_tree.specs.Range.{span_range_of, token_at}
-use Rattle.sql_tree.specs.Statement.{Tree}
-use Rattle.law_edit_tokens.specs.Exchange.{tok_moved}
-use Rattle.lint_base.specs.Edits.{insertion, replacement}
+use Rattle.law_type_fixes.specs.sql_token.declared.token.Tok.{Tok}
+use Rattle.law_type_fixes.specs.sql_token.Token.{Text}
+use Rattle.law_type_fixes.specs.sql_tree.Range.{span_range_of, token_at}
+use Rattle.law_type_fixes.specs.sql_tree.Statement.{Tree}
+use Rattle.law_type_fixes.specs.law_edit_tokens.Exchange.{tok_moved}
+use Rattle.law_type_fixes.specs.lint_base.Edits.{insertion, replacement}
 use Rattle.std.specs.Prelude.{Some}
 use Rattle.law_fix_steps.specs.Left.{EditsFollow}
 

@@ -2,14 +2,14 @@
 use Rattle.std.proofs.Common.{◌≡◌, ℕ, zero, suc, ◌+◌, ◌-◌, ◌<◌, ◌≤◌, ◌⊎◌, inl, inr, cond, List, [], ◌∷◌, ◌++◌, length, get_or, take, drop, sym, refl, ap, ◌∙◌, arith}
 use Rattle.std.proofs.lemmas.Bool.{cases_lt}
 use Rattle.std.specs.List.{flat_map}
-use Rattle.sql_name.specs.Name.{cut_name}
-use Rattle.sql_token.specs.declared.token.Span.{Span}
-use Rattle.sql_token.specs.declared.token.Tok.{Tok}
-use Rattle.sql_token.specs.Terminal.{is_name_kind}
-use Rattle.sql_tree.specs.Path.{name_cuts, path_cuts}
-use Rattle.sql_tree.specs.Range.{token_at}
-use Rattle.sql_tree.specs.Statement.{Tree, no_token}
-use Rattle.law_renumber.specs.Moved.{span_moved}
+use Rattle.law_type_fixes.specs.sql_name.Name.{cut_name}
+use Rattle.law_type_fixes.specs.sql_token.declared.token.Span.{Span}
+use Rattle.law_type_fixes.specs.sql_token.declared.token.Tok.{Tok}
+use Rattle.law_type_fixes.specs.sql_token.Terminal.{is_name_kind}
+use Rattle.law_type_fixes.specs.sql_tree.Path.{name_cuts, path_cuts}
+use Rattle.law_type_fixes.specs.sql_tree.Range.{token_at}
+use Rattle.law_type_fixes.specs.sql_tree.Statement.{Tree, no_token}
+use Rattle.law_type_fixes.specs.law_renumber.Moved.{span_moved}
 use Rattle.law_fix_steps.proofs.Moved.{Follows}
 
 -- ---- tokens by their numbers

@@ -4,45 +4,45 @@ use Rattle.std.proofs.lemmas.List.Elements.{All-nil, All-cons, All-head, All-tai
 use Rattle.std.specs.Prelude.{All, ◌&&◌}
 use Rattle.std.specs.List.{list_any}
 use Rattle.std.specs.Option.{option_map}
-use Rattle.sql_name.specs.Name.{full_name}
-use Rattle.sql_token.specs.declared.token.Span.{Span}
-use Rattle.sql_token.specs.Token.{Text}
-use Rattle.sql_tree.specs.declared.kinds.StmtKind.{StmtKind}
-use Rattle.sql_tree.specs.declared.kinds.StmtKind.TheVariants as stmt
-use Rattle.sql_tree.specs.declared.nodes.Action.{Action}
-use Rattle.sql_tree.specs.declared.nodes.Body.{Body}
-use Rattle.sql_tree.specs.declared.nodes.Body.TheVariants as body
-use Rattle.sql_tree.specs.declared.nodes.ColType.{ColType}
-use Rattle.sql_tree.specs.declared.nodes.Elem.{Elem}
-use Rattle.sql_tree.specs.declared.nodes.Stmt.{Stmt}
-use Rattle.sql_tree.specs.Nodes.{actions_in}
-use Rattle.sql_tree.specs.Path.{path_cuts}
-use Rattle.sql_tree.specs.Range.{token_at}
-use Rattle.sql_tree.specs.Statement.{Tree, IsTree}
-use Rattle.law_renumber.specs.Moved.{action_moved, span_moved, stmt_moved, type_moved}
-use Rattle.law_edit_inserts.specs.Apart.{outside}
-use Rattle.law_edit_inserts.proofs.Apart.{stays_within, statements_apart}
-use Rattle.law_edit_types.specs.Runs.{fused, worded_tree}
-use Rattle.law_edit_types.specs.Created.{TableHead, head_moved, table_of}
-use Rattle.lint_base.specs.declared.settings.LinterSettings.{LinterSettings}
-use Rattle.lint_base.specs.declared.violation.Violation.{Violation}
-use Rattle.lint_lock.specs.Slow.{has_reference, is_slow, refers}
-use Rattle.lint_node.specs.ColumnTypes.{column_types}
-use Rattle.lint_node.specs.Plain.{drops_plainly, is_plain_detach, rebuilds_plainly}
-use Rattle.lint_node.specs.Same.{same_kind}
-use Rattle.lint_pass.specs.Those.{that, those}
-use Rattle.lint_transaction.specs.Names.{name_at}
-use Rattle.lint_transaction.specs.Transaction.{begins, chains_by, created_by, creates, ends_by, is_path, same_path}
-use Rattle.pass_concurrent.specs.RequireConcurrentIndexCreation as build
-use Rattle.pass_concurrent.specs.RequireConcurrentIndexDeletion as drops
-use Rattle.pass_concurrent.specs.RequireConcurrentPartitionDetach as detaches
-use Rattle.pass_concurrent.specs.RequireConcurrentReindex as reindexes
-use Rattle.pass_session.specs.RequireTimeoutSettings.{is_parameter, parameter_by}
-use Rattle.law_fixes.proofs.Detached.{all_after, all_before, both_all}
+use Rattle.law_type_fixes.specs.sql_name.Name.{full_name}
+use Rattle.law_type_fixes.specs.sql_token.declared.token.Span.{Span}
+use Rattle.law_type_fixes.specs.sql_token.Token.{Text}
+use Rattle.law_type_fixes.specs.sql_tree.declared.kinds.StmtKind.{StmtKind}
+use Rattle.law_type_fixes.specs.sql_tree.declared.kinds.StmtKind.TheVariants as stmt
+use Rattle.law_type_fixes.specs.sql_tree.declared.nodes.Action.{Action}
+use Rattle.law_type_fixes.specs.sql_tree.declared.nodes.Body.{Body}
+use Rattle.law_type_fixes.specs.sql_tree.declared.nodes.Body.TheVariants as body
+use Rattle.law_type_fixes.specs.sql_tree.declared.nodes.ColType.{ColType}
+use Rattle.law_type_fixes.specs.sql_tree.declared.nodes.Elem.{Elem}
+use Rattle.law_type_fixes.specs.sql_tree.declared.nodes.Stmt.{Stmt}
+use Rattle.law_type_fixes.specs.sql_tree.Nodes.{actions_in}
+use Rattle.law_type_fixes.specs.sql_tree.Path.{path_cuts}
+use Rattle.law_type_fixes.specs.sql_tree.Range.{token_at}
+use Rattle.law_type_fixes.specs.sql_tree.Statement.{Tree, IsTree}
+use Rattle.law_type_fixes.specs.law_renumber.Moved.{action_moved, span_moved, stmt_moved, type_moved}
+use Rattle.law_type_fixes.specs.law_edit_inserts.Apart.{outside}
+use Rattle.law_type_fixes.proofs.of_law_edit_inserts.Apart.{stays_within, statements_apart}
+use Rattle.law_type_fixes.specs.law_edit_types.Runs.{fused, worded_tree}
+use Rattle.law_type_fixes.specs.law_edit_types.Created.{TableHead, head_moved, table_of}
+use Rattle.law_type_fixes.specs.lint_base.declared.settings.LinterSettings.{LinterSettings}
+use Rattle.law_type_fixes.specs.lint_base.declared.violation.Violation.{Violation}
+use Rattle.law_type_fixes.specs.lint_lock.Slow.{has_reference, is_slow, refers}
+use Rattle.law_type_fixes.specs.lint_node.ColumnTypes.{column_types}
+use Rattle.law_type_fixes.specs.lint_node.Plain.{drops_plainly, is_plain_detach, rebuilds_plainly}
+use Rattle.law_type_fixes.specs.lint_node.Same.{same_kind}
+use Rattle.law_type_fixes.specs.lint_pass.Those.{that, those}
+use Rattle.law_type_fixes.specs.lint_transaction.Names.{name_at}
+use Rattle.law_type_fixes.specs.lint_transaction.Transaction.{begins, chains_by, created_by, creates, ends_by, is_path, same_path}
+use Rattle.law_type_fixes.specs.pass_concurrent.RequireConcurrentIndexCreation as build
+use Rattle.law_type_fixes.specs.pass_concurrent.RequireConcurrentIndexDeletion as drops
+use Rattle.law_type_fixes.specs.pass_concurrent.RequireConcurrentPartitionDetach as detaches
+use Rattle.law_type_fixes.specs.pass_concurrent.RequireConcurrentReindex as reindexes
+use Rattle.law_type_fixes.specs.pass_session.RequireTimeoutSettings.{is_parameter, parameter_by}
+use Rattle.law_type_fixes.proofs.of_law_fixes.Detached.{all_after, all_before, both_all}
 use Rattle.law_type_fixes.specs.Rules.{TypeRule, reports_on}
 use Rattle.law_type_fixes.proofs.Tokens.{word_number, word_text, fused_low}
 use Rattle.law_type_fixes.proofs.Homes.{flat_append}
-use Rattle.law_fixes.proofs.DetachStays.{plain_moved}
+use Rattle.law_type_fixes.proofs.of_law_fixes.DetachStays.{plain_moved}
 use Rattle.law_fix_steps.specs.Kept.{Kept}
 use Rattle.law_fix_steps.specs.Left.{Left}
 use Rattle.law_fix_steps.proofs.Kept.{NodeKept, kept_append, that_kept, those_kept}

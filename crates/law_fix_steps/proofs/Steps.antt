@@ -2,16 +2,16 @@
 use Rattle.std.proofs.Common.{◌≡◌, ◌≢◌, ℕ, ◌<◌, ◌≤◌, ◌^◌, Bool, true, List, [], ◌∷◌, ◌++◌, length, append_assoc, sym, refl, ◌∙◌, subst, arith, Some}
 use Rattle.std.proofs.lemmas.List.Elements.{All-nil, All-cons, All-head, All-tail, All-weaker}
 use Rattle.std.specs.Prelude.{All}
-use Rattle.sql_tree.specs.Statement.{Tree, IsTree}
-use Rattle.sql_tree.proofs.TreeLaws.{one_tree}
-use Rattle.lint_base.specs.declared.edit.Edit.{Edit}
-use Rattle.lint_base.specs.declared.settings.LinterSettings.{LinterSettings}
-use Rattle.lint_base.specs.declared.violation.Violation.{Violation}
-use Rattle.lint_base.specs.Fixes.{FixValue}
-use Rattle.lint_base.specs.RuleSets.{Rules}
-use Rattle.lint_ignore.specs.Comment.{has_disable_comment}
-use Rattle.law_fixes.specs.Edited.{edited, place_moved}
-use Rattle.law_fixes.specs.Mended.{Mended, Table}
+use Rattle.law_type_fixes.specs.sql_tree.Statement.{Tree, IsTree}
+use Rattle.law_type_fixes.proofs.of_sql_tree.TreeLaws.{one_tree}
+use Rattle.law_type_fixes.specs.lint_base.declared.edit.Edit.{Edit}
+use Rattle.law_type_fixes.specs.lint_base.declared.settings.LinterSettings.{LinterSettings}
+use Rattle.law_type_fixes.specs.lint_base.declared.violation.Violation.{Violation}
+use Rattle.law_type_fixes.specs.lint_base.Fixes.{FixValue}
+use Rattle.law_type_fixes.specs.lint_base.RuleSets.{Rules}
+use Rattle.law_type_fixes.specs.lint_ignore.Comment.{has_disable_comment}
+use Rattle.law_type_fixes.specs.law_fixes.Edited.{edited, place_moved}
+use Rattle.law_type_fixes.specs.law_fixes.Mended.{Mended, Table}
 use Rattle.law_fix_steps.specs.Kept.{SameAt, Kept}
 use Rattle.law_fix_steps.specs.Leaves.{FixLeaves, FixesLeave, followed_tables}
 use Rattle.law_fix_steps.specs.Left.{Left}

@@ -2,36 +2,36 @@
 use Rattle.std.proofs.Common.{◌≡◌, ◌≢◌, ◌⊎◌, inl, inr, ℕ, ◌<◌, ◌^◌, Bool, true, false, List, [], ◌∷◌, ◌++◌, length, sym, refl, ap, ◌∙◌, subst, Some}
 use Rattle.std.proofs.lemmas.List.Elements.{All-nil, All-append}
 use Rattle.std.specs.Prelude.{All, codes}
-use Rattle.text_pos.specs.Line.{ending_bytes, line_ending_of}
-use Rattle.sql_token.specs.Token.{Text}
-use Rattle.sql_tree.specs.declared.nodes.Stmt.{Stmt}
-use Rattle.sql_tree.specs.Statement.{Tree, IsTree}
-use Rattle.law_edit_tokens.specs.Edits.{all_quiet, set_made}
-use Rattle.law_edit_tokens.specs.Exchange.{exchanged, made_text}
-use Rattle.law_edit_inserts.specs.SetInFront.{set_tree}
-use Rattle.law_edit_inserts.proofs.Sets.{set_in_front}
-use Rattle.lint_base.specs.declared.edit.Edit.{Edit}
-use Rattle.lint_base.specs.declared.rule.Rule.TheVariants as rule
-use Rattle.lint_base.specs.declared.violation.Violation.{Violation}
-use Rattle.lint_base.specs.Edits.{insertion}
-use Rattle.lint_base.specs.Fixes.{FixValue}
-use Rattle.lint_base.specs.RuleSets.{Rules, has}
-use Rattle.lint_transaction.specs.Earlier.{concat_below}
-use Rattle.lint_transaction.specs.Transaction.{stmt_at}
-use Rattle.lint_pass.specs.RuleLaws.{one_all, pieces_all, unless_all}
-use Rattle.pass_session.specs.RequireTimeoutSettings.{is_first_slow, is_set, lock_report, lock_timeout, setting_fix, statement_report, statement_timeout, timeouts_at, reports_of_require_timeout_settings, both_reports}
-use Rattle.law_fixes.specs.Edited.{edited}
-use Rattle.law_fixes.specs.Timeouts.{SetMended}
-use Rattle.law_fixes.proofs.Fixed.{inside_some, one_edited, one_moved}
-use Rattle.law_fixes.proofs.Detached.{where_list}
+use Rattle.law_type_fixes.specs.text_pos.Line.{ending_bytes, line_ending_of}
+use Rattle.law_type_fixes.specs.sql_token.Token.{Text}
+use Rattle.law_type_fixes.specs.sql_tree.declared.nodes.Stmt.{Stmt}
+use Rattle.law_type_fixes.specs.sql_tree.Statement.{Tree, IsTree}
+use Rattle.law_type_fixes.specs.law_edit_tokens.Edits.{all_quiet, set_made}
+use Rattle.law_type_fixes.specs.law_edit_tokens.Exchange.{exchanged, made_text}
+use Rattle.law_type_fixes.specs.law_edit_inserts.SetInFront.{set_tree}
+use Rattle.law_type_fixes.proofs.of_law_edit_inserts.Sets.{set_in_front}
+use Rattle.law_type_fixes.specs.lint_base.declared.edit.Edit.{Edit}
+use Rattle.law_type_fixes.specs.lint_base.declared.rule.Rule.TheVariants as rule
+use Rattle.law_type_fixes.specs.lint_base.declared.violation.Violation.{Violation}
+use Rattle.law_type_fixes.specs.lint_base.Edits.{insertion}
+use Rattle.law_type_fixes.specs.lint_base.Fixes.{FixValue}
+use Rattle.law_type_fixes.specs.lint_base.RuleSets.{Rules, has}
+use Rattle.law_type_fixes.specs.lint_transaction.Earlier.{concat_below}
+use Rattle.law_type_fixes.specs.lint_transaction.Transaction.{stmt_at}
+use Rattle.law_type_fixes.specs.lint_pass.RuleLaws.{one_all, pieces_all, unless_all}
+use Rattle.law_type_fixes.specs.pass_session.RequireTimeoutSettings.{is_first_slow, is_set, lock_report, lock_timeout, setting_fix, statement_report, statement_timeout, timeouts_at, reports_of_require_timeout_settings, both_reports}
+use Rattle.law_type_fixes.specs.law_fixes.Edited.{edited}
+use Rattle.law_type_fixes.specs.law_fixes.Timeouts.{SetMended}
+use Rattle.law_type_fixes.proofs.of_law_fixes.Fixed.{inside_some, one_edited, one_moved}
+use Rattle.law_type_fixes.proofs.of_law_fixes.Detached.{where_list}
 use Rattle.std.proofs.lemmas.List.Elements.{All-weaker}
-use Rattle.lint_base.specs.declared.settings.LinterSettings.{LinterSettings}
-use Rattle.law_fixes.specs.Edited.{place_moved}
-use Rattle.law_fixes.specs.Mended.{builds, detached, dropped, rebuilt}
-use Rattle.law_fixes.specs.Moved.{start_moved}
-use Rattle.law_fixes.proofs.TimeoutFixes.{FirstOf, Parameter, timeouts_mend, ending_is, first_is_at, first_of, lock_parameter, lock_text, no_statements, statement_parameter, statement_text}
+use Rattle.law_type_fixes.specs.lint_base.declared.settings.LinterSettings.{LinterSettings}
+use Rattle.law_type_fixes.specs.law_fixes.Edited.{place_moved}
+use Rattle.law_type_fixes.specs.law_fixes.Mended.{builds, detached, dropped, rebuilt}
+use Rattle.law_type_fixes.specs.law_fixes.Moved.{start_moved}
+use Rattle.law_type_fixes.proofs.of_law_fixes.TimeoutFixes.{FirstOf, Parameter, timeouts_mend, ending_is, first_is_at, first_of, lock_parameter, lock_text, no_statements, statement_parameter, statement_text}
 use Rattle.law_type_fixes.specs.Rules.{type_table, ints, smallints, timestamps, varchars}
-use Rattle.sql_tree.proofs.TreeLaws.{one_tree}
+use Rattle.law_type_fixes.proofs.of_sql_tree.TreeLaws.{one_tree}
 use Rattle.law_fix_steps.specs.Kept.{SameAt}
 use Rattle.law_fix_steps.specs.Step.{timeouts}
 use Rattle.law_fix_steps.proofs.Fits.{Anywhere, StepsIf}

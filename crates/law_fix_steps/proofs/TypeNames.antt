@@ -4,26 +4,26 @@ use Rattle.std.proofs.lemmas.List.Elements.{All-nil, All-cons}
 use Rattle.std.specs.Prelude.{All, ◌&&◌, ◌||◌, not, codes, is_some, [], ◌∷◌}
 use Rattle.std.specs.Option.{unwrap_or}
 use Rattle.std.specs.Str.{bytes_eq}
-use Rattle.sql_name.specs.Name.{full_name}
-use Rattle.sql_tree.specs.declared.nodes.ColType.{ColType}
-use Rattle.sql_tree.specs.declared.nodes.TyKind.TheVariants as kind
-use Rattle.sql_tree.specs.Range.{span_range_of, token_at}
-use Rattle.sql_tree.specs.Statement.{Tree}
-use Rattle.law_renumber.specs.Moved.{type_moved}
-use Rattle.lint_base.specs.declared.violation.Violation.{Violation}
-use Rattle.lint_base.specs.Edits.{replacement}
-use Rattle.lint_pass.specs.Fixes.{replacement_fix}
-use Rattle.lint_node.specs.ColumnTypes.{has_arguments, is_of_kind, is_without_zone}
-use Rattle.lint_node.specs.Same.{same_type}
-use Rattle.lint_transaction.specs.Names.{name_at}
-use Rattle.pass_data_type.specs.declared.wider_integers.WideInteger.{WideInteger}
-use Rattle.pass_data_type.specs.declared.wider_integers.WideInteger.TheVariants as wide
-use Rattle.pass_data_type.specs.PreferTextField as varchar
-use Rattle.pass_data_type.specs.PreferTimestamptz as timestamp
-use Rattle.pass_data_type.specs.TypeNames.{row_for, row_of}
-use Rattle.pass_data_type.specs.WiderIntegers as integer
+use Rattle.law_type_fixes.specs.sql_name.Name.{full_name}
+use Rattle.law_type_fixes.specs.sql_tree.declared.nodes.ColType.{ColType}
+use Rattle.law_type_fixes.specs.sql_tree.declared.nodes.TyKind.TheVariants as kind
+use Rattle.law_type_fixes.specs.sql_tree.Range.{span_range_of, token_at}
+use Rattle.law_type_fixes.specs.sql_tree.Statement.{Tree}
+use Rattle.law_type_fixes.specs.law_renumber.Moved.{type_moved}
+use Rattle.law_type_fixes.specs.lint_base.declared.violation.Violation.{Violation}
+use Rattle.law_type_fixes.specs.lint_base.Edits.{replacement}
+use Rattle.law_type_fixes.specs.lint_pass.Fixes.{replacement_fix}
+use Rattle.law_type_fixes.specs.lint_node.ColumnTypes.{has_arguments, is_of_kind, is_without_zone}
+use Rattle.law_type_fixes.specs.lint_node.Same.{same_type}
+use Rattle.law_type_fixes.specs.lint_transaction.Names.{name_at}
+use Rattle.law_type_fixes.specs.pass_data_type.declared.wider_integers.WideInteger.{WideInteger}
+use Rattle.law_type_fixes.specs.pass_data_type.declared.wider_integers.WideInteger.TheVariants as wide
+use Rattle.law_type_fixes.specs.pass_data_type.PreferTextField as varchar
+use Rattle.law_type_fixes.specs.pass_data_type.PreferTimestamptz as timestamp
+use Rattle.law_type_fixes.specs.pass_data_type.TypeNames.{row_for, row_of}
+use Rattle.law_type_fixes.specs.pass_data_type.WiderIntegers as integer
 use Rattle.law_type_fixes.specs.Rules.{TypeRule, varchars, timestamps, ints, smallints}
-use Rattle.law_type_fixes.proofs.Reports.{arguments_stay, row_stays}
+use Rattle.law_type_fixes.proofs.TypeReports.{arguments_stay, row_stays}
 use Rattle.law_fix_steps.specs.Left.{EditsFollow, FixFollows}
 use Rattle.law_fix_steps.proofs.Like.{type_rules}
 use Rattle.law_fix_steps.proofs.Near.{Near, replacement_follows}

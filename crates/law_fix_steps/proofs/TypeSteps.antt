@@ -6,43 +6,43 @@ use Rattle.std.proofs.lemmas.List.Elements.{All-nil, All-cons, All-head, All-tai
 use Rattle.std.specs.Prelude.{All, ◌&&◌, ◌||◌, is_none}
 use Rattle.std.specs.List.{flat_map, list_any}
 use Rattle.std.specs.Option.{option_map}
-use Rattle.sql_token.specs.declared.token.Span.{Span}
-use Rattle.sql_token.specs.Token.{Text}
-use Rattle.sql_tree.specs.declared.kinds.ActionKind.TheVariants as action
-use Rattle.sql_tree.specs.declared.kinds.StmtKind.TheVariants as stmt
-use Rattle.sql_tree.specs.declared.nodes.Action.{Action}
-use Rattle.sql_tree.specs.declared.nodes.Body.{Body}
-use Rattle.sql_tree.specs.declared.nodes.Body.TheVariants as body
-use Rattle.sql_tree.specs.declared.nodes.ColType.{ColType}
-use Rattle.sql_tree.specs.declared.nodes.Column.{Column}
-use Rattle.sql_tree.specs.declared.nodes.Elem.{Elem}
-use Rattle.sql_tree.specs.declared.nodes.Elem.TheVariants as elem
-use Rattle.sql_tree.specs.declared.nodes.Stmt.{Stmt}
-use Rattle.sql_tree.specs.declared.nodes.TyKind.TheVariants as kind
-use Rattle.sql_tree.specs.Nodes.{actions_in}
-use Rattle.sql_tree.specs.Range.{token_at}
-use Rattle.sql_tree.specs.Statement.{Tree, IsTree}
-use Rattle.law_renumber.specs.Moved.{action_moved, body_moved, column_moved, elem_moved, span_moved, stmt_moved, type_moved}
-use Rattle.law_edit_inserts.specs.Apart.{outside}
-use Rattle.law_edit_inserts.proofs.Apart.{stays_within, statements_apart}
-use Rattle.law_edit_types.specs.Runs.{fused, worded_text, worded_tree, IsApart, IsTypeName, Worded}
-use Rattle.law_edit_types.specs.Types.{is_replaced, retyped_column}
-use Rattle.law_edit_types.specs.Altered.{ActionNow, IsRetyped, retyped_action, retyped_in}
-use Rattle.law_edit_types.specs.Altered.IsRetyped.{column, constraint}
-use Rattle.law_edit_types.specs.Created.{TableHead, head_moved, retyped_table, table_of}
-use Rattle.law_edit_types.specs.Named.{HasType}
-use Rattle.law_edit_types.specs.Named.HasType.{created, added, altered}
-use Rattle.law_edit_types.proofs.Added.{added_type_reads}
-use Rattle.law_edit_types.proofs.Altered.{set_type_reads}
-use Rattle.law_edit_types.proofs.Created.{created_type_reads}
-use Rattle.lint_lock.specs.Slow.{refers}
-use Rattle.lint_node.specs.ColumnTypes.{action_types, column_types}
-use Rattle.lint_node.specs.Plain.{is_plain_detach}
-use Rattle.lint_node.specs.Same.{same_action}
-use Rattle.lint_pass.specs.Those.{those}
-use Rattle.lint_transaction.specs.Names.{name_at}
-use Rattle.pass_concurrent.specs.RequireConcurrentPartitionDetach as detaches
-use Rattle.law_fixes.proofs.Detached.{is_plain, stmt_actions_fixed}
+use Rattle.law_type_fixes.specs.sql_token.declared.token.Span.{Span}
+use Rattle.law_type_fixes.specs.sql_token.Token.{Text}
+use Rattle.law_type_fixes.specs.sql_tree.declared.kinds.ActionKind.TheVariants as action
+use Rattle.law_type_fixes.specs.sql_tree.declared.kinds.StmtKind.TheVariants as stmt
+use Rattle.law_type_fixes.specs.sql_tree.declared.nodes.Action.{Action}
+use Rattle.law_type_fixes.specs.sql_tree.declared.nodes.Body.{Body}
+use Rattle.law_type_fixes.specs.sql_tree.declared.nodes.Body.TheVariants as body
+use Rattle.law_type_fixes.specs.sql_tree.declared.nodes.ColType.{ColType}
+use Rattle.law_type_fixes.specs.sql_tree.declared.nodes.Column.{Column}
+use Rattle.law_type_fixes.specs.sql_tree.declared.nodes.Elem.{Elem}
+use Rattle.law_type_fixes.specs.sql_tree.declared.nodes.Elem.TheVariants as elem
+use Rattle.law_type_fixes.specs.sql_tree.declared.nodes.Stmt.{Stmt}
+use Rattle.law_type_fixes.specs.sql_tree.declared.nodes.TyKind.TheVariants as kind
+use Rattle.law_type_fixes.specs.sql_tree.Nodes.{actions_in}
+use Rattle.law_type_fixes.specs.sql_tree.Range.{token_at}
+use Rattle.law_type_fixes.specs.sql_tree.Statement.{Tree, IsTree}
+use Rattle.law_type_fixes.specs.law_renumber.Moved.{action_moved, body_moved, column_moved, elem_moved, span_moved, stmt_moved, type_moved}
+use Rattle.law_type_fixes.specs.law_edit_inserts.Apart.{outside}
+use Rattle.law_type_fixes.proofs.of_law_edit_inserts.Apart.{stays_within, statements_apart}
+use Rattle.law_type_fixes.specs.law_edit_types.Runs.{fused, worded_text, worded_tree, IsApart, IsTypeName, Worded}
+use Rattle.law_type_fixes.specs.law_edit_types.Types.{is_replaced, retyped_column}
+use Rattle.law_type_fixes.specs.law_edit_types.Altered.{ActionNow, IsRetyped, retyped_action, retyped_in}
+use Rattle.law_type_fixes.specs.law_edit_types.Altered.IsRetyped.{column, constraint}
+use Rattle.law_type_fixes.specs.law_edit_types.Created.{TableHead, head_moved, retyped_table, table_of}
+use Rattle.law_type_fixes.specs.law_edit_types.Named.{HasType}
+use Rattle.law_type_fixes.specs.law_edit_types.Named.HasType.{created, added, altered}
+use Rattle.law_type_fixes.proofs.of_law_edit_types.Added.{added_type_reads}
+use Rattle.law_type_fixes.proofs.of_law_edit_types.Altered.{set_type_reads}
+use Rattle.law_type_fixes.proofs.of_law_edit_types.Created.{created_type_reads}
+use Rattle.law_type_fixes.specs.lint_lock.Slow.{refers}
+use Rattle.law_type_fixes.specs.lint_node.ColumnTypes.{action_types, column_types}
+use Rattle.law_type_fixes.specs.lint_node.Plain.{is_plain_detach}
+use Rattle.law_type_fixes.specs.lint_node.Same.{same_action}
+use Rattle.law_type_fixes.specs.lint_pass.Those.{those}
+use Rattle.law_type_fixes.specs.lint_transaction.Names.{name_at}
+use Rattle.law_type_fixes.specs.pass_concurrent.RequireConcurrentPartitionDetach as detaches
+use Rattle.law_type_fixes.proofs.of_law_fixes.Detached.{is_plain, stmt_actions_fixed}
 use Rattle.law_type_fixes.specs.Apart.{TypeApart}
 use Rattle.law_type_fixes.specs.Rules.{reports_on}
 use Rattle.law_type_fixes.specs.Words.{AddsConstraint, AreWord, WordNow}
@@ -51,7 +51,7 @@ use Rattle.law_type_fixes.proofs.ColumnTypes.{types_moved}
 use Rattle.law_type_fixes.proofs.Homes.{home}
 use Rattle.law_type_fixes.proofs.Inners.{altered_types}
 use Rattle.law_type_fixes.proofs.TypesApart.{types_apart}
-use Rattle.sql_tree.proofs.TreeLaws.{one_tree}
+use Rattle.law_type_fixes.proofs.of_sql_tree.TreeLaws.{one_tree}
 use Rattle.law_type_fixes.proofs.Tables.{one_of}
 use Rattle.law_fix_steps.specs.Kept.{Kept}
 use Rattle.law_fix_steps.specs.Left.{Left}

@@ -3,32 +3,32 @@ use Rattle.std.proofs.Common.{◌≡◌, ℕ, ◌<◌, ◌≤◌, ◌⊎◌, ◌
 use Rattle.std.proofs.lemmas.List.Elements.{All-nil, All-cons, All-head, All-weaker}
 use Rattle.std.specs.Prelude.{All, codes}
 use Rattle.std.specs.Option.{unwrap_or}
-use Rattle.text_pos.specs.Range.{Range}
-use Rattle.sql_token.specs.Token.{Text}
-use Rattle.sql_tree.specs.declared.nodes.ColType.{ColType}
-use Rattle.sql_tree.specs.declared.nodes.Stmt.{Stmt}
-use Rattle.sql_tree.specs.Range.{span_range_of}
-use Rattle.sql_tree.specs.Statement.{Tree, IsTree}
-use Rattle.law_edit_inserts.proofs.Apart.{stays_within}
-use Rattle.law_edit_types.specs.Runs.{worded_tree}
-use Rattle.lint_base.specs.declared.edit.Edit.{Edit}
-use Rattle.lint_base.specs.declared.settings.LinterSettings.{LinterSettings}
-use Rattle.lint_base.specs.declared.violation.Violation.{Violation}
-use Rattle.lint_base.specs.Edits.{replacement}
-use Rattle.lint_base.specs.Fixes.{FixValue}
-use Rattle.lint_base.specs.RuleSets.{Rules, has}
-use Rattle.lint_node.specs.ColumnTypes.{column_types, is_without_zone}
-use Rattle.lint_pass.specs.Fixes.{replacement_fix}
-use Rattle.lint_pass.specs.RuleLaws.{pieces_all, where_all}
-use Rattle.lint_pass.specs.RuleTables.{enabled_reports}
-use Rattle.lint_transaction.specs.Transaction.{no_stmt, stmt_at}
-use Rattle.pass_data_type.specs.declared.wider_integers.WideInteger.TheVariants as wide
-use Rattle.pass_data_type.specs.PreferTextField as varchar
-use Rattle.pass_data_type.specs.PreferTimestamptz as timestamp
-use Rattle.pass_data_type.specs.TypeNames.{row_for}
-use Rattle.pass_data_type.specs.WiderIntegers as integer
-use Rattle.law_fixes.specs.Mended.{Table, builds, detached, dropped, rebuilt}
-use Rattle.law_fixes.proofs.Fixed.{At, at_or_none, inside_some}
+use Rattle.law_type_fixes.specs.text_pos.Range.{Range}
+use Rattle.law_type_fixes.specs.sql_token.Token.{Text}
+use Rattle.law_type_fixes.specs.sql_tree.declared.nodes.ColType.{ColType}
+use Rattle.law_type_fixes.specs.sql_tree.declared.nodes.Stmt.{Stmt}
+use Rattle.law_type_fixes.specs.sql_tree.Range.{span_range_of}
+use Rattle.law_type_fixes.specs.sql_tree.Statement.{Tree, IsTree}
+use Rattle.law_type_fixes.proofs.of_law_edit_inserts.Apart.{stays_within}
+use Rattle.law_type_fixes.specs.law_edit_types.Runs.{worded_tree}
+use Rattle.law_type_fixes.specs.lint_base.declared.edit.Edit.{Edit}
+use Rattle.law_type_fixes.specs.lint_base.declared.settings.LinterSettings.{LinterSettings}
+use Rattle.law_type_fixes.specs.lint_base.declared.violation.Violation.{Violation}
+use Rattle.law_type_fixes.specs.lint_base.Edits.{replacement}
+use Rattle.law_type_fixes.specs.lint_base.Fixes.{FixValue}
+use Rattle.law_type_fixes.specs.lint_base.RuleSets.{Rules, has}
+use Rattle.law_type_fixes.specs.lint_node.ColumnTypes.{column_types, is_without_zone}
+use Rattle.law_type_fixes.specs.lint_pass.Fixes.{replacement_fix}
+use Rattle.law_type_fixes.specs.lint_pass.RuleLaws.{pieces_all, where_all}
+use Rattle.law_type_fixes.specs.lint_pass.RuleTables.{enabled_reports}
+use Rattle.law_type_fixes.specs.lint_transaction.Transaction.{no_stmt, stmt_at}
+use Rattle.law_type_fixes.specs.pass_data_type.declared.wider_integers.WideInteger.TheVariants as wide
+use Rattle.law_type_fixes.specs.pass_data_type.PreferTextField as varchar
+use Rattle.law_type_fixes.specs.pass_data_type.PreferTimestamptz as timestamp
+use Rattle.law_type_fixes.specs.pass_data_type.TypeNames.{row_for}
+use Rattle.law_type_fixes.specs.pass_data_type.WiderIntegers as integer
+use Rattle.law_type_fixes.specs.law_fixes.Mended.{Table, builds, detached, dropped, rebuilt}
+use Rattle.law_type_fixes.proofs.of_law_fixes.Fixed.{At, at_or_none, inside_some}
 use Rattle.law_type_fixes.specs.Mended.{AreApart, JoinsNone, TypeFixMends, TypeFixesMend, WithRun}
 use Rattle.law_type_fixes.specs.Moved.{byte_moved}
 use Rattle.law_type_fixes.specs.Rules.{TypeRule, reports_on, type_reports, type_table, ints, smallints, timestamps, varchars}

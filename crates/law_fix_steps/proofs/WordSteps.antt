@@ -2,39 +2,39 @@
 use Rattle.std.proofs.Common.{◌≡◌, ℕ, ◌<◌, ◌⊎◌, ◌^◌, inl, inr, true, false, List, [], ◌∷◌, ◌++◌, length, sym, refl, ap, ◌∙◌, subst, Option, Some, None}
 use Rattle.std.proofs.lemmas.List.Elements.{All-nil, All-weaker}
 use Rattle.std.specs.Prelude.{All}
-use Rattle.sql_token.specs.Token.{Text}
-use Rattle.sql_token.specs.declared.token.Span.{Span}
-use Rattle.sql_tree.specs.declared.kinds.StmtKind.TheVariants as stmt
-use Rattle.sql_tree.specs.declared.nodes.Action.{Action}
-use Rattle.sql_tree.specs.declared.nodes.Body.{Body}
-use Rattle.sql_tree.specs.declared.nodes.Body.TheVariants as body
-use Rattle.sql_tree.specs.declared.nodes.Stmt.{Stmt}
-use Rattle.sql_tree.specs.Nodes.{actions_in}
-use Rattle.sql_tree.specs.Statement.{Tree, IsTree}
-use Rattle.law_edit_inserts.specs.Built.{concurrently_tree, detached_stmt, concurrent_stmt, DetachTakesConcurrently, TakesConcurrently}
-use Rattle.law_edit_inserts.proofs.DetachFields.{detach_has_path, detach_reads}
-use Rattle.law_edit_inserts.proofs.Fields.{concurrently_reads}
-use Rattle.lint_base.specs.declared.rule.Rule.TheVariants as rule
-use Rattle.lint_base.specs.declared.settings.LinterSettings.{LinterSettings}
-use Rattle.lint_base.specs.declared.violation.Violation.{Violation}
-use Rattle.lint_base.specs.RuleSets.{Rules, has}
-use Rattle.lint_node.specs.Plain.{is_plain_detach}
-use Rattle.lint_node.specs.Same.{same_kind}
-use Rattle.lint_pass.specs.RuleLaws.{one_all, pieces_all, unless_all, where_all}
-use Rattle.lint_pass.specs.RuleTables.{enabled_reports}
-use Rattle.lint_pass.specs.Those.{those}
-use Rattle.lint_transaction.specs.Transaction.{no_stmt, stmt_at}
-use Rattle.pass_concurrent.specs.Concurrently.{concurrently_after}
-use Rattle.pass_concurrent.specs.RequireConcurrentPartitionDetach.{reports_of_require_concurrent_partition_detach, end_of, report}
-use Rattle.law_fixes.specs.Mended.{FixMends, FixesMend, Reports, Table, WithWord, table_by, builds, builds_of, deletions_of, detached, detachments_of, dropped, rebuilds_of, rebuilt}
-use Rattle.law_fixes.specs.Moved.{start_moved}
-use Rattle.law_fixes.specs.Stays.{inserted, place_of}
-use Rattle.law_fixes.proofs.Detached.{Alters, alters, build, detached_mend, is_plain, path_end, table_kind, those_in, where_those}
-use Rattle.law_fixes.proofs.Detached.Alters.{alter, other}
-use Rattle.law_fixes.proofs.Fixed.{At, at_or_none, builds_mend, dropped_mend, inside_some, puts_word, rebuilt_mend}
-use Rattle.law_fixes.proofs.Statements.{inside}
-use Rattle.law_fixes.proofs.WordRules.{Same, added, builds_are, deletion_rule, deletions_are, index_rule, is_deletion_rule, is_index_rule, is_reindex_rule, rebuilds_are, reindex_rule, table_is}
-use Rattle.law_fixes.proofs.Words.{IsWordRule, Target, WordRule, is_excused, kept_is, word_report, word_reports, word_reports_at, word_reports_by, word_table}
+use Rattle.law_type_fixes.specs.sql_token.Token.{Text}
+use Rattle.law_type_fixes.specs.sql_token.declared.token.Span.{Span}
+use Rattle.law_type_fixes.specs.sql_tree.declared.kinds.StmtKind.TheVariants as stmt
+use Rattle.law_type_fixes.specs.sql_tree.declared.nodes.Action.{Action}
+use Rattle.law_type_fixes.specs.sql_tree.declared.nodes.Body.{Body}
+use Rattle.law_type_fixes.specs.sql_tree.declared.nodes.Body.TheVariants as body
+use Rattle.law_type_fixes.specs.sql_tree.declared.nodes.Stmt.{Stmt}
+use Rattle.law_type_fixes.specs.sql_tree.Nodes.{actions_in}
+use Rattle.law_type_fixes.specs.sql_tree.Statement.{Tree, IsTree}
+use Rattle.law_type_fixes.specs.law_edit_inserts.Built.{concurrently_tree, detached_stmt, concurrent_stmt, DetachTakesConcurrently, TakesConcurrently}
+use Rattle.law_type_fixes.proofs.of_law_edit_inserts.DetachFields.{detach_has_path, detach_reads}
+use Rattle.law_type_fixes.proofs.of_law_edit_inserts.Fields.{concurrently_reads}
+use Rattle.law_type_fixes.specs.lint_base.declared.rule.Rule.TheVariants as rule
+use Rattle.law_type_fixes.specs.lint_base.declared.settings.LinterSettings.{LinterSettings}
+use Rattle.law_type_fixes.specs.lint_base.declared.violation.Violation.{Violation}
+use Rattle.law_type_fixes.specs.lint_base.RuleSets.{Rules, has}
+use Rattle.law_type_fixes.specs.lint_node.Plain.{is_plain_detach}
+use Rattle.law_type_fixes.specs.lint_node.Same.{same_kind}
+use Rattle.law_type_fixes.specs.lint_pass.RuleLaws.{one_all, pieces_all, unless_all, where_all}
+use Rattle.law_type_fixes.specs.lint_pass.RuleTables.{enabled_reports}
+use Rattle.law_type_fixes.specs.lint_pass.Those.{those}
+use Rattle.law_type_fixes.specs.lint_transaction.Transaction.{no_stmt, stmt_at}
+use Rattle.law_type_fixes.specs.pass_concurrent.Concurrently.{concurrently_after}
+use Rattle.law_type_fixes.specs.pass_concurrent.RequireConcurrentPartitionDetach.{reports_of_require_concurrent_partition_detach, end_of, report}
+use Rattle.law_type_fixes.specs.law_fixes.Mended.{FixMends, FixesMend, Reports, Table, WithWord, table_by, builds, builds_of, deletions_of, detached, detachments_of, dropped, rebuilds_of, rebuilt}
+use Rattle.law_type_fixes.specs.law_fixes.Moved.{start_moved}
+use Rattle.law_type_fixes.specs.law_fixes.Stays.{inserted, place_of}
+use Rattle.law_type_fixes.proofs.of_law_fixes.Detached.{Alters, alters, build, detached_mend, is_plain, path_end, table_kind, those_in, where_those}
+use Rattle.law_type_fixes.proofs.of_law_fixes.Detached.Alters.{alter, other}
+use Rattle.law_type_fixes.proofs.of_law_fixes.Fixed.{At, at_or_none, builds_mend, dropped_mend, inside_some, puts_word, rebuilt_mend}
+use Rattle.law_type_fixes.proofs.of_law_fixes.Statements.{inside}
+use Rattle.law_type_fixes.proofs.of_law_fixes.WordRules.{Same, added, builds_are, deletion_rule, deletions_are, index_rule, is_deletion_rule, is_index_rule, is_reindex_rule, rebuilds_are, reindex_rule, table_is}
+use Rattle.law_type_fixes.proofs.of_law_fixes.Words.{IsWordRule, Target, WordRule, is_excused, kept_is, word_report, word_reports, word_reports_at, word_reports_by, word_table}
 use Rattle.law_type_fixes.specs.Rules.{type_table, ints, smallints, timestamps, varchars}
 use Rattle.law_fix_steps.specs.Step.{timeouts}
 use Rattle.law_fix_steps.proofs.Fits.{Anywhere, LeavesIf, StepsIf}

@@ -4,24 +4,24 @@ use Rattle.std.proofs.lemmas.Bool.{cases_lt}
 use Rattle.std.proofs.lemmas.Bool.Decides.{nat_tests}
 use Rattle.std.proofs.lemmas.List.{get_or-append_right, length-map, length-take-le}
 use Rattle.std.specs.Prelude.{◌==◌}
-use Rattle.sql_token.specs.declared.token.Span.{Span}
-use Rattle.sql_token.specs.declared.token.Tok.{Tok}
-use Rattle.sql_token.specs.Token.{Text, text_of}
-use Rattle.sql_tree.specs.declared.nodes.Stmt.{Stmt}
-use Rattle.sql_tree.specs.Range.{token_at}
-use Rattle.sql_tree.specs.Statement.{Tree, IsTree, no_token}
-use Rattle.law_renumber.specs.Moved.{stmt_moved}
-use Rattle.law_edit_tokens.specs.Exchange.{made_text, made_toks, tok_moved}
-use Rattle.law_edit_tokens.proofs.After.{exchanged_after, exchanged_agrees}
-use Rattle.law_edit_inserts.specs.Apart.{outside}
-use Rattle.law_edit_inserts.proofs.Apart.{stays_within, statements_apart}
-use Rattle.law_edit_types.specs.Runs.{fused, word_made, worded_tree}
-use Rattle.lint_transaction.specs.Transaction.{no_stmt, stmt_at}
-use Rattle.law_fixes.proofs.Tokens.{text_after, text_prefix}
+use Rattle.law_type_fixes.specs.sql_token.declared.token.Span.{Span}
+use Rattle.law_type_fixes.specs.sql_token.declared.token.Tok.{Tok}
+use Rattle.law_type_fixes.specs.sql_token.Token.{Text, text_of}
+use Rattle.law_type_fixes.specs.sql_tree.declared.nodes.Stmt.{Stmt}
+use Rattle.law_type_fixes.specs.sql_tree.Range.{token_at}
+use Rattle.law_type_fixes.specs.sql_tree.Statement.{Tree, IsTree, no_token}
+use Rattle.law_type_fixes.specs.law_renumber.Moved.{stmt_moved}
+use Rattle.law_type_fixes.specs.law_edit_tokens.Exchange.{made_text, made_toks, tok_moved}
+use Rattle.law_type_fixes.proofs.of_law_edit_tokens.After.{exchanged_after, exchanged_agrees}
+use Rattle.law_type_fixes.specs.law_edit_inserts.Apart.{outside}
+use Rattle.law_type_fixes.proofs.of_law_edit_inserts.Apart.{stays_within, statements_apart}
+use Rattle.law_type_fixes.specs.law_edit_types.Runs.{fused, word_made, worded_tree}
+use Rattle.law_type_fixes.specs.lint_transaction.Transaction.{no_stmt, stmt_at}
+use Rattle.law_type_fixes.proofs.of_law_fixes.Tokens.{text_after, text_prefix}
 use Rattle.law_type_fixes.specs.Moved.{byte_moved}
 use Rattle.law_type_fixes.specs.Stays.{replaced}
 use Rattle.law_type_fixes.proofs.Tokens.{bounds, high_token, low_token, place_high, place_low, fused_high, fused_low}
-use Rattle.law_edit_types.proofs.Runs.{fused_first}
+use Rattle.law_type_fixes.proofs.of_law_edit_types.Runs.{fused_first}
 use Rattle.law_fix_steps.proofs.Alignments.{one_by_one}
 use Rattle.law_fix_steps.proofs.InFront.{none_like}
 use Rattle.law_fix_steps.proofs.Like.{Aligned, Like}

@@ -1,15 +1,15 @@
 -- One fix of a rule whose fixes are followed: which reports there are then, and where their fixes are.
 use Rattle.std.specs.Prelude.{◌<◌, ◌≡◌, ◌^◌, Bool, true, false, List, [], ◌∷◌, length, All, Some}
-use Rattle.sql_tree.specs.Statement.{Tree, IsTree}
-use Rattle.lint_base.specs.declared.edit.Edit.{Edit}
-use Rattle.lint_base.specs.declared.rule.Rule.{Rule}
-use Rattle.lint_base.specs.declared.rule.Rule.TheVariants as rule
-use Rattle.lint_base.specs.declared.settings.LinterSettings.{LinterSettings}
-use Rattle.lint_base.specs.declared.violation.Violation.{Violation}
-use Rattle.lint_base.specs.Fixes.{FixValue}
-use Rattle.lint_base.specs.RuleSets.{Rules}
-use Rattle.law_fixes.specs.Edited.{edited, place_moved}
-use Rattle.law_fixes.specs.Mended.{Table, builds, dropped, rebuilt}
+use Rattle.law_type_fixes.specs.sql_tree.Statement.{Tree, IsTree}
+use Rattle.law_type_fixes.specs.lint_base.declared.edit.Edit.{Edit}
+use Rattle.law_type_fixes.specs.lint_base.declared.rule.Rule.{Rule}
+use Rattle.law_type_fixes.specs.lint_base.declared.rule.Rule.TheVariants as rule
+use Rattle.law_type_fixes.specs.lint_base.declared.settings.LinterSettings.{LinterSettings}
+use Rattle.law_type_fixes.specs.lint_base.declared.violation.Violation.{Violation}
+use Rattle.law_type_fixes.specs.lint_base.Fixes.{FixValue}
+use Rattle.law_type_fixes.specs.lint_base.RuleSets.{Rules}
+use Rattle.law_type_fixes.specs.law_fixes.Edited.{edited, place_moved}
+use Rattle.law_type_fixes.specs.law_fixes.Mended.{Table, builds, dropped, rebuilt}
 use Rattle.law_type_fixes.specs.Rules.{type_table, ints, smallints, timestamps, varchars}
 use Rattle.law_fix_steps.specs.Kept.{SameAt}
 use Rattle.law_fix_steps.specs.Left.{Left}

@@ -1,8 +1,8 @@
 -- Reports that are left when a fix was made, with their fixes: all but those at one place.
 use Rattle.std.specs.Prelude.{◌≡◌, ◌⊎◌, ℕ, ◌+◌, Bool, true, List, [], ◌∷◌, Option, Some, None}
-use Rattle.lint_base.specs.declared.edit.Edit.{Edit}
-use Rattle.lint_base.specs.declared.violation.Violation.{Violation}
-use Rattle.lint_base.specs.Fixes.{FixValue}
+use Rattle.law_type_fixes.specs.lint_base.declared.edit.Edit.{Edit}
+use Rattle.law_type_fixes.specs.lint_base.declared.violation.Violation.{Violation}
+use Rattle.law_type_fixes.specs.lint_base.Fixes.{FixValue}
 use Rattle.law_fix_steps.specs.Kept.{SameAt}
 
 -- The edit e puts the text of d, and is as far from one place as d is from another.

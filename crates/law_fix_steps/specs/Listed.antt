@@ -1,7 +1,7 @@
 -- The rules whose fixes are made one after another until none is left.
 use Rattle.std.specs.Prelude.{Bool, true, false}
-use Rattle.lint_base.specs.declared.rule.Rule.{Rule}
-use Rattle.lint_base.specs.declared.rule.Rule.TheVariants as rule
+use Rattle.law_type_fixes.specs.lint_base.declared.rule.Rule.{Rule}
+use Rattle.law_type_fixes.specs.lint_base.declared.rule.Rule.TheVariants as rule
 
 -- the rules whose fixes put CONCURRENTLY into a text, set a timeout at its start, or write another column type
 abbrev pub is_listed : Rule → Bool

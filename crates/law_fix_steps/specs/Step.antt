@@ -1,16 +1,16 @@
 -- One fix of a listed rule: no report of a listed rule is new, and one at least is gone.
 use Rattle.std.specs.Prelude.{◌≡◌, ◌<◌, ℕ, ◌+◌, ◌^◌, Bool, true, List, [], ◌∷◌, length, is_some, All, Some}
 use Rattle.std.specs.List.{list_any}
-use Rattle.sql_tree.specs.Statement.{Tree, IsTree}
-use Rattle.lint_base.specs.declared.edit.Edit.{Edit}
-use Rattle.lint_base.specs.declared.settings.LinterSettings.{LinterSettings}
-use Rattle.lint_base.specs.declared.violation.Violation.{Violation}
-use Rattle.lint_base.specs.Fixes.{FixValue}
-use Rattle.lint_base.specs.RuleSets.{Rules}
-use Rattle.lint_ignore.specs.Comment.{has_disable_comment, ignore_in_token}
-use Rattle.pass_session.specs.RequireTimeoutSettings.{reports_of_require_timeout_settings}
-use Rattle.law_fixes.specs.Edited.{edited, place_moved}
-use Rattle.law_fixes.specs.Mended.{Table, builds, dropped, rebuilt, detached}
+use Rattle.law_type_fixes.specs.sql_tree.Statement.{Tree, IsTree}
+use Rattle.law_type_fixes.specs.lint_base.declared.edit.Edit.{Edit}
+use Rattle.law_type_fixes.specs.lint_base.declared.settings.LinterSettings.{LinterSettings}
+use Rattle.law_type_fixes.specs.lint_base.declared.violation.Violation.{Violation}
+use Rattle.law_type_fixes.specs.lint_base.Fixes.{FixValue}
+use Rattle.law_type_fixes.specs.lint_base.RuleSets.{Rules}
+use Rattle.law_type_fixes.specs.lint_ignore.Comment.{has_disable_comment, ignore_in_token}
+use Rattle.law_type_fixes.specs.pass_session.RequireTimeoutSettings.{reports_of_require_timeout_settings}
+use Rattle.law_type_fixes.specs.law_fixes.Edited.{edited, place_moved}
+use Rattle.law_type_fixes.specs.law_fixes.Mended.{Table, builds, dropped, rebuilt, detached}
 use Rattle.law_type_fixes.specs.Mended.{JoinsNone}
 use Rattle.law_type_fixes.specs.Rules.{type_table, ints, smallints, timestamps, varchars}
 use Rattle.law_fix_steps.specs.Kept.{Kept}

@@ -1,6 +1,6 @@
 //! What is reported of a text in which a fix was made, by all listed rules.
 
-ghost use Rattle.law_fixes.specs.Mended as word;
+ghost use Rattle.law_type_fixes.specs.law_fixes.Mended as word;
 ghost use Rattle.law_type_fixes.specs.Rules as column;
 ghost use Rattle.law_fix_steps.specs.Leaves.{FixesLeave};
 ghost use Rattle.law_fix_steps.specs.Step.{FixesStep, LoadIsSmall, timeouts};

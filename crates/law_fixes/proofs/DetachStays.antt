@@ -5,35 +5,35 @@ use Rattle.std.proofs.lemmas.List.{length-map, map-append}
 use Rattle.std.proofs.lemmas.List.Elements.{All-nil, All-cons, All-head, All-tail}
 use Rattle.std.specs.Prelude.{All, ◌&&◌, ◌==◌, is_none, codes}
 use Rattle.std.specs.Option.{option_map}
-use Rattle.text_pos.specs.Range.{Range}
-use Rattle.sql_token.specs.declared.token.Span.{Span}
-use Rattle.sql_tree.specs.declared.kinds.ActionKind.TheVariants as a
-use Rattle.sql_tree.specs.declared.kinds.StmtKind.{StmtKind}
-use Rattle.sql_tree.specs.declared.kinds.StmtKind.TheVariants as stmt
-use Rattle.sql_tree.specs.declared.nodes.Action.{Action}
-use Rattle.sql_tree.specs.declared.nodes.Body.{Body}
-use Rattle.sql_tree.specs.declared.nodes.Body.TheVariants as body
-use Rattle.sql_tree.specs.declared.nodes.Stmt.{Stmt}
-use Rattle.sql_tree.specs.Nodes.{actions_in}
-use Rattle.sql_tree.specs.Range.{span_range_of, token_at}
-use Rattle.sql_tree.specs.Statement.{Tree, IsTree}
-use Rattle.law_renumber.specs.Moved.{action_moved, span_moved, stmt_moved}
+use Rattle.pass_concurrent.specs.text_pos.Range.{Range}
+use Rattle.law_edit_inserts.specs.sql_token.declared.token.Span.{Span}
+use Rattle.law_edit_inserts.specs.sql_tree.declared.kinds.ActionKind.TheVariants as a
+use Rattle.law_edit_inserts.specs.sql_tree.declared.kinds.StmtKind.{StmtKind}
+use Rattle.law_edit_inserts.specs.sql_tree.declared.kinds.StmtKind.TheVariants as stmt
+use Rattle.law_edit_inserts.specs.sql_tree.declared.nodes.Action.{Action}
+use Rattle.law_edit_inserts.specs.sql_tree.declared.nodes.Body.{Body}
+use Rattle.law_edit_inserts.specs.sql_tree.declared.nodes.Body.TheVariants as body
+use Rattle.law_edit_inserts.specs.sql_tree.declared.nodes.Stmt.{Stmt}
+use Rattle.law_edit_inserts.specs.sql_tree.Nodes.{actions_in}
+use Rattle.law_edit_inserts.specs.sql_tree.Range.{span_range_of, token_at}
+use Rattle.law_edit_inserts.specs.sql_tree.Statement.{Tree, IsTree}
+use Rattle.law_edit_inserts.specs.law_renumber.Moved.{action_moved, span_moved, stmt_moved}
 use Rattle.law_edit_inserts.specs.Apart.{outside}
 use Rattle.law_edit_inserts.specs.Built.{concurrently_tree, detached_stmt, room_after, DetachTakesConcurrently}
 use Rattle.law_edit_inserts.specs.Concurrently.{concurrent_action}
 use Rattle.law_edit_inserts.proofs.Apart.{stays_within, statements_apart}
 use Rattle.law_edit_inserts.proofs.DetachFields.{detach_begins, detach_has_path}
-use Rattle.lint_base.specs.declared.rule.Rule.TheVariants as rule
-use Rattle.lint_base.specs.declared.settings.LinterSettings.{LinterSettings}
-use Rattle.lint_base.specs.declared.violation.Violation.{Violation}
-use Rattle.lint_base.specs.RuleSets.{Rules, has}
-use Rattle.lint_transaction.specs.Earlier.{concat_below}
-use Rattle.lint_transaction.specs.Transaction.{no_stmt, stmt_at}
-use Rattle.lint_node.specs.Plain.{is_plain_detach}
-use Rattle.lint_node.specs.Same.{same_action, same_kind}
-use Rattle.lint_pass.specs.Fixes.{insertion_fix}
-use Rattle.lint_pass.specs.RuleTables.{enabled_reports}
-use Rattle.lint_pass.specs.Those.{that, those}
+use Rattle.pass_concurrent.specs.lint_base.declared.rule.Rule.TheVariants as rule
+use Rattle.pass_concurrent.specs.lint_base.declared.settings.LinterSettings.{LinterSettings}
+use Rattle.pass_concurrent.specs.lint_base.declared.violation.Violation.{Violation}
+use Rattle.pass_concurrent.specs.lint_base.RuleSets.{Rules, has}
+use Rattle.pass_concurrent.specs.lint_transaction.Earlier.{concat_below}
+use Rattle.pass_concurrent.specs.lint_transaction.Transaction.{no_stmt, stmt_at}
+use Rattle.pass_concurrent.specs.lint_node.Plain.{is_plain_detach}
+use Rattle.pass_concurrent.specs.lint_node.Same.{same_action, same_kind}
+use Rattle.pass_concurrent.specs.lint_pass.Fixes.{insertion_fix}
+use Rattle.pass_concurrent.specs.lint_pass.RuleTables.{enabled_reports}
+use Rattle.pass_concurrent.specs.lint_pass.Those.{that, those}
 use Rattle.pass_concurrent.specs.RequireConcurrentPartitionDetach.{reports_of_require_concurrent_partition_detach, end_of, report}
 use Rattle.law_fixes.specs.Mended.{detachments_of}
 use Rattle.law_fixes.specs.Moved.{range_moved, end_moved, violation_moved}

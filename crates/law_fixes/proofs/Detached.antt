@@ -10,40 +10,40 @@ use Rattle.std.specs.Prelude.{All, ◌&&◌, ◌==◌, is_none}
 use Rattle.std.specs.List.{flat_map, AllPairs}
 use Rattle.std.specs.Option.{option_map}
 use denote.Enum.Bare.{same_true}
-use Rattle.sql_token.specs.Token.{Text}
-use Rattle.sql_token.specs.declared.token.Span.{Span}
-use Rattle.sql_token.specs.declared.token.Tok.{Tok}
-use Rattle.sql_tree.specs.contracts.kinds.ActionKind as actions
-use Rattle.sql_tree.specs.contracts.kinds.StmtKind as kinds
-use Rattle.sql_tree.specs.declared.kinds.StmtKind.{StmtKind}
-use Rattle.sql_tree.specs.declared.kinds.ActionKind.{ActionKind}
-use Rattle.sql_tree.specs.declared.kinds.ActionKind.TheVariants as a
-use Rattle.sql_tree.specs.declared.kinds.StmtKind.TheVariants as stmt
-use Rattle.sql_tree.specs.declared.nodes.Action.{Action}
-use Rattle.sql_tree.specs.declared.nodes.Body.{Body}
-use Rattle.sql_tree.specs.declared.nodes.Body.TheVariants as body
-use Rattle.sql_tree.specs.declared.nodes.Stmt.{Stmt}
-use Rattle.sql_tree.specs.Nodes.{actions_in, action_starts}
-use Rattle.sql_tree.specs.Range.{token_at}
-use Rattle.sql_tree.specs.Statement.{Tree, IsTree}
-use Rattle.law_renumber.specs.Moved.{action_moved, body_moved, span_moved, stmt_moved}
-use Rattle.law_renumber.proofs.NodeOrder.{actions_ascend}
+use Rattle.law_edit_inserts.specs.sql_token.Token.{Text}
+use Rattle.law_edit_inserts.specs.sql_token.declared.token.Span.{Span}
+use Rattle.law_edit_inserts.specs.sql_token.declared.token.Tok.{Tok}
+use Rattle.law_edit_inserts.specs.sql_tree.contracts.kinds.ActionKind as actions
+use Rattle.law_edit_inserts.specs.sql_tree.contracts.kinds.StmtKind as kinds
+use Rattle.law_edit_inserts.specs.sql_tree.declared.kinds.StmtKind.{StmtKind}
+use Rattle.law_edit_inserts.specs.sql_tree.declared.kinds.ActionKind.{ActionKind}
+use Rattle.law_edit_inserts.specs.sql_tree.declared.kinds.ActionKind.TheVariants as a
+use Rattle.law_edit_inserts.specs.sql_tree.declared.kinds.StmtKind.TheVariants as stmt
+use Rattle.law_edit_inserts.specs.sql_tree.declared.nodes.Action.{Action}
+use Rattle.law_edit_inserts.specs.sql_tree.declared.nodes.Body.{Body}
+use Rattle.law_edit_inserts.specs.sql_tree.declared.nodes.Body.TheVariants as body
+use Rattle.law_edit_inserts.specs.sql_tree.declared.nodes.Stmt.{Stmt}
+use Rattle.law_edit_inserts.specs.sql_tree.Nodes.{actions_in, action_starts}
+use Rattle.law_edit_inserts.specs.sql_tree.Range.{token_at}
+use Rattle.law_edit_inserts.specs.sql_tree.Statement.{Tree, IsTree}
+use Rattle.law_edit_inserts.specs.law_renumber.Moved.{action_moved, body_moved, span_moved, stmt_moved}
+use Rattle.law_edit_inserts.proofs.of_law_renumber.NodeOrder.{actions_ascend}
 use Rattle.law_edit_inserts.specs.Apart.{outside}
 use Rattle.law_edit_inserts.specs.Built.{concurrently_tree, detached_stmt, room_after, DetachTakesConcurrently}
 use Rattle.law_edit_inserts.specs.Concurrently.{concurrent_action}
 use Rattle.law_edit_inserts.proofs.Apart.{stays_within, statements_apart}
 use Rattle.law_edit_inserts.proofs.DetachFields.{detach_begins, detach_has_path, detach_reads}
-use Rattle.lint_base.specs.declared.rule.Rule.TheVariants as rule
-use Rattle.lint_base.specs.declared.settings.LinterSettings.{LinterSettings}
-use Rattle.lint_base.specs.declared.violation.Violation.{Violation}
-use Rattle.lint_base.specs.RuleSets.{Rules, has}
-use Rattle.lint_transaction.specs.Transaction.{ends_by, chains_by, created_by, no_stmt, stmt_at}
-use Rattle.lint_node.specs.Parts.{table_actions}
-use Rattle.lint_node.specs.Plain.{is_plain_detach}
-use Rattle.lint_node.specs.Same.{same_action, same_kind}
-use Rattle.lint_pass.specs.RuleLaws.{one_all, pieces_all, where_all}
-use Rattle.lint_pass.specs.RuleTables.{enabled_reports}
-use Rattle.lint_pass.specs.Those.{that, those}
+use Rattle.pass_concurrent.specs.lint_base.declared.rule.Rule.TheVariants as rule
+use Rattle.pass_concurrent.specs.lint_base.declared.settings.LinterSettings.{LinterSettings}
+use Rattle.pass_concurrent.specs.lint_base.declared.violation.Violation.{Violation}
+use Rattle.pass_concurrent.specs.lint_base.RuleSets.{Rules, has}
+use Rattle.pass_concurrent.specs.lint_transaction.Transaction.{ends_by, chains_by, created_by, no_stmt, stmt_at}
+use Rattle.pass_concurrent.specs.lint_node.Parts.{table_actions}
+use Rattle.pass_concurrent.specs.lint_node.Plain.{is_plain_detach}
+use Rattle.pass_concurrent.specs.lint_node.Same.{same_action, same_kind}
+use Rattle.pass_concurrent.specs.lint_pass.RuleLaws.{one_all, pieces_all, where_all}
+use Rattle.pass_concurrent.specs.lint_pass.RuleTables.{enabled_reports}
+use Rattle.pass_concurrent.specs.lint_pass.Those.{that, those}
 use Rattle.pass_concurrent.specs.Concurrently.{concurrently_after}
 use Rattle.pass_concurrent.specs.RequireConcurrentPartitionDetach.{reports_of_require_concurrent_partition_detach, end_of, report}
 use Rattle.law_fixes.specs.Mended.{FixMends, FixesMend, detached, detachments_of}

@@ -3,22 +3,22 @@ use Rattle.std.proofs.Common.{◌≡◌, ◌≢◌, ℕ, zero, suc, ◌+◌, ◌
 use Rattle.std.proofs.lemmas.Bool.Decides.{nat_tests}
 use Rattle.std.proofs.lemmas.List.Elements.{All-nil}
 use Rattle.std.specs.Prelude.{◌==◌, nat_le, All, codes}
-use Rattle.sql_token.specs.Token.{Text, Lexed}
-use Rattle.sql_tree.specs.declared.nodes.Stmt.{Stmt}
-use Rattle.sql_tree.specs.Range.{span_range_of, stmt_range_of}
-use Rattle.sql_tree.specs.Statement.{Tree, IsTree}
-use Rattle.law_edit_tokens.specs.Exchange.{exchanged}
+use Rattle.law_edit_inserts.specs.sql_token.Token.{Text, Lexed}
+use Rattle.law_edit_inserts.specs.sql_tree.declared.nodes.Stmt.{Stmt}
+use Rattle.law_edit_inserts.specs.sql_tree.Range.{span_range_of, stmt_range_of}
+use Rattle.law_edit_inserts.specs.sql_tree.Statement.{Tree, IsTree}
+use Rattle.law_edit_inserts.specs.law_edit_tokens.Exchange.{exchanged}
 use Rattle.law_edit_inserts.specs.Built.{concurrently_text, concurrently_tree, concurrent_stmt, TakesConcurrently}
 use Rattle.law_edit_inserts.proofs.Fields.{concurrently_reads}
-use Rattle.lint_base.specs.declared.edit.Edit.{Edit}
-use Rattle.lint_base.specs.declared.settings.LinterSettings.{LinterSettings}
-use Rattle.lint_base.specs.declared.violation.Violation.{Violation}
-use Rattle.lint_base.specs.Edits.{insertion}
-use Rattle.lint_base.specs.Fixes.{FixValue}
-use Rattle.lint_base.specs.RuleSets.{Rules, has}
-use Rattle.lint_transaction.specs.Transaction.{no_stmt, stmt_at}
-use Rattle.lint_transaction.specs.Earlier.{concat_below}
-use Rattle.lint_pass.specs.RuleLaws.{one_all, pieces_all, unless_all, where_all}
+use Rattle.pass_concurrent.specs.lint_base.declared.edit.Edit.{Edit}
+use Rattle.pass_concurrent.specs.lint_base.declared.settings.LinterSettings.{LinterSettings}
+use Rattle.pass_concurrent.specs.lint_base.declared.violation.Violation.{Violation}
+use Rattle.pass_concurrent.specs.lint_base.Edits.{insertion}
+use Rattle.pass_concurrent.specs.lint_base.Fixes.{FixValue}
+use Rattle.pass_concurrent.specs.lint_base.RuleSets.{Rules, has}
+use Rattle.pass_concurrent.specs.lint_transaction.Transaction.{no_stmt, stmt_at}
+use Rattle.pass_concurrent.specs.lint_transaction.Earlier.{concat_below}
+use Rattle.pass_concurrent.specs.lint_pass.RuleLaws.{one_all, pieces_all, unless_all, where_all}
 use Rattle.pass_concurrent.specs.Concurrently.{concurrently_after}
 use Rattle.law_fixes.specs.Edited.{edited, place_moved}
 use Rattle.law_fixes.specs.Moved.{start_moved, violation_moved}

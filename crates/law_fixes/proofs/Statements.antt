@@ -4,19 +4,19 @@ use Rattle.std.proofs.lemmas.Bool.{true≢false}
 use Rattle.std.proofs.lemmas.Bool.Decides.{nat_tests}
 use Rattle.std.specs.Prelude.{◌==◌, ◌&&◌, ◌||◌, not}
 use Rattle.std.specs.Option.{option_map}
-use Rattle.sql_token.specs.declared.token.Span.{Span}
-use Rattle.sql_tree.specs.declared.kinds.StmtKind.{StmtKind}
-use Rattle.sql_tree.specs.declared.nodes.Body.{Body}
-use Rattle.sql_tree.specs.declared.nodes.Body.TheVariants as body
-use Rattle.sql_tree.specs.declared.nodes.Stmt.{Stmt}
-use Rattle.sql_tree.specs.Path.{path_cuts}
-use Rattle.sql_tree.specs.Statement.{Tree, IsTree}
-use Rattle.law_renumber.specs.Moved.{span_moved, body_moved, stmt_moved}
+use Rattle.law_edit_inserts.specs.sql_token.declared.token.Span.{Span}
+use Rattle.law_edit_inserts.specs.sql_tree.declared.kinds.StmtKind.{StmtKind}
+use Rattle.law_edit_inserts.specs.sql_tree.declared.nodes.Body.{Body}
+use Rattle.law_edit_inserts.specs.sql_tree.declared.nodes.Body.TheVariants as body
+use Rattle.law_edit_inserts.specs.sql_tree.declared.nodes.Stmt.{Stmt}
+use Rattle.law_edit_inserts.specs.sql_tree.Path.{path_cuts}
+use Rattle.law_edit_inserts.specs.sql_tree.Statement.{Tree, IsTree}
+use Rattle.law_edit_inserts.specs.law_renumber.Moved.{span_moved, body_moved, stmt_moved}
 use Rattle.law_edit_inserts.specs.Built.{room_after, concurrently_tree}
 use Rattle.law_edit_inserts.specs.Apart.{outside, Apart}
 use Rattle.law_edit_inserts.proofs.Apart.{statements_apart, stays_within}
-use Rattle.lint_transaction.specs.Earlier.{any_below, since}
-use Rattle.lint_transaction.specs.Transaction.{begins, ends_by, ends, chains_by, chains, is_foreign_kind, created_by, created, same_path, is_path, creates, no_stmt, stmt_at, opens_at, ends_at, is_open, creates_at, is_new}
+use Rattle.pass_concurrent.specs.lint_transaction.Earlier.{any_below, since}
+use Rattle.pass_concurrent.specs.lint_transaction.Transaction.{begins, ends_by, ends, chains_by, chains, is_foreign_kind, created_by, created, same_path, is_path, creates, no_stmt, stmt_at, opens_at, ends_at, is_open, creates_at, is_new}
 use Rattle.law_fixes.proofs.Tokens.{low_path, high_path}
 
 -- ---- statements under other numbers

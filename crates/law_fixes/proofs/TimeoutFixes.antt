@@ -7,37 +7,37 @@ use Rattle.std.proofs.lemmas.List.Elements.{All-nil, All-append}
 use Rattle.std.specs.Prelude.{All, ◌==◌, ◌&&◌, ◌||◌, not, nat_lt, codes}
 use Rattle.std.specs.List.{position_or_len}
 use Rattle.std.specs.Str.{bytes_eq}
-use Rattle.text_pos.specs.declared.ending.LineEnding.{LineEnding}
-use Rattle.text_pos.specs.declared.ending.LineEnding.TheVariants.{Lf, CrLf}
-use Rattle.text_pos.specs.Line.{ending_bytes, line_ending_of}
-use Rattle.sql_name.specs.Name.{full_name}
-use Rattle.sql_token.specs.Token.{Text, Leads, text_of}
-use Rattle.sql_token.specs.Terminal.{is_significant, is_significant_token, symbol_of, terminals}
-use Rattle.sql_token.specs.declared.terminal.Symbol.TheVariants as s
-use Rattle.sql_token.specs.declared.token.Tok.{Tok}
-use Rattle.sql_token.specs.declared.token.TokKind.TheVariants.{Word}
-use Rattle.sql_token.proofs.Statements.{by_counts}
-use Rattle.sql_tree.specs.declared.nodes.Stmt.{Stmt}
-use Rattle.sql_tree.specs.Range.{token_at}
-use Rattle.sql_tree.specs.Statement.{Tree, IsTree, all_statements, no_token}
-use Rattle.law_edit_tokens.specs.Edits.{IsEnding, all_quiet, set_made}
-use Rattle.law_edit_tokens.specs.Exchange.{IsPlainWord, Made, exchanged, made_text, made_toks, reread, tok_moved}
-use Rattle.law_edit_tokens.proofs.After.{exchanged_at, leads_split, leads_within}
-use Rattle.law_edit_tokens.proofs.Terminals.{quiet_terms}
+use Rattle.pass_concurrent.specs.text_pos.declared.ending.LineEnding.{LineEnding}
+use Rattle.pass_concurrent.specs.text_pos.declared.ending.LineEnding.TheVariants.{Lf, CrLf}
+use Rattle.pass_concurrent.specs.text_pos.Line.{ending_bytes, line_ending_of}
+use Rattle.pass_concurrent.specs.sql_name.Name.{full_name}
+use Rattle.law_edit_inserts.specs.sql_token.Token.{Text, Leads, text_of}
+use Rattle.law_edit_inserts.specs.sql_token.Terminal.{is_significant, is_significant_token, symbol_of, terminals}
+use Rattle.law_edit_inserts.specs.sql_token.declared.terminal.Symbol.TheVariants as s
+use Rattle.law_edit_inserts.specs.sql_token.declared.token.Tok.{Tok}
+use Rattle.law_edit_inserts.specs.sql_token.declared.token.TokKind.TheVariants.{Word}
+use Rattle.law_edit_inserts.proofs.of_sql_token.Statements.{by_counts}
+use Rattle.law_edit_inserts.specs.sql_tree.declared.nodes.Stmt.{Stmt}
+use Rattle.law_edit_inserts.specs.sql_tree.Range.{token_at}
+use Rattle.law_edit_inserts.specs.sql_tree.Statement.{Tree, IsTree, all_statements, no_token}
+use Rattle.law_edit_inserts.specs.law_edit_tokens.Edits.{IsEnding, all_quiet, set_made}
+use Rattle.law_edit_inserts.specs.law_edit_tokens.Exchange.{IsPlainWord, Made, exchanged, made_text, made_toks, reread, tok_moved}
+use Rattle.law_edit_inserts.proofs.of_law_edit_tokens.After.{exchanged_at, leads_split, leads_within}
+use Rattle.law_edit_inserts.proofs.of_law_edit_tokens.Terminals.{quiet_terms}
 use Rattle.law_edit_inserts.specs.SetInFront.{set_tree}
 use Rattle.law_edit_inserts.proofs.Sets.{set_in_front, timeouts_are_words}
 use Rattle.law_edit_inserts.proofs.Statements.{of_read, all_ok}
-use Rattle.lint_base.specs.declared.edit.Edit.{Edit}
-use Rattle.lint_base.specs.declared.rule.Rule.{Rule}
-use Rattle.lint_base.specs.declared.rule.Rule.TheVariants as rule
-use Rattle.lint_base.specs.declared.violation.Violation.{Violation}
-use Rattle.lint_base.specs.Edits.{insertion}
-use Rattle.lint_base.specs.Fixes.{FixValue}
-use Rattle.lint_base.specs.RuleSets.{Rules, has}
-use Rattle.lint_transaction.specs.Earlier.{any_below, concat_below}
-use Rattle.lint_transaction.specs.Names.{name_at}
-use Rattle.lint_transaction.specs.Transaction.{stmt_at}
-use Rattle.lint_pass.specs.RuleLaws.{one_all, pieces_all, unless_all}
+use Rattle.pass_concurrent.specs.lint_base.declared.edit.Edit.{Edit}
+use Rattle.pass_concurrent.specs.lint_base.declared.rule.Rule.{Rule}
+use Rattle.pass_concurrent.specs.lint_base.declared.rule.Rule.TheVariants as rule
+use Rattle.pass_concurrent.specs.lint_base.declared.violation.Violation.{Violation}
+use Rattle.pass_concurrent.specs.lint_base.Edits.{insertion}
+use Rattle.pass_concurrent.specs.lint_base.Fixes.{FixValue}
+use Rattle.pass_concurrent.specs.lint_base.RuleSets.{Rules, has}
+use Rattle.pass_concurrent.specs.lint_transaction.Earlier.{any_below, concat_below}
+use Rattle.pass_concurrent.specs.lint_transaction.Names.{name_at}
+use Rattle.pass_concurrent.specs.lint_transaction.Transaction.{stmt_at}
+use Rattle.pass_concurrent.specs.lint_pass.RuleLaws.{one_all, pieces_all, unless_all}
 use Rattle.pass_session.specs.RequireTimeoutSettings.{is_first_slow, is_set, lock_report, lock_timeout, setting_fix, sets_at, statement_report, statement_timeout, timeouts_at, reports_of_require_timeout_settings, both_reports}
 use Rattle.pass_session.specs.Tokens.{first_place, first_significant, or_first}
 use Rattle.law_fixes.specs.Edited.{edited}

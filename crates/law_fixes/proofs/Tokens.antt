@@ -4,23 +4,23 @@ use Rattle.std.proofs.lemmas.Bool.{cases_lt}
 use Rattle.std.proofs.lemmas.Bool.Decides.{nat_tests}
 use Rattle.std.proofs.lemmas.List.{drop-drop, take-append-le, take-append-drop, length-take-le, map-append, take-map, drop-map, get_or_append_left, get_or-append_right, get_or-take, get_or-drop, get_or-map, length-map, take_more, drop_more}
 use Rattle.std.specs.List.{flat_map}
-use Rattle.sql_token.specs.declared.token.Span.{Span}
-use Rattle.sql_token.specs.declared.token.Tok.{Tok}
-use Rattle.sql_token.specs.Terminal.{is_name_kind}
-use Rattle.sql_token.specs.Token.{Text, Leads, Lexed, text_of}
-use Rattle.sql_token.proofs.Ahead.{Agree}
-use Rattle.sql_tree.specs.Path.{name_cuts, tokens_in, path_cuts}
-use Rattle.sql_name.specs.Name.{cut_name}
-use Rattle.sql_tree.specs.Range.{token_at}
-use Rattle.sql_tree.specs.Statement.{no_token}
-use Rattle.law_renumber.specs.Moved.{span_moved}
-use Rattle.law_edit_tokens.specs.Exchange.{exchanged, tok_moved, made_text, made_toks, reread}
-use Rattle.law_edit_tokens.specs.Edits.{concurrently_made}
+use Rattle.law_edit_inserts.specs.sql_token.declared.token.Span.{Span}
+use Rattle.law_edit_inserts.specs.sql_token.declared.token.Tok.{Tok}
+use Rattle.law_edit_inserts.specs.sql_token.Terminal.{is_name_kind}
+use Rattle.law_edit_inserts.specs.sql_token.Token.{Text, Leads, Lexed, text_of}
+use Rattle.law_edit_inserts.proofs.of_sql_token.Ahead.{Agree}
+use Rattle.law_edit_inserts.specs.sql_tree.Path.{name_cuts, tokens_in, path_cuts}
+use Rattle.pass_concurrent.specs.sql_name.Name.{cut_name}
+use Rattle.law_edit_inserts.specs.sql_tree.Range.{token_at}
+use Rattle.law_edit_inserts.specs.sql_tree.Statement.{no_token}
+use Rattle.law_edit_inserts.specs.law_renumber.Moved.{span_moved}
+use Rattle.law_edit_inserts.specs.law_edit_tokens.Exchange.{exchanged, tok_moved, made_text, made_toks, reread}
+use Rattle.law_edit_inserts.specs.law_edit_tokens.Edits.{concurrently_made}
 use Rattle.law_edit_inserts.specs.Built.{room_after}
-use Rattle.law_edit_tokens.proofs.Same.{agree_drop, take_same}
-use Rattle.law_edit_tokens.proofs.Prefix.{leads_grow}
-use Rattle.law_edit_tokens.proofs.After.{exchanged_after, exchanged_agrees, leads_append}
-use Rattle.law_edit_tokens.proofs.After.{leads_split}
+use Rattle.law_edit_inserts.proofs.of_law_edit_tokens.Same.{agree_drop, take_same}
+use Rattle.law_edit_inserts.proofs.of_law_edit_tokens.Prefix.{leads_grow}
+use Rattle.law_edit_inserts.proofs.of_law_edit_tokens.After.{exchanged_after, exchanged_agrees, leads_append}
+use Rattle.law_edit_inserts.proofs.of_law_edit_tokens.After.{leads_split}
 
 -- ---- the places of tokens
 

@@ -4,27 +4,27 @@ use Rattle.std.proofs.Common.{rules}
 use Rattle.std.specs.Prelude.{◌&&◌, not, codes, if◌then◌else◌}
 use Rattle.std.specs.Option.{option_map}
 use denote.Enum.Bare.{same_true}
-use Rattle.sql_token.specs.declared.token.Span.{Span}
-use Rattle.sql_tree.specs.contracts.kinds.StmtKind as kinds
-use Rattle.sql_tree.specs.declared.kinds.StmtKind.{StmtKind}
-use Rattle.sql_tree.specs.declared.kinds.StmtKind.TheVariants as stmt
-use Rattle.sql_tree.specs.declared.nodes.Body.{Body}
-use Rattle.sql_tree.specs.declared.nodes.Body.TheVariants as body
-use Rattle.sql_tree.specs.declared.nodes.Stmt.{Stmt}
-use Rattle.sql_tree.specs.Statement.{Tree, IsTree}
-use Rattle.law_renumber.specs.Moved.{span_moved, body_moved, stmt_moved}
+use Rattle.law_edit_inserts.specs.sql_token.declared.token.Span.{Span}
+use Rattle.law_edit_inserts.specs.sql_tree.contracts.kinds.StmtKind as kinds
+use Rattle.law_edit_inserts.specs.sql_tree.declared.kinds.StmtKind.{StmtKind}
+use Rattle.law_edit_inserts.specs.sql_tree.declared.kinds.StmtKind.TheVariants as stmt
+use Rattle.law_edit_inserts.specs.sql_tree.declared.nodes.Body.{Body}
+use Rattle.law_edit_inserts.specs.sql_tree.declared.nodes.Body.TheVariants as body
+use Rattle.law_edit_inserts.specs.sql_tree.declared.nodes.Stmt.{Stmt}
+use Rattle.law_edit_inserts.specs.sql_tree.Statement.{Tree, IsTree}
+use Rattle.law_edit_inserts.specs.law_renumber.Moved.{span_moved, body_moved, stmt_moved}
 use Rattle.law_edit_inserts.specs.Apart.{outside}
 use Rattle.law_edit_inserts.specs.Built.{room_after, concurrent_stmt, TakesConcurrently}
 use Rattle.law_edit_inserts.specs.Built.TakesConcurrently.{index, dropped, rebuilt}
 use Rattle.law_edit_inserts.specs.Concurrently.{concurrent_body}
 use Rattle.law_edit_inserts.proofs.Apart.{statements_apart}
-use Rattle.lint_base.specs.declared.rule.Rule.TheVariants as rule
-use Rattle.lint_base.specs.declared.settings.LinterSettings.{LinterSettings}
-use Rattle.lint_base.specs.RuleSets.{Rules, has}
-use Rattle.lint_transaction.specs.Earlier.{concat_below}
-use Rattle.lint_transaction.specs.Transaction.{ends_by, chains_by, created_by, stmt_at}
-use Rattle.lint_node.specs.Plain.{drops_plainly, is_system, rebuilds_plainly}
-use Rattle.lint_node.specs.Same.{same_kind}
+use Rattle.pass_concurrent.specs.lint_base.declared.rule.Rule.TheVariants as rule
+use Rattle.pass_concurrent.specs.lint_base.declared.settings.LinterSettings.{LinterSettings}
+use Rattle.pass_concurrent.specs.lint_base.RuleSets.{Rules, has}
+use Rattle.pass_concurrent.specs.lint_transaction.Earlier.{concat_below}
+use Rattle.pass_concurrent.specs.lint_transaction.Transaction.{ends_by, chains_by, created_by, stmt_at}
+use Rattle.pass_concurrent.specs.lint_node.Plain.{drops_plainly, is_system, rebuilds_plainly}
+use Rattle.pass_concurrent.specs.lint_node.Same.{same_kind}
 use Rattle.pass_concurrent.specs.RequireConcurrentIndexCreation as build
 use Rattle.pass_concurrent.specs.RequireConcurrentIndexDeletion as drops
 use Rattle.pass_concurrent.specs.RequireConcurrentReindex as reindexes

@@ -4,33 +4,33 @@ use Rattle.std.proofs.lemmas.Bool.Decides.{nat_tests}
 use Rattle.std.proofs.lemmas.List.{length-map}
 use Rattle.std.proofs.lemmas.List.Elements.{All-nil}
 use Rattle.std.specs.Prelude.{◌==◌, All, codes, if◌then◌else◌}
-use Rattle.text_pos.specs.Range.{Range}
-use Rattle.sql_token.specs.declared.token.Span.{Span}
-use Rattle.sql_token.specs.declared.token.Tok.{Tok}
-use Rattle.sql_tree.specs.declared.nodes.Body.{Body}
-use Rattle.sql_tree.specs.declared.nodes.Body.TheVariants as body
-use Rattle.sql_tree.specs.declared.nodes.Stmt.{Stmt}
-use Rattle.sql_tree.specs.Path.{path_cuts}
-use Rattle.sql_tree.specs.Range.{token_at, span_range_of, stmt_range_of}
-use Rattle.sql_tree.specs.Statement.{Tree}
-use Rattle.law_renumber.specs.Moved.{span_moved, body_moved, stmt_moved}
+use Rattle.pass_concurrent.specs.text_pos.Range.{Range}
+use Rattle.law_edit_inserts.specs.sql_token.declared.token.Span.{Span}
+use Rattle.law_edit_inserts.specs.sql_token.declared.token.Tok.{Tok}
+use Rattle.law_edit_inserts.specs.sql_tree.declared.nodes.Body.{Body}
+use Rattle.law_edit_inserts.specs.sql_tree.declared.nodes.Body.TheVariants as body
+use Rattle.law_edit_inserts.specs.sql_tree.declared.nodes.Stmt.{Stmt}
+use Rattle.law_edit_inserts.specs.sql_tree.Path.{path_cuts}
+use Rattle.law_edit_inserts.specs.sql_tree.Range.{token_at, span_range_of, stmt_range_of}
+use Rattle.law_edit_inserts.specs.sql_tree.Statement.{Tree}
+use Rattle.law_edit_inserts.specs.law_renumber.Moved.{span_moved, body_moved, stmt_moved}
 use Rattle.law_edit_inserts.specs.Concurrently.{concurrent_body}
 use Rattle.law_edit_inserts.specs.Built.{room_after, concurrently_tree, concurrent_stmt, TakesConcurrently}
 use Rattle.law_edit_inserts.specs.Built.TakesConcurrently.{index, dropped, rebuilt}
-use Rattle.sql_tree.specs.declared.kinds.StmtKind.{StmtKind}
+use Rattle.law_edit_inserts.specs.sql_tree.declared.kinds.StmtKind.{StmtKind}
 use Rattle.std.specs.Option.{option_map}
 use Rattle.law_edit_inserts.specs.Apart.{outside}
 use Rattle.law_edit_inserts.proofs.Apart.{stays_within}
-use Rattle.lint_base.specs.declared.settings.LinterSettings.{LinterSettings}
-use Rattle.lint_base.specs.declared.violation.Violation.{Violation}
-use Rattle.lint_base.specs.RuleSets.{Rules, has}
-use Rattle.lint_transaction.specs.Earlier.{concat_below}
-use Rattle.lint_transaction.specs.Transaction.{no_stmt, stmt_at, is_new}
-use Rattle.lint_pass.specs.RuleLaws.{one_all, pieces_all, unless_all, where_all}
-use Rattle.lint_pass.specs.Fixes.{insertion_fix}
+use Rattle.pass_concurrent.specs.lint_base.declared.settings.LinterSettings.{LinterSettings}
+use Rattle.pass_concurrent.specs.lint_base.declared.violation.Violation.{Violation}
+use Rattle.pass_concurrent.specs.lint_base.RuleSets.{Rules, has}
+use Rattle.pass_concurrent.specs.lint_transaction.Earlier.{concat_below}
+use Rattle.pass_concurrent.specs.lint_transaction.Transaction.{no_stmt, stmt_at, is_new}
+use Rattle.pass_concurrent.specs.lint_pass.RuleLaws.{one_all, pieces_all, unless_all, where_all}
+use Rattle.pass_concurrent.specs.lint_pass.Fixes.{insertion_fix}
 use Rattle.law_fixes.specs.Moved.{start_moved, end_moved, range_moved, violation_moved}
 use Rattle.law_fixes.proofs.Tokens.{low_token, high_token, starts_ascend}
-use Rattle.lint_base.specs.declared.rule.Rule.{Rule}
+use Rattle.pass_concurrent.specs.lint_base.declared.rule.Rule.{Rule}
 use Rattle.law_fixes.specs.Stays.{place_of, inserted}
 use Rattle.law_fixes.proofs.Statements.{Added, inside, Aside, Away, Other, path_aside, others, this_new, new_same}
 

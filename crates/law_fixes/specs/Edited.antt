@@ -1,6 +1,6 @@
 -- What edits make of a text, and where its places are then.
 use Rattle.std.specs.Prelude.{ℕ, ◌+◌, ◌-◌, nat_le, if◌then◌else◌, List, [], ◌∷◌, ◌++◌, drop, length, slice_range, unwrap_or}
-use Rattle.lint_base.specs.declared.edit.Edit.{Edit}
+use Rattle.pass_concurrent.specs.lint_base.declared.edit.Edit.{Edit}
 
 -- what an edit puts in the place of its range: its text, or nothing
 abbrev pub put_by : Edit → List ℕ

@@ -1,23 +1,23 @@
 -- The law of a fix: the text that it makes has a tree, its terminals are those of the old text but for what the fix adds, and its
 -- rule reports nothing there.
 use Rattle.std.specs.Prelude.{◌≡◌, ◌≢◌, ◌<◌, ℕ, ◌+◌, ◌^◌, List, [], ◌∷◌, codes, drop, length, take, All, Some}
-use Rattle.sql_token.specs.declared.token.Tok.{Tok}
-use Rattle.sql_tree.specs.declared.nodes.Stmt.{Stmt}
-use Rattle.sql_tree.specs.Range.{token_at}
-use Rattle.sql_tree.specs.Statement.{Tree, IsTree}
-use Rattle.law_edit_tokens.specs.Edits.{concurrently_made}
-use Rattle.law_edit_tokens.specs.Exchange.{made_text, made_toks, reread}
+use Rattle.law_edit_inserts.specs.sql_token.declared.token.Tok.{Tok}
+use Rattle.law_edit_inserts.specs.sql_tree.declared.nodes.Stmt.{Stmt}
+use Rattle.law_edit_inserts.specs.sql_tree.Range.{token_at}
+use Rattle.law_edit_inserts.specs.sql_tree.Statement.{Tree, IsTree}
+use Rattle.law_edit_inserts.specs.law_edit_tokens.Edits.{concurrently_made}
+use Rattle.law_edit_inserts.specs.law_edit_tokens.Exchange.{made_text, made_toks, reread}
 use Rattle.law_edit_inserts.specs.Built.{WordAdded}
-use Rattle.lint_base.specs.declared.edit.Edit.{Edit}
-use Rattle.lint_base.specs.declared.rule.Rule.{Rule}
-use Rattle.lint_base.specs.declared.rule.Rule.TheVariants as rule
-use Rattle.lint_base.specs.declared.settings.LinterSettings.{LinterSettings}
-use Rattle.lint_base.specs.declared.violation.Violation.{Violation}
-use Rattle.lint_base.specs.Edits.{insertion}
-use Rattle.lint_base.specs.Fixes.{FixValue}
-use Rattle.lint_base.specs.RuleSets.{Rules}
-use Rattle.lint_transaction.specs.Transaction.{stmt_at}
-use Rattle.lint_pass.specs.RuleTables.{table_of}
+use Rattle.pass_concurrent.specs.lint_base.declared.edit.Edit.{Edit}
+use Rattle.pass_concurrent.specs.lint_base.declared.rule.Rule.{Rule}
+use Rattle.pass_concurrent.specs.lint_base.declared.rule.Rule.TheVariants as rule
+use Rattle.pass_concurrent.specs.lint_base.declared.settings.LinterSettings.{LinterSettings}
+use Rattle.pass_concurrent.specs.lint_base.declared.violation.Violation.{Violation}
+use Rattle.pass_concurrent.specs.lint_base.Edits.{insertion}
+use Rattle.pass_concurrent.specs.lint_base.Fixes.{FixValue}
+use Rattle.pass_concurrent.specs.lint_base.RuleSets.{Rules}
+use Rattle.pass_concurrent.specs.lint_transaction.Transaction.{stmt_at}
+use Rattle.pass_concurrent.specs.lint_pass.RuleTables.{table_of}
 use Rattle.pass_concurrent.specs.RequireConcurrentIndexCreation.{reports_on}
 use Rattle.pass_concurrent.specs.RequireConcurrentIndexDeletion.{reports_of_require_concurrent_index_deletion}
 use Rattle.pass_concurrent.specs.RequireConcurrentPartitionDetach.{reports_of_require_concurrent_partition_detach}

@@ -1,10 +1,10 @@
 -- Places and reports where bytes were inserted after a token.
 use Rattle.std.specs.Prelude.{ℕ, ◌+◌, nat_lt, nat_le, if◌then◌else◌, map}
 use Rattle.std.specs.Option.{option_map}
-use Rattle.text_pos.specs.Range.{Range}
-use Rattle.lint_base.specs.declared.edit.Edit.{Edit}
-use Rattle.lint_base.specs.declared.violation.Violation.{Violation}
-use Rattle.lint_base.specs.Fixes.{FixValue}
+use Rattle.pass_concurrent.specs.text_pos.Range.{Range}
+use Rattle.pass_concurrent.specs.lint_base.declared.edit.Edit.{Edit}
+use Rattle.pass_concurrent.specs.lint_base.declared.violation.Violation.{Violation}
+use Rattle.pass_concurrent.specs.lint_base.Fixes.{FixValue}
 
 -- where a token starts now that started at x, if w bytes were inserted at a
 abbrev pub start_moved : ℕ → ℕ → ℕ → ℕ

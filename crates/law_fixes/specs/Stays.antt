@@ -1,24 +1,24 @@
 -- Both directions: what is reported of a text with the word is what was reported without it, moved, but for the statement that
 -- has the word now.
 use Rattle.std.specs.Prelude.{◌≡◌, ℕ, ◌==◌, if◌then◌else◌, List, [], ◌∷◌, ◌++◌, map, length, Option}
-use Rattle.sql_tree.specs.declared.nodes.Stmt.{Stmt}
-use Rattle.sql_tree.specs.Range.{token_at}
-use Rattle.sql_tree.specs.Statement.{Tree, IsTree}
-use Rattle.law_edit_tokens.specs.Edits.{concurrently_made}
-use Rattle.law_edit_tokens.specs.Exchange.{made_text}
-use Rattle.sql_token.specs.declared.token.Span.{Span}
-use Rattle.sql_tree.specs.declared.nodes.Action.{Action}
+use Rattle.law_edit_inserts.specs.sql_tree.declared.nodes.Stmt.{Stmt}
+use Rattle.law_edit_inserts.specs.sql_tree.Range.{token_at}
+use Rattle.law_edit_inserts.specs.sql_tree.Statement.{Tree, IsTree}
+use Rattle.law_edit_inserts.specs.law_edit_tokens.Edits.{concurrently_made}
+use Rattle.law_edit_inserts.specs.law_edit_tokens.Exchange.{made_text}
+use Rattle.law_edit_inserts.specs.sql_token.declared.token.Span.{Span}
+use Rattle.law_edit_inserts.specs.sql_tree.declared.nodes.Action.{Action}
 use Rattle.law_edit_inserts.specs.Built.{concurrently_tree, detached_stmt, concurrent_stmt, DetachTakesConcurrently, TakesConcurrently}
-use Rattle.lint_base.specs.declared.rule.Rule.{Rule}
-use Rattle.lint_base.specs.declared.rule.Rule.TheVariants as rule
-use Rattle.lint_base.specs.declared.settings.LinterSettings.{LinterSettings}
-use Rattle.lint_base.specs.declared.violation.Violation.{Violation}
-use Rattle.lint_base.specs.RuleSets.{Rules}
-use Rattle.lint_transaction.specs.Earlier.{concat_below}
-use Rattle.lint_transaction.specs.Transaction.{stmt_at}
-use Rattle.lint_pass.specs.RuleTables.{enabled_reports}
-use Rattle.lint_pass.specs.Those.{those}
-use Rattle.lint_node.specs.Plain.{is_plain_detach}
+use Rattle.pass_concurrent.specs.lint_base.declared.rule.Rule.{Rule}
+use Rattle.pass_concurrent.specs.lint_base.declared.rule.Rule.TheVariants as rule
+use Rattle.pass_concurrent.specs.lint_base.declared.settings.LinterSettings.{LinterSettings}
+use Rattle.pass_concurrent.specs.lint_base.declared.violation.Violation.{Violation}
+use Rattle.pass_concurrent.specs.lint_base.RuleSets.{Rules}
+use Rattle.pass_concurrent.specs.lint_transaction.Earlier.{concat_below}
+use Rattle.pass_concurrent.specs.lint_transaction.Transaction.{stmt_at}
+use Rattle.pass_concurrent.specs.lint_pass.RuleTables.{enabled_reports}
+use Rattle.pass_concurrent.specs.lint_pass.Those.{those}
+use Rattle.pass_concurrent.specs.lint_node.Plain.{is_plain_detach}
 use Rattle.pass_concurrent.specs.RequireConcurrentPartitionDetach.{reports_of_require_concurrent_partition_detach, report}
 use Rattle.law_fixes.specs.Mended.{Reports, detached, table_by}
 use Rattle.law_fixes.specs.Moved.{violation_moved}

@@ -1,21 +1,21 @@
 -- The law of the fixes that set a timeout: one statement more, in front of all others, and the rule reports nothing at all.
 use Rattle.std.specs.Prelude.{◌≡◌, ◌≢◌, ◌<◌, ℕ, ◌+◌, ◌^◌, true, List, [], ◌∷◌, drop, map, length, take, All, Some}
-use Rattle.text_pos.specs.Line.{ending_bytes, line_ending_of}
-use Rattle.sql_token.specs.declared.token.Tok.{Tok}
-use Rattle.sql_token.specs.Depth.{statements}
-use Rattle.sql_token.specs.Terminal.{is_significant, terminals}
-use Rattle.sql_tree.specs.Range.{token_at}
-use Rattle.sql_tree.specs.Statement.{Tree, IsTree}
-use Rattle.law_renumber.specs.Renumber.{renumber}
-use Rattle.law_edit_tokens.specs.Edits.{all_quiet, set_made}
-use Rattle.law_edit_tokens.specs.Exchange.{Made, made_text, made_toks, reread}
+use Rattle.pass_concurrent.specs.text_pos.Line.{ending_bytes, line_ending_of}
+use Rattle.law_edit_inserts.specs.sql_token.declared.token.Tok.{Tok}
+use Rattle.law_edit_inserts.specs.sql_token.Depth.{statements}
+use Rattle.law_edit_inserts.specs.sql_token.Terminal.{is_significant, terminals}
+use Rattle.law_edit_inserts.specs.sql_tree.Range.{token_at}
+use Rattle.law_edit_inserts.specs.sql_tree.Statement.{Tree, IsTree}
+use Rattle.law_edit_inserts.specs.law_renumber.Renumber.{renumber}
+use Rattle.law_edit_inserts.specs.law_edit_tokens.Edits.{all_quiet, set_made}
+use Rattle.law_edit_inserts.specs.law_edit_tokens.Exchange.{Made, made_text, made_toks, reread}
 use Rattle.law_edit_inserts.specs.SetInFront.{set_terms, room_before}
-use Rattle.lint_base.specs.declared.edit.Edit.{Edit}
-use Rattle.lint_base.specs.declared.rule.Rule.{Rule}
-use Rattle.lint_base.specs.declared.rule.Rule.TheVariants as rule
-use Rattle.lint_base.specs.Edits.{insertion}
-use Rattle.lint_base.specs.Fixes.{FixValue}
-use Rattle.lint_base.specs.RuleSets.{Rules}
+use Rattle.pass_concurrent.specs.lint_base.declared.edit.Edit.{Edit}
+use Rattle.pass_concurrent.specs.lint_base.declared.rule.Rule.{Rule}
+use Rattle.pass_concurrent.specs.lint_base.declared.rule.Rule.TheVariants as rule
+use Rattle.pass_concurrent.specs.lint_base.Edits.{insertion}
+use Rattle.pass_concurrent.specs.lint_base.Fixes.{FixValue}
+use Rattle.pass_concurrent.specs.lint_base.RuleSets.{Rules}
 use Rattle.pass_session.specs.RequireTimeoutSettings.{lock_timeout, statement_timeout, reports_of_require_timeout_settings}
 use Rattle.law_fixes.specs.Edited.{edited}
 

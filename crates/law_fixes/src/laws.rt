@@ -1,6 +1,6 @@
 //! What is reported of a text in which a fix was made.
 
-ghost use Rattle.lint_base.specs.declared.rule.Rule.TheVariants as rule;
+ghost use Rattle.pass_concurrent.specs.lint_base.declared.rule.Rule.TheVariants as rule;
 ghost use Rattle.law_fixes.specs.Mended as table;
 ghost use Rattle.law_fixes.specs.Mended.{FixesMend};
 ghost use Rattle.law_fixes.specs.Stays.{DetachesStay, TableStays};

@@ -2,3 +2,12 @@
 #![tactic(auto)]
 
 pub mod laws;
+
+// What crates above reach through this one.
+pub use pass_concurrent::{
+    RequireConcurrentIndexCreation, RequireConcurrentIndexDeletion,
+    RequireConcurrentPartitionDetach, RequireConcurrentReindex,
+};
+pub use pass_session::{
+    BanUncommittedTransaction, PreferRepack, RequireTimeoutSettings, TransactionNesting,
+};

@@ -3,23 +3,23 @@ use Rattle.std.proofs.Common.{◌≡◌, ◌∙◌, sym, ap, subst, refl, ℕ, �
 use Rattle.std.proofs.lemmas.Bool.{false≢true}
 use Rattle.std.proofs.lemmas.List.{append_assoc, take-append-drop}
 use Rattle.std.proofs.lemmas.List.Elements.{All-cons, All-contains, All-head, All-nil, All-tail}
-use Rattle.sql_keyword.specs.declared.words.TheConstants.Keyword as keyword
-use Rattle.sql_token.specs.declared.terminal.Terminal.{Terminal}
-use Rattle.sql_token.specs.declared.token.Span.{Span}
-use Rattle.sql_token.specs.Depth.{has_keyword, one_if, onto, span_of}
-use Rattle.sql_token.specs.Sound.{is_sound}
-use Rattle.sql_token.specs.Terminal.{is_closer, is_opener, is_semicolon}
-use Rattle.sql_tree.specs.declared.kinds.StmtKind.{StmtKind}
-use Rattle.sql_tree.specs.declared.kinds.StmtKind.TheVariants as stmt
-use Rattle.sql_tree.specs.declared.nodes.Action.{Action}
-use Rattle.sql_tree.specs.declared.nodes.Body.{Body}
-use Rattle.sql_tree.specs.declared.nodes.Body.TheVariants as body
-use Rattle.sql_tree.specs.declared.nodes.Stmt.{Stmt}
-use Rattle.sql_tree.specs.Action.{action, actions_of, several_actions}
-use Rattle.sql_tree.specs.Forms.{State}
-use Rattle.sql_tree.specs.Nodes.{actions_in}
-use Rattle.sql_tree.specs.Split.{Test, all_of, and_others, comma, split, split_from}
-use Rattle.sql_tree.specs.Statement.{body_by, body_shape_of, final_kind, form_from, form_of, from_verb, front_by, kind_and_body, last_of, statement, stmt_in, without_semicolon}
+use Rattle.law_renumber.specs.sql_keyword.declared.words.TheConstants.Keyword as keyword
+use Rattle.law_renumber.specs.sql_token.declared.terminal.Terminal.{Terminal}
+use Rattle.law_renumber.specs.sql_token.declared.token.Span.{Span}
+use Rattle.law_renumber.specs.sql_token.Depth.{has_keyword, one_if, onto, span_of}
+use Rattle.law_renumber.specs.sql_token.Sound.{is_sound}
+use Rattle.law_renumber.specs.sql_token.Terminal.{is_closer, is_opener, is_semicolon}
+use Rattle.law_renumber.specs.sql_tree.declared.kinds.StmtKind.{StmtKind}
+use Rattle.law_renumber.specs.sql_tree.declared.kinds.StmtKind.TheVariants as stmt
+use Rattle.law_renumber.specs.sql_tree.declared.nodes.Action.{Action}
+use Rattle.law_renumber.specs.sql_tree.declared.nodes.Body.{Body}
+use Rattle.law_renumber.specs.sql_tree.declared.nodes.Body.TheVariants as body
+use Rattle.law_renumber.specs.sql_tree.declared.nodes.Stmt.{Stmt}
+use Rattle.law_renumber.specs.sql_tree.Action.{action, actions_of, several_actions}
+use Rattle.law_renumber.specs.sql_tree.Forms.{State}
+use Rattle.law_renumber.specs.sql_tree.Nodes.{actions_in}
+use Rattle.law_renumber.specs.sql_tree.Split.{Test, all_of, and_others, comma, split, split_from}
+use Rattle.law_renumber.specs.sql_tree.Statement.{body_by, body_shape_of, final_kind, form_from, form_of, from_verb, front_by, kind_and_body, last_of, statement, stmt_in, without_semicolon}
 use Rattle.law_renumber.proofs.Left.{front_left, verb_left}
 use Rattle.law_renumber.proofs.There.{IfThere, from_there}
 use Rattle.law_hazards.proofs.Reading.{IsRead}

@@ -1,19 +1,19 @@
 -- Columns with a CHECK, and columns of type json, are added to tables of ours.
 use Rattle.std.proofs.Common.{◌≡◌, ◌∙◌, sym, ap, subst, refl, ℕ, ◌+◌, Bool, true, false, ◌&&◌, not, cond, List, [], ◌∷◌, codes, drop, Option, Some, None, is_some, Contains, option_and_then}
 use Rattle.std.proofs.lemmas.Bool.{not_from_false, false≢true}
-use Rattle.sql_keyword.specs.declared.words.TheConstants.Keyword as keyword
-use Rattle.sql_token.specs.declared.token.Span.{Span}
-use Rattle.sql_token.specs.declared.token.Tok.{Tok}
-use Rattle.sql_tree.specs.declared.nodes.Action.{Action}
-use Rattle.sql_tree.specs.declared.nodes.Column.{Column}
-use Rattle.sql_tree.specs.declared.nodes.ConKind.TheVariants as con
-use Rattle.sql_tree.specs.declared.nodes.Constraint.{Constraint}
-use Rattle.sql_tree.specs.Statement.{Tree}
-use Rattle.lint_transaction.specs.Names.{is_one_name}
-use Rattle.lint_transaction.specs.Transaction.{stmt_at}
-use Rattle.hazard_base.specs.declared.hazard.Hazard.TheVariants as hazard
+use Rattle.law_renumber.specs.sql_keyword.declared.words.TheConstants.Keyword as keyword
+use Rattle.law_renumber.specs.sql_token.declared.token.Span.{Span}
+use Rattle.law_renumber.specs.sql_token.declared.token.Tok.{Tok}
+use Rattle.law_renumber.specs.sql_tree.declared.nodes.Action.{Action}
+use Rattle.law_renumber.specs.sql_tree.declared.nodes.Column.{Column}
+use Rattle.law_renumber.specs.sql_tree.declared.nodes.ConKind.TheVariants as con
+use Rattle.law_renumber.specs.sql_tree.declared.nodes.Constraint.{Constraint}
+use Rattle.law_renumber.specs.sql_tree.Statement.{Tree}
+use Rattle.hazard_find.specs.lint_transaction.Names.{is_one_name}
+use Rattle.hazard_find.specs.lint_transaction.Transaction.{stmt_at}
+use Rattle.hazard_find.specs.hazard_base.declared.hazard.Hazard.TheVariants as hazard
 use Rattle.hazard_find.specs.Columns.{added_json, is_excused, is_excused_by, is_scanned, json_in}
-use Rattle.lint_node.specs.ColumnTypes.{added_type}
+use Rattle.hazard_find.specs.lint_node.ColumnTypes.{added_type}
 use Rattle.hazard_find.specs.Laws.{ColumnsAreNoJson, ColumnsAreUnchecked}
 use Rattle.hazard_find.specs.Look.{after_optional, token_from}
 use Rattle.law_hazards.specs.Additions.{HasCheck, IsEnforced, IsJson, behind}

@@ -3,23 +3,23 @@ use Rattle.std.proofs.Common.{◌≡◌, ◌<◌, ◌≤◌, ◌⊎◌, ◌∙�
 use Rattle.std.proofs.lemmas.Bool.{and_parts, cases_lt, false≢true}
 use Rattle.std.proofs.lemmas.List.{drop-take}
 use denote.Enum.Bare.{same_true}
-use Rattle.sql_keyword.specs.contracts.words.Object as objects
-use Rattle.sql_keyword.specs.contracts.words.Other as others
-use Rattle.sql_keyword.specs.contracts.words.Verb as verbs
-use Rattle.sql_keyword.specs.declared.words.Keyword.{Keyword}
-use Rattle.sql_keyword.specs.declared.words.Keyword.TheVariants as k
-use Rattle.sql_keyword.specs.Find.{keyword_of}
-use Rattle.sql_keyword.specs.Same.{same_keyword}
-use Rattle.sql_token.specs.declared.terminal.Symbol.{Symbol}
-use Rattle.sql_token.specs.declared.terminal.Symbol.TheVariants as symbol
-use Rattle.sql_token.specs.declared.terminal.Terminal.{Terminal}
-use Rattle.sql_token.specs.declared.token.Tok.{Tok}
-use Rattle.sql_token.specs.declared.token.TokKind.{TokKind}
-use Rattle.sql_token.specs.declared.token.TokKind.TheVariants as kinds
-use Rattle.sql_token.specs.Depth.{span_of}
-use Rattle.sql_token.specs.Terminal.{is_keyword, is_keyword_symbol, is_significant, is_significant_token, symbol_of, terminals, terminals_from, word_symbol}
-use Rattle.sql_token.specs.Token.{Text, text_of}
-use Rattle.sql_tree.specs.Statement.{Tree}
+use Rattle.law_renumber.specs.sql_keyword.contracts.words.Object as objects
+use Rattle.law_renumber.specs.sql_keyword.contracts.words.Other as others
+use Rattle.law_renumber.specs.sql_keyword.contracts.words.Verb as verbs
+use Rattle.law_renumber.specs.sql_keyword.declared.words.Keyword.{Keyword}
+use Rattle.law_renumber.specs.sql_keyword.declared.words.Keyword.TheVariants as k
+use Rattle.law_renumber.specs.sql_keyword.Find.{keyword_of}
+use Rattle.law_renumber.specs.sql_keyword.Same.{same_keyword}
+use Rattle.law_renumber.specs.sql_token.declared.terminal.Symbol.{Symbol}
+use Rattle.law_renumber.specs.sql_token.declared.terminal.Symbol.TheVariants as symbol
+use Rattle.law_renumber.specs.sql_token.declared.terminal.Terminal.{Terminal}
+use Rattle.law_renumber.specs.sql_token.declared.token.Tok.{Tok}
+use Rattle.law_renumber.specs.sql_token.declared.token.TokKind.{TokKind}
+use Rattle.law_renumber.specs.sql_token.declared.token.TokKind.TheVariants as kinds
+use Rattle.law_renumber.specs.sql_token.Depth.{span_of}
+use Rattle.law_renumber.specs.sql_token.Terminal.{is_keyword, is_keyword_symbol, is_significant, is_significant_token, symbol_of, terminals, terminals_from, word_symbol}
+use Rattle.law_renumber.specs.sql_token.Token.{Text, text_of}
+use Rattle.law_renumber.specs.sql_tree.Statement.{Tree}
 use Rattle.law_hazards.specs.Words.{begin_with, is_key, is_this, key_by, shown}
 use Rattle.law_hazards.proofs.Nodes.{both_on}
 

@@ -6,26 +6,26 @@ use Rattle.std.specs.Str.{bytes_eq}
 use Rattle.std.proofs.lemmas.Bool.{and_parts, and_right, false_from_ne_true, not_from_false, or_cases, or_left, or_parts, or_right, false≢true, true≢false}
 use Rattle.std.proofs.lemmas.List.Folds.{Any-from_list_any}
 use Rattle.std.proofs.lemmas.Slice.Eq.{bytes_eq-Decides}
-use Rattle.sql_keyword.specs.declared.words.TheConstants.Keyword as keyword
-use Rattle.sql_keyword.specs.declared.words.Keyword.{Keyword}
-use Rattle.sql_token.specs.declared.token.Span.{Span}
-use Rattle.sql_token.specs.declared.token.Tok.{Tok}
-use Rattle.sql_token.specs.declared.token.TokKind.{TokKind}
-use Rattle.sql_token.specs.declared.token.TokKind.TheVariants as kinds
-use Rattle.sql_token.specs.Token.{Text, text_of}
-use Rattle.sql_tree.specs.declared.kinds.StmtKind.{StmtKind}
-use Rattle.sql_tree.specs.declared.kinds.StmtKind.TheVariants as stmt
-use Rattle.sql_tree.specs.declared.nodes.Body.{Body}
-use Rattle.sql_tree.specs.declared.nodes.Body.TheVariants as body
-use Rattle.sql_tree.specs.declared.nodes.Stmt.{Stmt}
-use Rattle.sql_tree.specs.Range.{token_at}
-use Rattle.sql_tree.specs.Statement.{Tree}
-use Rattle.lint_node.specs.Same.{same_kind}
-use Rattle.lint_transaction.specs.Names.{is_one_name, name_at}
-use Rattle.lint_transaction.specs.Transaction.{same_path, stmt_at}
-use Rattle.lint_transaction.proofs.EarlierLaws.{and_true}
-use Rattle.lint_transaction.proofs.Paths.{same_so}
-use Rattle.hazard_base.specs.declared.hazard.Hazard.TheVariants as hazard
+use Rattle.law_renumber.specs.sql_keyword.declared.words.TheConstants.Keyword as keyword
+use Rattle.law_renumber.specs.sql_keyword.declared.words.Keyword.{Keyword}
+use Rattle.law_renumber.specs.sql_token.declared.token.Span.{Span}
+use Rattle.law_renumber.specs.sql_token.declared.token.Tok.{Tok}
+use Rattle.law_renumber.specs.sql_token.declared.token.TokKind.{TokKind}
+use Rattle.law_renumber.specs.sql_token.declared.token.TokKind.TheVariants as kinds
+use Rattle.law_renumber.specs.sql_token.Token.{Text, text_of}
+use Rattle.law_renumber.specs.sql_tree.declared.kinds.StmtKind.{StmtKind}
+use Rattle.law_renumber.specs.sql_tree.declared.kinds.StmtKind.TheVariants as stmt
+use Rattle.law_renumber.specs.sql_tree.declared.nodes.Body.{Body}
+use Rattle.law_renumber.specs.sql_tree.declared.nodes.Body.TheVariants as body
+use Rattle.law_renumber.specs.sql_tree.declared.nodes.Stmt.{Stmt}
+use Rattle.law_renumber.specs.sql_tree.Range.{token_at}
+use Rattle.law_renumber.specs.sql_tree.Statement.{Tree}
+use Rattle.hazard_find.specs.lint_node.Same.{same_kind}
+use Rattle.hazard_find.specs.lint_transaction.Names.{is_one_name, name_at}
+use Rattle.hazard_find.specs.lint_transaction.Transaction.{same_path, stmt_at}
+use Rattle.hazard_find.proofs.of_lint_transaction.EarlierLaws.{and_true}
+use Rattle.hazard_find.proofs.of_lint_transaction.Paths.{same_so}
+use Rattle.hazard_find.specs.hazard_base.declared.hazard.Hazard.TheVariants as hazard
 use Rattle.hazard_find.specs.Earlier.{dropped_by, drops, is_dropped_index, is_limited, is_under_timeout, last_cut, lock_timeout, statement_timeout}
 use Rattle.hazard_find.specs.Findings.{builds, builds_by, keeps, keeps_by}
 use Rattle.hazard_find.specs.Here.{index_by, index_of, one_name}

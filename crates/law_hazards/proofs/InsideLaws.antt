@@ -2,21 +2,21 @@
 use Rattle.std.proofs.Common.{◌≡◌, ◌∙◌, sym, ap, refl, Bool, true, false, ◌&&◌, cond, [], ◌∷◌, Some, None, is_some, Contains, lt-ltb}
 use Rattle.std.specs.List.{list_any}
 use Rattle.std.proofs.lemmas.Bool.{false≢true}
-use Rattle.sql_keyword.specs.declared.words.TheConstants.Keyword as keyword
-use Rattle.sql_token.specs.Terminal.{terminals}
-use Rattle.sql_tree.specs.declared.kinds.ActionKind.TheVariants as action
-use Rattle.sql_tree.specs.declared.kinds.StmtKind.{StmtKind}
-use Rattle.sql_tree.specs.declared.kinds.StmtKind.TheVariants as stmt
-use Rattle.sql_tree.specs.declared.nodes.Action.{Action}
-use Rattle.sql_tree.specs.declared.nodes.Body.{Body}
-use Rattle.sql_tree.specs.declared.nodes.Body.TheVariants as body
-use Rattle.sql_tree.specs.declared.nodes.ReindexTarget.TheVariants as target
-use Rattle.sql_tree.specs.declared.nodes.Stmt.{Stmt}
-use Rattle.sql_tree.specs.Statement.{Tree}
-use Rattle.lint_node.specs.Parts.{table_actions}
-use Rattle.lint_node.specs.Same.{same_kind}
-use Rattle.lint_transaction.specs.Transaction.{stmt_at}
-use Rattle.hazard_base.specs.declared.hazard.Hazard.TheVariants as hazard
+use Rattle.law_renumber.specs.sql_keyword.declared.words.TheConstants.Keyword as keyword
+use Rattle.law_renumber.specs.sql_token.Terminal.{terminals}
+use Rattle.law_renumber.specs.sql_tree.declared.kinds.ActionKind.TheVariants as action
+use Rattle.law_renumber.specs.sql_tree.declared.kinds.StmtKind.{StmtKind}
+use Rattle.law_renumber.specs.sql_tree.declared.kinds.StmtKind.TheVariants as stmt
+use Rattle.law_renumber.specs.sql_tree.declared.nodes.Action.{Action}
+use Rattle.law_renumber.specs.sql_tree.declared.nodes.Body.{Body}
+use Rattle.law_renumber.specs.sql_tree.declared.nodes.Body.TheVariants as body
+use Rattle.law_renumber.specs.sql_tree.declared.nodes.ReindexTarget.TheVariants as target
+use Rattle.law_renumber.specs.sql_tree.declared.nodes.Stmt.{Stmt}
+use Rattle.law_renumber.specs.sql_tree.Statement.{Tree}
+use Rattle.hazard_find.specs.lint_node.Parts.{table_actions}
+use Rattle.hazard_find.specs.lint_node.Same.{same_kind}
+use Rattle.hazard_find.specs.lint_transaction.Transaction.{stmt_at}
+use Rattle.hazard_find.specs.hazard_base.declared.hazard.Hazard.TheVariants as hazard
 use Rattle.hazard_find.specs.Laws.{TransactionsAreKept}
 use Rattle.hazard_find.specs.Look.{begins}
 use Rattle.hazard_find.specs.Refused.{any_moves, detaches, is_word_of, moves, refused, refused_alter, refused_by, refused_end, refused_kind}

@@ -1,20 +1,20 @@
 -- Kinds of statements, and what a tree keeps of them.
 use Rattle.std.proofs.Common.{◌≡◌, ◌∙◌, sym, ap, subst, refl, Bool, true, false, cond, List, [], ◌∷◌, Option, Some, None, is_some, option_and_then, unwrap_or}
 use Rattle.std.proofs.lemmas.Bool.{false≢true}
-use Rattle.sql_keyword.specs.declared.words.TheConstants.Keyword as keyword
-use Rattle.sql_token.specs.declared.terminal.Terminal.{Terminal}
-use Rattle.sql_token.specs.declared.token.Span.{Span}
-use Rattle.sql_token.specs.Depth.{has_keyword, span_of}
-use Rattle.sql_token.specs.Sound.{is_sound}
-use Rattle.sql_tree.specs.declared.kinds.StmtKind.{StmtKind}
-use Rattle.sql_tree.specs.declared.kinds.StmtKind.TheVariants as stmt
-use Rattle.sql_tree.specs.declared.nodes.Action.{Action}
-use Rattle.sql_tree.specs.declared.nodes.Body.{Body}
-use Rattle.sql_tree.specs.declared.nodes.Body.TheVariants as body
-use Rattle.sql_tree.specs.declared.nodes.Stmt.{Stmt}
-use Rattle.sql_tree.specs.Action.{actions_of}
-use Rattle.sql_tree.specs.Forms.{State}
-use Rattle.sql_tree.specs.Statement.{body_by, body_shape_of, final_kind, form_from, form_of, from_verb, front_by, kind_and_body, statement, stmt_in, without_semicolon}
+use Rattle.law_renumber.specs.sql_keyword.declared.words.TheConstants.Keyword as keyword
+use Rattle.law_renumber.specs.sql_token.declared.terminal.Terminal.{Terminal}
+use Rattle.law_renumber.specs.sql_token.declared.token.Span.{Span}
+use Rattle.law_renumber.specs.sql_token.Depth.{has_keyword, span_of}
+use Rattle.law_renumber.specs.sql_token.Sound.{is_sound}
+use Rattle.law_renumber.specs.sql_tree.declared.kinds.StmtKind.{StmtKind}
+use Rattle.law_renumber.specs.sql_tree.declared.kinds.StmtKind.TheVariants as stmt
+use Rattle.law_renumber.specs.sql_tree.declared.nodes.Action.{Action}
+use Rattle.law_renumber.specs.sql_tree.declared.nodes.Body.{Body}
+use Rattle.law_renumber.specs.sql_tree.declared.nodes.Body.TheVariants as body
+use Rattle.law_renumber.specs.sql_tree.declared.nodes.Stmt.{Stmt}
+use Rattle.law_renumber.specs.sql_tree.Action.{actions_of}
+use Rattle.law_renumber.specs.sql_tree.Forms.{State}
+use Rattle.law_renumber.specs.sql_tree.Statement.{body_by, body_shape_of, final_kind, form_from, form_of, from_verb, front_by, kind_and_body, statement, stmt_in, without_semicolon}
 
 -- the kinds that speak of a database, a tablespace or the session
 abbrev pub is_server : StmtKind → Bool

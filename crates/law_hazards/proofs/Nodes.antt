@@ -6,29 +6,29 @@ use Rattle.std.proofs.lemmas.Bool.{false≢true}
 use Rattle.std.proofs.lemmas.List.Folds.{list_any-from_Any}
 use Rattle.std.proofs.lemmas.Slice.Eq.{bytes_eq-Decides}
 use denote.Enum.Bare.{same_true, true_same}
-use Rattle.sql_token.specs.declared.token.Span.{Span}
-use Rattle.sql_tree.specs.contracts.kinds.ActionKind as actions
-use Rattle.sql_tree.specs.contracts.kinds.PieceKind as pieces
-use Rattle.sql_tree.specs.contracts.kinds.StmtKind as kinds
-use Rattle.sql_tree.specs.contracts.nodes.ConKind as constraints
-use Rattle.sql_tree.specs.declared.kinds.ActionKind.{ActionKind}
-use Rattle.sql_tree.specs.declared.kinds.ActionKind.TheVariants as action
-use Rattle.sql_tree.specs.declared.kinds.PieceKind.{PieceKind}
-use Rattle.sql_tree.specs.declared.kinds.StmtKind.{StmtKind}
-use Rattle.sql_tree.specs.declared.kinds.StmtKind.TheVariants as stmt
-use Rattle.sql_tree.specs.declared.nodes.Action.{Action}
-use Rattle.sql_tree.specs.declared.nodes.Body.TheVariants as body
-use Rattle.sql_tree.specs.declared.nodes.Column.{Column}
-use Rattle.sql_tree.specs.declared.nodes.ConKind.{ConKind}
-use Rattle.sql_tree.specs.declared.nodes.ColType.{ColType}
-use Rattle.sql_tree.specs.declared.nodes.Stmt.{Stmt}
-use Rattle.sql_tree.specs.Nodes.{actions_in}
-use Rattle.sql_tree.specs.Statement.{Tree}
-use Rattle.lint_node.specs.Altered.{altered_path, path_in}
-use Rattle.lint_node.specs.ColumnTypes.{added_type}
-use Rattle.lint_node.specs.Parts.{added_column, constraints_by, new_constraints, table_actions}
-use Rattle.lint_node.specs.Same.{same_action, same_constraint, same_kind, same_piece}
-use Rattle.lint_transaction.specs.Names.{is_one_name, name_at}
+use Rattle.law_renumber.specs.sql_token.declared.token.Span.{Span}
+use Rattle.law_renumber.specs.sql_tree.contracts.kinds.ActionKind as actions
+use Rattle.law_renumber.specs.sql_tree.contracts.kinds.PieceKind as pieces
+use Rattle.law_renumber.specs.sql_tree.contracts.kinds.StmtKind as kinds
+use Rattle.law_renumber.specs.sql_tree.contracts.nodes.ConKind as constraints
+use Rattle.law_renumber.specs.sql_tree.declared.kinds.ActionKind.{ActionKind}
+use Rattle.law_renumber.specs.sql_tree.declared.kinds.ActionKind.TheVariants as action
+use Rattle.law_renumber.specs.sql_tree.declared.kinds.PieceKind.{PieceKind}
+use Rattle.law_renumber.specs.sql_tree.declared.kinds.StmtKind.{StmtKind}
+use Rattle.law_renumber.specs.sql_tree.declared.kinds.StmtKind.TheVariants as stmt
+use Rattle.law_renumber.specs.sql_tree.declared.nodes.Action.{Action}
+use Rattle.law_renumber.specs.sql_tree.declared.nodes.Body.TheVariants as body
+use Rattle.law_renumber.specs.sql_tree.declared.nodes.Column.{Column}
+use Rattle.law_renumber.specs.sql_tree.declared.nodes.ConKind.{ConKind}
+use Rattle.law_renumber.specs.sql_tree.declared.nodes.ColType.{ColType}
+use Rattle.law_renumber.specs.sql_tree.declared.nodes.Stmt.{Stmt}
+use Rattle.law_renumber.specs.sql_tree.Nodes.{actions_in}
+use Rattle.law_renumber.specs.sql_tree.Statement.{Tree}
+use Rattle.hazard_find.specs.lint_node.Altered.{altered_path, path_in}
+use Rattle.hazard_find.specs.lint_node.ColumnTypes.{added_type}
+use Rattle.hazard_find.specs.lint_node.Parts.{added_column, constraints_by, new_constraints, table_actions}
+use Rattle.hazard_find.specs.lint_node.Same.{same_action, same_constraint, same_kind, same_piece}
+use Rattle.hazard_find.specs.lint_transaction.Names.{is_one_name, name_at}
 use Rattle.std.specs.Prelude.{nat_eq}
 use Rattle.hazard_find.specs.Here.{table_by, table_of}
 

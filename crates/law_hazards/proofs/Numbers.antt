@@ -2,7 +2,7 @@
 use Rattle.std.proofs.Common.{◌≡◌, ◌∙◌, sym, ap, refl, arith, ltb-true, lt-ltb, ℕ, zero, suc, ◌<◌, ◌⊎◌, inl, inr, eq-or-lt_of_le, Bool, true, false, ◌&&◌, ◌||◌, not}
 use Rattle.std.specs.Prelude.{nat_lt}
 use Rattle.std.proofs.lemmas.Bool.{cases_Bool, and_parts, or_parts, false≢true, true≢false}
-use Rattle.lint_transaction.specs.Earlier.{any_below, any_between, since}
+use Rattle.hazard_find.specs.lint_transaction.Earlier.{any_below, any_between, since}
 
 -- the first number below n that passes, or some other one
 pub record Found (p : ℕ → Bool) (n : ℕ) : Type 0 where

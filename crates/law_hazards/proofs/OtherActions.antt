@@ -1,25 +1,25 @@
 -- An action of ALTER TABLE whose tokens begin with SET LOGGED, SET UNLOGGED, SET TABLESPACE or SET ACCESS has no kind of its own.
 use Rattle.std.proofs.Common.{◌≡◌, ◌∙◌, sym, ap, subst, refl, ℕ, true, ◌&&◌, List, [], ◌∷◌, map, Option, Some, None, is_some, option_and_then}
 use Rattle.std.proofs.lemmas.Bool.{and_parts, false≢true}
-use Rattle.sql_keyword.specs.Same.{same_keyword}
-use Rattle.sql_keyword.specs.declared.words.Keyword.{Keyword}
-use Rattle.sql_keyword.specs.declared.words.TheConstants.Keyword as keyword
-use Rattle.sql_token.specs.declared.terminal.Terminal.{Terminal}
-use Rattle.sql_token.specs.declared.token.Tok.{Tok}
-use Rattle.sql_token.specs.Depth.{span_of}
-use Rattle.sql_token.specs.Terminal.{is_keyword, terminals}
-use Rattle.sql_token.specs.Token.{Text}
-use Rattle.sql_tree.specs.declared.actions.TheConstants.{OTHER}
-use Rattle.sql_tree.specs.declared.kinds.ActionKind.{ActionKind}
-use Rattle.sql_tree.specs.declared.kinds.ActionKind.TheVariants as kinds
-use Rattle.sql_tree.specs.declared.kinds.StmtKind.TheVariants as stmt
-use Rattle.sql_tree.specs.declared.nodes.Action.{Action}
-use Rattle.sql_tree.specs.Action.{action, action_in, add_constraint, added_constraint, adding, adding_after, built, by_rows, column_in, first_symbol, general_action, listed_action, options, own_action, own_part, pieces_in, takes_constraint, unlisted_action}
-use Rattle.sql_tree.specs.ActionRows.{first_rows, first_rows_at, general_rows, general_rows_at, own_rows}
-use Rattle.sql_tree.specs.Constraint.{table_constraint}
-use Rattle.sql_tree.specs.Forms.{ActionRow, State, after_word, first_whole, take_part}
-use Rattle.sql_tree.specs.Split.{after_list}
-use Rattle.sql_tree.specs.Statement.{Tree}
+use Rattle.law_renumber.specs.sql_keyword.Same.{same_keyword}
+use Rattle.law_renumber.specs.sql_keyword.declared.words.Keyword.{Keyword}
+use Rattle.law_renumber.specs.sql_keyword.declared.words.TheConstants.Keyword as keyword
+use Rattle.law_renumber.specs.sql_token.declared.terminal.Terminal.{Terminal}
+use Rattle.law_renumber.specs.sql_token.declared.token.Tok.{Tok}
+use Rattle.law_renumber.specs.sql_token.Depth.{span_of}
+use Rattle.law_renumber.specs.sql_token.Terminal.{is_keyword, terminals}
+use Rattle.law_renumber.specs.sql_token.Token.{Text}
+use Rattle.law_renumber.specs.sql_tree.declared.actions.TheConstants.{OTHER}
+use Rattle.law_renumber.specs.sql_tree.declared.kinds.ActionKind.{ActionKind}
+use Rattle.law_renumber.specs.sql_tree.declared.kinds.ActionKind.TheVariants as kinds
+use Rattle.law_renumber.specs.sql_tree.declared.kinds.StmtKind.TheVariants as stmt
+use Rattle.law_renumber.specs.sql_tree.declared.nodes.Action.{Action}
+use Rattle.law_renumber.specs.sql_tree.Action.{action, action_in, add_constraint, added_constraint, adding, adding_after, built, by_rows, column_in, first_symbol, general_action, listed_action, options, own_action, own_part, pieces_in, takes_constraint, unlisted_action}
+use Rattle.law_renumber.specs.sql_tree.ActionRows.{first_rows, first_rows_at, general_rows, general_rows_at, own_rows}
+use Rattle.law_renumber.specs.sql_tree.Constraint.{table_constraint}
+use Rattle.law_renumber.specs.sql_tree.Forms.{ActionRow, State, after_word, first_whole, take_part}
+use Rattle.law_renumber.specs.sql_tree.Split.{after_list}
+use Rattle.law_renumber.specs.sql_tree.Statement.{Tree}
 use Rattle.law_renumber.proofs.There.{IfThere, either_there, then_there}
 use Rattle.law_hazards.specs.Words.{action_tokens, begin_with, is_key}
 use Rattle.law_hazards.proofs.ActionReading.{IsReadAction}

@@ -1,20 +1,20 @@
 -- A statement whose tokens begin with COMMIT PREPARED or ROLLBACK PREPARED ends no transaction of its own.
 use Rattle.std.proofs.Common.{◌≡◌, ◌∙◌, sym, ap, subst, refl, arith, ℕ, suc, ◌-◌, Bool, true, false, cond, List, [], ◌∷◌, length, take, Option, Some, None, is_some, unwrap_or, option_and_then}
 use Rattle.std.proofs.lemmas.Bool.{false≢true}
-use Rattle.sql_keyword.specs.Same.{same_keyword}
-use Rattle.sql_keyword.specs.declared.words.Keyword.{Keyword}
-use Rattle.sql_keyword.specs.declared.words.TheConstants.Keyword as keyword
-use Rattle.sql_token.specs.declared.terminal.Terminal.{Terminal}
-use Rattle.sql_token.specs.declared.token.Span.{Span}
-use Rattle.sql_token.specs.Depth.{span_of}
-use Rattle.sql_token.specs.Sound.{is_sound}
-use Rattle.sql_token.specs.Terminal.{is_keyword, is_semicolon, terminals}
-use Rattle.sql_tree.specs.declared.kinds.StmtKind.{StmtKind}
-use Rattle.sql_tree.specs.declared.nodes.Body.{Body}
-use Rattle.sql_tree.specs.declared.nodes.Body.TheVariants as body
-use Rattle.sql_tree.specs.declared.nodes.Stmt.{Stmt}
-use Rattle.sql_tree.specs.Forms.{led_by, one_word_kind, rows_of, take_part}
-use Rattle.sql_tree.specs.Statement.{Tree, body_by, body_shape_of, final_kind, form_from, form_of, from_verb, front_by, kind_and_body, last_of, statement, stmt_in, without_semicolon}
+use Rattle.law_renumber.specs.sql_keyword.Same.{same_keyword}
+use Rattle.law_renumber.specs.sql_keyword.declared.words.Keyword.{Keyword}
+use Rattle.law_renumber.specs.sql_keyword.declared.words.TheConstants.Keyword as keyword
+use Rattle.law_renumber.specs.sql_token.declared.terminal.Terminal.{Terminal}
+use Rattle.law_renumber.specs.sql_token.declared.token.Span.{Span}
+use Rattle.law_renumber.specs.sql_token.Depth.{span_of}
+use Rattle.law_renumber.specs.sql_token.Sound.{is_sound}
+use Rattle.law_renumber.specs.sql_token.Terminal.{is_keyword, is_semicolon, terminals}
+use Rattle.law_renumber.specs.sql_tree.declared.kinds.StmtKind.{StmtKind}
+use Rattle.law_renumber.specs.sql_tree.declared.nodes.Body.{Body}
+use Rattle.law_renumber.specs.sql_tree.declared.nodes.Body.TheVariants as body
+use Rattle.law_renumber.specs.sql_tree.declared.nodes.Stmt.{Stmt}
+use Rattle.law_renumber.specs.sql_tree.Forms.{led_by, one_word_kind, rows_of, take_part}
+use Rattle.law_renumber.specs.sql_tree.Statement.{Tree, body_by, body_shape_of, final_kind, form_from, form_of, from_verb, front_by, kind_and_body, last_of, statement, stmt_in, without_semicolon}
 use Rattle.law_hazards.specs.Words.{begin_with, statement_tokens}
 use Rattle.law_hazards.proofs.Begun.{IsBegun, Says, begun, key}
 use Rattle.law_hazards.proofs.Reading.{IsRead}

@@ -2,13 +2,13 @@
 use Rattle.std.proofs.Common.{◌≡◌, ◌<◌, ◌∙◌, sym, ap, subst, refl, arith, ℕ, zero, suc, ◌-◌, List, [], ◌∷◌, ◌++◌, drop, take, length, All, Option, Some, None, Result, Ok, Err}
 use Rattle.std.proofs.lemmas.List.{append_assoc, take-append-drop}
 use Rattle.std.proofs.lemmas.List.Elements.{All-cons, All-nil}
-use Rattle.sql_token.specs.declared.terminal.Terminal.{Terminal}
-use Rattle.sql_token.specs.Chunks.{chunks, chunks_after}
-use Rattle.sql_token.specs.Depth.{ends_at, first_len, first_place, span_of, statements}
-use Rattle.sql_token.specs.Terminal.{terminals}
-use Rattle.sql_tree.specs.declared.nodes.Stmt.{Stmt}
-use Rattle.sql_tree.specs.Statement.{IsTree, Tree, all_statements, and_then_all, read_tokens, statement}
-use Rattle.lint_transaction.specs.Transaction.{no_stmt, stmt_at}
+use Rattle.law_renumber.specs.sql_token.declared.terminal.Terminal.{Terminal}
+use Rattle.law_renumber.specs.sql_token.Chunks.{chunks, chunks_after}
+use Rattle.law_renumber.specs.sql_token.Depth.{ends_at, first_len, first_place, span_of, statements}
+use Rattle.law_renumber.specs.sql_token.Terminal.{terminals}
+use Rattle.law_renumber.specs.sql_tree.declared.nodes.Stmt.{Stmt}
+use Rattle.law_renumber.specs.sql_tree.Statement.{IsTree, Tree, all_statements, and_then_all, read_tokens, statement}
+use Rattle.hazard_find.specs.lint_transaction.Transaction.{no_stmt, stmt_at}
 
 -- The statement is what its own terminals are, which others of the text come before and after.
 pub record IsRead (all : List Terminal) (s : Stmt) : Type 0 where

@@ -4,27 +4,27 @@ use Rattle.std.specs.Prelude.{nat_eq}
 use Rattle.std.specs.List.{list_any}
 use Rattle.std.specs.Str.{bytes_eq}
 use Rattle.std.proofs.lemmas.Bool.{false_from_ne_true, not_from_false, false≢true}
-use Rattle.sql_keyword.specs.declared.words.TheConstants.Keyword as keyword
-use Rattle.sql_token.specs.declared.token.Span.{Span}
-use Rattle.sql_token.specs.Terminal.{terminals}
-use Rattle.sql_tree.specs.declared.kinds.ActionKind.{ActionKind}
-use Rattle.sql_tree.specs.declared.kinds.ActionKind.TheVariants as action
-use Rattle.sql_tree.specs.declared.kinds.PieceKind.TheVariants as piece
-use Rattle.sql_tree.specs.declared.nodes.Action.{Action}
-use Rattle.sql_tree.specs.declared.nodes.Body.{Body}
-use Rattle.sql_tree.specs.declared.nodes.Body.TheVariants as body
-use Rattle.sql_tree.specs.declared.nodes.ColType.{ColType}
-use Rattle.sql_tree.specs.declared.nodes.Column.{Column}
-use Rattle.sql_tree.specs.declared.nodes.Piece.{Piece}
-use Rattle.sql_tree.specs.declared.nodes.ReindexTarget.TheVariants as target
-use Rattle.sql_tree.specs.declared.nodes.Stmt.{Stmt}
-use Rattle.sql_tree.specs.Statement.{IsTree, Tree}
-use Rattle.lint_base.specs.declared.settings.LinterSettings.{LinterSettings}
-use Rattle.lint_node.specs.Same.{same_piece}
-use Rattle.lint_transaction.specs.Names.{is_listed, name_at}
-use Rattle.lint_transaction.specs.Transaction.{stmt_at}
-use Rattle.hazard_base.specs.declared.hazard.Hazard.TheVariants as hazard
-use Rattle.hazard_base.specs.declared.hazard_set.HazardSet.{HazardSet}
+use Rattle.law_renumber.specs.sql_keyword.declared.words.TheConstants.Keyword as keyword
+use Rattle.law_renumber.specs.sql_token.declared.token.Span.{Span}
+use Rattle.law_renumber.specs.sql_token.Terminal.{terminals}
+use Rattle.law_renumber.specs.sql_tree.declared.kinds.ActionKind.{ActionKind}
+use Rattle.law_renumber.specs.sql_tree.declared.kinds.ActionKind.TheVariants as action
+use Rattle.law_renumber.specs.sql_tree.declared.kinds.PieceKind.TheVariants as piece
+use Rattle.law_renumber.specs.sql_tree.declared.nodes.Action.{Action}
+use Rattle.law_renumber.specs.sql_tree.declared.nodes.Body.{Body}
+use Rattle.law_renumber.specs.sql_tree.declared.nodes.Body.TheVariants as body
+use Rattle.law_renumber.specs.sql_tree.declared.nodes.ColType.{ColType}
+use Rattle.law_renumber.specs.sql_tree.declared.nodes.Column.{Column}
+use Rattle.law_renumber.specs.sql_tree.declared.nodes.Piece.{Piece}
+use Rattle.law_renumber.specs.sql_tree.declared.nodes.ReindexTarget.TheVariants as target
+use Rattle.law_renumber.specs.sql_tree.declared.nodes.Stmt.{Stmt}
+use Rattle.law_renumber.specs.sql_tree.Statement.{IsTree, Tree}
+use Rattle.hazard_find.specs.lint_base.declared.settings.LinterSettings.{LinterSettings}
+use Rattle.hazard_find.specs.lint_node.Same.{same_piece}
+use Rattle.hazard_find.specs.lint_transaction.Names.{is_listed, name_at}
+use Rattle.hazard_find.specs.lint_transaction.Transaction.{stmt_at}
+use Rattle.hazard_find.specs.hazard_base.declared.hazard.Hazard.TheVariants as hazard
+use Rattle.hazard_find.specs.hazard_base.declared.hazard_set.HazardSet.{HazardSet}
 use Rattle.hazard_find.specs.Earlier.{is_assumed, is_old}
 use Rattle.hazard_find.specs.Here.{has_repack, known_at, table_by, table_of}
 use Rattle.hazard_find.specs.Look.{begins}

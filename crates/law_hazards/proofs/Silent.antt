@@ -5,20 +5,20 @@ use Rattle.std.specs.Option.{option_map}
 use Rattle.std.proofs.lemmas.Bool.{false_from_ne_true, or_left, or_parts, false≢true}
 use Rattle.std.proofs.lemmas.List.Folds.{list_any-append, list_any_none}
 use denote.Enum.Bare.{same_true, true_same}
-use Rattle.sql_tree.specs.declared.nodes.Stmt.{Stmt}
-use Rattle.sql_tree.specs.Range.{stmt_range_of}
-use Rattle.sql_tree.specs.Statement.{Tree}
-use Rattle.lint_base.specs.declared.settings.LinterSettings.{LinterSettings}
-use Rattle.lint_node.specs.Parts.{table_actions}
-use Rattle.lint_transaction.specs.Earlier.{concat_below}
-use Rattle.lint_transaction.specs.Transaction.{stmt_at}
-use Rattle.hazard_base.specs.contracts.hazard.Hazard.{the_type}
-use Rattle.hazard_base.specs.declared.finding.Finding.{Finding}
-use Rattle.hazard_base.specs.declared.hazard.Hazard.{Hazard}
-use Rattle.hazard_base.specs.declared.hazard.Hazard.TheVariants as hazard
-use Rattle.hazard_base.specs.declared.hazard_set.HazardSet.{HazardSet}
-use Rattle.hazard_base.specs.Hazards.{same_hazard}
-use Rattle.hazard_base.specs.HazardSets.{has}
+use Rattle.law_renumber.specs.sql_tree.declared.nodes.Stmt.{Stmt}
+use Rattle.law_renumber.specs.sql_tree.Range.{stmt_range_of}
+use Rattle.law_renumber.specs.sql_tree.Statement.{Tree}
+use Rattle.hazard_find.specs.lint_base.declared.settings.LinterSettings.{LinterSettings}
+use Rattle.hazard_find.specs.lint_node.Parts.{table_actions}
+use Rattle.hazard_find.specs.lint_transaction.Earlier.{concat_below}
+use Rattle.hazard_find.specs.lint_transaction.Transaction.{stmt_at}
+use Rattle.hazard_find.specs.hazard_base.contracts.hazard.Hazard.{the_type}
+use Rattle.hazard_find.specs.hazard_base.declared.finding.Finding.{Finding}
+use Rattle.hazard_find.specs.hazard_base.declared.hazard.Hazard.{Hazard}
+use Rattle.hazard_find.specs.hazard_base.declared.hazard.Hazard.TheVariants as hazard
+use Rattle.hazard_find.specs.hazard_base.declared.hazard_set.HazardSet.{HazardSet}
+use Rattle.hazard_find.specs.hazard_base.Hazards.{same_hazard}
+use Rattle.hazard_find.specs.hazard_base.HazardSets.{has}
 use Rattle.hazard_find.specs.Findings.{action_findings, enabled_of, findings_at, findings_by, findings_of, kept_finding, refresh_finding, refused_finding, rewrite_finding, rewritten, statement_findings, timeout_finding}
 use Rattle.hazard_find.specs.Here.{known_at}
 use Rattle.hazard_find.specs.Laws.{IsSilent, is_of}

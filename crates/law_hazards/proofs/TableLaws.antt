@@ -1,13 +1,13 @@
 -- A table that is not old is ours.
 use Rattle.std.proofs.Common.{◌≡◌, refl, ℕ, inl, inr, Bool, true, false, List, Option, Some, None}
 use Rattle.std.proofs.lemmas.Bool.{and_parts, or_cases, false≢true, true≢false}
-use Rattle.sql_token.specs.declared.token.Span.{Span}
-use Rattle.sql_tree.specs.declared.nodes.Body.{Body}
-use Rattle.sql_tree.specs.declared.nodes.Body.TheVariants as body
-use Rattle.sql_tree.specs.declared.nodes.Elem.{Elem}
-use Rattle.sql_tree.specs.Statement.{Tree}
-use Rattle.lint_transaction.specs.Transaction.{created, creates, creates_at, ends_at, is_new, is_open, is_path, stmt_at}
-use Rattle.lint_transaction.proofs.Paths.{same_so}
+use Rattle.law_renumber.specs.sql_token.declared.token.Span.{Span}
+use Rattle.law_renumber.specs.sql_tree.declared.nodes.Body.{Body}
+use Rattle.law_renumber.specs.sql_tree.declared.nodes.Body.TheVariants as body
+use Rattle.law_renumber.specs.sql_tree.declared.nodes.Elem.{Elem}
+use Rattle.law_renumber.specs.sql_tree.Statement.{Tree}
+use Rattle.hazard_find.specs.lint_transaction.Transaction.{created, creates, creates_at, ends_at, is_new, is_open, is_path, stmt_at}
+use Rattle.hazard_find.proofs.of_lint_transaction.Paths.{same_so}
 use Rattle.hazard_find.specs.Earlier.{is_old, is_temporary, temporary_by}
 use Rattle.law_hazards.specs.Tables.{IsCreatedInside, IsOurs, IsTemporary, names}
 use Rattle.law_hazards.specs.Tables.IsOurs.{inside, temporary}

@@ -1,15 +1,15 @@
 -- A view that is filled anew was made before.
 use Rattle.std.proofs.Common.{◌≡◌, ◌∙◌, sym, ap, refl, ℕ, Bool, true, false, cond, [], ◌∷◌, Option, Some, None, is_some}
 use Rattle.std.proofs.lemmas.Bool.{false≢true}
-use Rattle.sql_keyword.specs.declared.words.TheConstants.Keyword as keyword
-use Rattle.sql_token.specs.declared.token.Span.{Span}
-use Rattle.sql_tree.specs.declared.kinds.StmtKind.TheVariants as stmt
-use Rattle.sql_tree.specs.declared.nodes.Stmt.{Stmt}
-use Rattle.sql_tree.specs.Path.{path_cuts}
-use Rattle.sql_tree.specs.Statement.{Tree}
-use Rattle.lint_node.specs.Same.{same_kind}
-use Rattle.lint_transaction.specs.Transaction.{is_path, stmt_at}
-use Rattle.hazard_base.specs.declared.hazard.Hazard.TheVariants as hazard
+use Rattle.law_renumber.specs.sql_keyword.declared.words.TheConstants.Keyword as keyword
+use Rattle.law_renumber.specs.sql_token.declared.token.Span.{Span}
+use Rattle.law_renumber.specs.sql_tree.declared.kinds.StmtKind.TheVariants as stmt
+use Rattle.law_renumber.specs.sql_tree.declared.nodes.Stmt.{Stmt}
+use Rattle.law_renumber.specs.sql_tree.Path.{path_cuts}
+use Rattle.law_renumber.specs.sql_tree.Statement.{Tree}
+use Rattle.hazard_find.specs.lint_node.Same.{same_kind}
+use Rattle.hazard_find.specs.lint_transaction.Transaction.{is_path, stmt_at}
+use Rattle.hazard_find.specs.hazard_base.declared.hazard.Hazard.TheVariants as hazard
 use Rattle.hazard_find.specs.Earlier.{is_made_view, made_view, refreshed_view}
 use Rattle.hazard_find.specs.Findings.{refreshes, refreshes_by}
 use Rattle.hazard_find.specs.Laws.{ViewsAreMadeFirst}

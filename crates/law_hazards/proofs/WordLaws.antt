@@ -5,15 +5,15 @@ use Rattle.std.proofs.lemmas.Bool.{and_right, cases_lt, false≢true, true≢fal
 use Rattle.std.proofs.lemmas.List.{drop_more, get_or_past}
 use Rattle.std.proofs.lemmas.List.Quantifiers.{position-Some}
 use Rattle.std.proofs.lemmas.List.Sums.{fails_before_first}
-use Rattle.sql_keyword.specs.declared.words.Keyword.{Keyword}
-use Rattle.sql_token.specs.declared.token.Tok.{Tok}
-use Rattle.sql_token.specs.declared.token.TokKind.{TokKind}
-use Rattle.sql_token.specs.declared.token.TokKind.TheVariants as kinds
-use Rattle.sql_token.specs.Terminal.{is_significant, is_significant_token}
-use Rattle.sql_token.specs.Token.{Text, text_of}
-use Rattle.sql_tree.specs.Range.{token_at}
-use Rattle.sql_tree.specs.Statement.{Tree, no_token}
-use Rattle.lint_transaction.proofs.EarlierLaws.{and_true}
+use Rattle.law_renumber.specs.sql_keyword.declared.words.Keyword.{Keyword}
+use Rattle.law_renumber.specs.sql_token.declared.token.Tok.{Tok}
+use Rattle.law_renumber.specs.sql_token.declared.token.TokKind.{TokKind}
+use Rattle.law_renumber.specs.sql_token.declared.token.TokKind.TheVariants as kinds
+use Rattle.law_renumber.specs.sql_token.Terminal.{is_significant, is_significant_token}
+use Rattle.law_renumber.specs.sql_token.Token.{Text, text_of}
+use Rattle.law_renumber.specs.sql_tree.Range.{token_at}
+use Rattle.law_renumber.specs.sql_tree.Statement.{Tree, no_token}
+use Rattle.hazard_find.proofs.of_lint_transaction.EarlierLaws.{and_true}
 use Rattle.hazard_find.specs.Look.{after_optional, after_words, begins, is_word_at, token_from}
 use Rattle.law_hazards.specs.Words.{begin_with, is_key, is_this, key_by, shown}
 

@@ -3,19 +3,19 @@
 use Rattle.std.specs.Prelude.{◌≡◌, ◌<◌, ◌⊎◌, ℕ, ◌+◌, Bool, true, false, List, [], ◌∷◌, codes, Option, Some, Contains}
 use Rattle.std.specs.List.{list_any}
 use Rattle.std.specs.Str.{bytes_eq}
-use Rattle.sql_keyword.specs.declared.words.TheConstants.Keyword as keyword
-use Rattle.sql_name.specs.Name.{full_name}
-use Rattle.sql_token.specs.declared.token.Span.{Span}
-use Rattle.sql_token.specs.declared.token.Tok.{Tok}
-use Rattle.sql_token.specs.declared.token.TokKind.TheVariants as kinds
-use Rattle.sql_token.specs.Token.{Text, text_of}
-use Rattle.sql_tree.specs.declared.kinds.StmtKind.TheVariants as stmt
-use Rattle.sql_tree.specs.declared.nodes.Body.TheVariants as body
-use Rattle.sql_tree.specs.declared.nodes.ReindexTarget.{ReindexTarget}
-use Rattle.sql_tree.specs.declared.nodes.Stmt.{Stmt}
-use Rattle.sql_tree.specs.Statement.{Tree}
-use Rattle.lint_transaction.specs.Names.{name_at}
-use Rattle.lint_transaction.specs.Transaction.{stmt_at}
+use Rattle.law_renumber.specs.sql_keyword.declared.words.TheConstants.Keyword as keyword
+use Rattle.law_renumber.specs.sql_name.Name.{full_name}
+use Rattle.law_renumber.specs.sql_token.declared.token.Span.{Span}
+use Rattle.law_renumber.specs.sql_token.declared.token.Tok.{Tok}
+use Rattle.law_renumber.specs.sql_token.declared.token.TokKind.TheVariants as kinds
+use Rattle.law_renumber.specs.sql_token.Token.{Text, text_of}
+use Rattle.law_renumber.specs.sql_tree.declared.kinds.StmtKind.TheVariants as stmt
+use Rattle.law_renumber.specs.sql_tree.declared.nodes.Body.TheVariants as body
+use Rattle.law_renumber.specs.sql_tree.declared.nodes.ReindexTarget.{ReindexTarget}
+use Rattle.law_renumber.specs.sql_tree.declared.nodes.Stmt.{Stmt}
+use Rattle.law_renumber.specs.sql_tree.Statement.{Tree}
+use Rattle.hazard_find.specs.lint_transaction.Names.{name_at}
+use Rattle.hazard_find.specs.lint_transaction.Transaction.{stmt_at}
 use Rattle.law_hazards.specs.Tables.{names}
 use Rattle.law_hazards.specs.Words.{begin_with, is_key, shown, statement_tokens}
 

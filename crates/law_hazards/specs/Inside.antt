@@ -3,17 +3,17 @@
 -- CONCURRENTLY of REINDEX that has a value may be turned off. Whether a statement on a subscription is refused depends on its options,
 -- and whether REINDEX or CLUSTER of one table is, on its partitions.
 use Rattle.std.specs.Prelude.{◌≡◌, ℕ, Bool, true, false, List, [], ◌∷◌, Option, Some, None, Contains}
-use Rattle.sql_keyword.specs.declared.words.TheConstants.Keyword as keyword
-use Rattle.sql_token.specs.declared.token.Span.{Span}
-use Rattle.sql_tree.specs.declared.kinds.ActionKind.TheVariants as action
-use Rattle.sql_tree.specs.declared.kinds.StmtKind.TheVariants as stmt
-use Rattle.sql_tree.specs.declared.nodes.Action.{Action}
-use Rattle.sql_tree.specs.declared.nodes.Body.TheVariants as body
-use Rattle.sql_tree.specs.declared.nodes.ReindexTarget.{ReindexTarget}
-use Rattle.sql_tree.specs.declared.nodes.ReindexTarget.TheVariants as target
-use Rattle.sql_tree.specs.declared.nodes.Stmt.{Stmt}
-use Rattle.sql_tree.specs.Range.{token_at}
-use Rattle.sql_tree.specs.Statement.{Tree}
+use Rattle.law_renumber.specs.sql_keyword.declared.words.TheConstants.Keyword as keyword
+use Rattle.law_renumber.specs.sql_token.declared.token.Span.{Span}
+use Rattle.law_renumber.specs.sql_tree.declared.kinds.ActionKind.TheVariants as action
+use Rattle.law_renumber.specs.sql_tree.declared.kinds.StmtKind.TheVariants as stmt
+use Rattle.law_renumber.specs.sql_tree.declared.nodes.Action.{Action}
+use Rattle.law_renumber.specs.sql_tree.declared.nodes.Body.TheVariants as body
+use Rattle.law_renumber.specs.sql_tree.declared.nodes.ReindexTarget.{ReindexTarget}
+use Rattle.law_renumber.specs.sql_tree.declared.nodes.ReindexTarget.TheVariants as target
+use Rattle.law_renumber.specs.sql_tree.declared.nodes.Stmt.{Stmt}
+use Rattle.law_renumber.specs.sql_tree.Range.{token_at}
+use Rattle.law_renumber.specs.sql_tree.Statement.{Tree}
 use Rattle.law_hazards.specs.Words.{action_tokens, begin_with, is_key, statement_tokens}
 
 -- A statement of indexes, tables or rows that a transaction block refuses.

@@ -1,13 +1,13 @@
 -- What a text does not do in which a hazard is enabled and not found: one law for each hazard.
 use Rattle.std.specs.Prelude.{◌≡◌, ◌<◌, ℕ, Bool, true, false, List, length, Option, Some}
-use Rattle.sql_token.specs.declared.token.Span.{Span}
-use Rattle.sql_tree.specs.declared.nodes.Body.TheVariants as body
-use Rattle.sql_tree.specs.declared.nodes.Column.{Column}
-use Rattle.sql_tree.specs.Statement.{IsTree, Tree}
-use Rattle.lint_base.specs.declared.settings.LinterSettings.{LinterSettings}
-use Rattle.lint_transaction.specs.Transaction.{is_open, stmt_at}
-use Rattle.hazard_base.specs.declared.hazard.Hazard.TheVariants as hazard
-use Rattle.hazard_base.specs.declared.hazard_set.HazardSet.{HazardSet}
+use Rattle.law_renumber.specs.sql_token.declared.token.Span.{Span}
+use Rattle.law_renumber.specs.sql_tree.declared.nodes.Body.TheVariants as body
+use Rattle.law_renumber.specs.sql_tree.declared.nodes.Column.{Column}
+use Rattle.law_renumber.specs.sql_tree.Statement.{IsTree, Tree}
+use Rattle.hazard_find.specs.lint_base.declared.settings.LinterSettings.{LinterSettings}
+use Rattle.hazard_find.specs.lint_transaction.Transaction.{is_open, stmt_at}
+use Rattle.hazard_find.specs.hazard_base.declared.hazard.Hazard.TheVariants as hazard
+use Rattle.hazard_find.specs.hazard_base.declared.hazard_set.HazardSet.{HazardSet}
 use Rattle.law_hazards.specs.Additions.{AddsColumn, HasCheck, IsJson}
 use Rattle.law_hazards.specs.Builds.{IsConcurrent, IsDroppedFirst, IsTimeout, IsUnsetBetween, SetsTime}
 use Rattle.law_hazards.specs.Inside.{IsRefusedByServer, IsRefusedWork}

@@ -3,21 +3,21 @@
 -- of ALTER TABLE ALL IN TABLESPACE, nor of indexes and materialized views that an ALTER moves.
 use Rattle.std.specs.Prelude.{◌≡◌, ℕ, pos, Bool, true, false, List, [], ◌∷◌, codes, slice_index_or, Option, Some, None, Contains}
 use Rattle.std.specs.Int.Signed.{le_z}
-use Rattle.sql_keyword.specs.declared.words.TheConstants.Keyword as keyword
-use Rattle.sql_token.specs.declared.token.Span.{Span}
-use Rattle.sql_tree.specs.declared.kinds.ActionKind.TheVariants as action
-use Rattle.sql_tree.specs.declared.kinds.PieceKind.TheVariants as piece
-use Rattle.sql_tree.specs.declared.kinds.StmtKind.TheVariants as stmt
-use Rattle.sql_tree.specs.declared.nodes.Action.{Action}
-use Rattle.sql_tree.specs.declared.nodes.Body.TheVariants as body
-use Rattle.sql_tree.specs.declared.nodes.ColType.{ColType}
-use Rattle.sql_tree.specs.declared.nodes.Column.{Column}
-use Rattle.sql_tree.specs.declared.nodes.Piece.{Piece}
-use Rattle.sql_tree.specs.declared.nodes.ReindexTarget.TheVariants as target
-use Rattle.sql_tree.specs.declared.nodes.Stmt.{Stmt}
-use Rattle.sql_tree.specs.Statement.{Tree}
-use Rattle.lint_base.specs.declared.settings.LinterSettings.{LinterSettings}
-use Rattle.lint_transaction.specs.Names.{is_listed}
+use Rattle.law_renumber.specs.sql_keyword.declared.words.TheConstants.Keyword as keyword
+use Rattle.law_renumber.specs.sql_token.declared.token.Span.{Span}
+use Rattle.law_renumber.specs.sql_tree.declared.kinds.ActionKind.TheVariants as action
+use Rattle.law_renumber.specs.sql_tree.declared.kinds.PieceKind.TheVariants as piece
+use Rattle.law_renumber.specs.sql_tree.declared.kinds.StmtKind.TheVariants as stmt
+use Rattle.law_renumber.specs.sql_tree.declared.nodes.Action.{Action}
+use Rattle.law_renumber.specs.sql_tree.declared.nodes.Body.TheVariants as body
+use Rattle.law_renumber.specs.sql_tree.declared.nodes.ColType.{ColType}
+use Rattle.law_renumber.specs.sql_tree.declared.nodes.Column.{Column}
+use Rattle.law_renumber.specs.sql_tree.declared.nodes.Piece.{Piece}
+use Rattle.law_renumber.specs.sql_tree.declared.nodes.ReindexTarget.TheVariants as target
+use Rattle.law_renumber.specs.sql_tree.declared.nodes.Stmt.{Stmt}
+use Rattle.law_renumber.specs.sql_tree.Statement.{Tree}
+use Rattle.hazard_find.specs.lint_base.declared.settings.LinterSettings.{LinterSettings}
+use Rattle.hazard_find.specs.lint_transaction.Names.{is_listed}
 use Rattle.law_hazards.specs.Words.{action_tokens, begin_with}
 
 -- the names of the serial types

@@ -1,11 +1,11 @@
 -- Texts in which a hazard is looked for and not found.
 use Rattle.std.specs.Prelude.{◌≡◌, ◌≢◌, Bool, true, ◌&&◌, not, All}
-use Rattle.sql_tree.specs.Statement.{Tree}
-use Rattle.lint_base.specs.declared.settings.LinterSettings.{LinterSettings}
-use Rattle.lint_ignore.specs.Comment.{has_disable_comment}
-use Rattle.hazard_base.specs.declared.hazard.Hazard.{Hazard}
-use Rattle.hazard_base.specs.declared.hazard_set.HazardSet.{HazardSet}
-use Rattle.hazard_base.specs.HazardSets.{has}
+use Rattle.law_renumber.specs.sql_tree.Statement.{Tree}
+use Rattle.hazard_find.specs.lint_base.declared.settings.LinterSettings.{LinterSettings}
+use Rattle.hazard_find.specs.lint_ignore.Comment.{has_disable_comment}
+use Rattle.hazard_find.specs.hazard_base.declared.hazard.Hazard.{Hazard}
+use Rattle.hazard_find.specs.hazard_base.declared.hazard_set.HazardSet.{HazardSet}
+use Rattle.hazard_find.specs.hazard_base.HazardSets.{has}
 use Rattle.hazard_find.specs.Findings.{findings_of}
 
 -- The hazard is enabled, and no finding of the text is of it.

@@ -1,13 +1,13 @@
 -- Tables that nobody else uses, as far as a text tells. A table is known by the names that statements give it: a CREATE with IF NOT EXISTS
 -- counts too, and a search path, a DROP or a RENAME is not looked at.
 use Rattle.std.specs.Prelude.{◌≡◌, ◌<◌, ℕ, Bool, true, false, Option, Some}
-use Rattle.sql_token.specs.declared.token.Span.{Span}
-use Rattle.sql_tree.specs.declared.nodes.Elem.{Elem}
-use Rattle.sql_tree.specs.declared.nodes.Body.TheVariants as body
+use Rattle.law_renumber.specs.sql_token.declared.token.Span.{Span}
+use Rattle.law_renumber.specs.sql_tree.declared.nodes.Elem.{Elem}
+use Rattle.law_renumber.specs.sql_tree.declared.nodes.Body.TheVariants as body
 use Rattle.std.specs.Prelude.{List}
-use Rattle.sql_tree.specs.Path.{path_cuts}
-use Rattle.sql_tree.specs.Statement.{Tree}
-use Rattle.lint_transaction.specs.Transaction.{created, ends_at, is_open, stmt_at}
+use Rattle.law_renumber.specs.sql_tree.Path.{path_cuts}
+use Rattle.law_renumber.specs.sql_tree.Statement.{Tree}
+use Rattle.hazard_find.specs.lint_transaction.Transaction.{created, ends_at, is_open, stmt_at}
 
 -- the names of a path, each cut to what PostgreSQL tells names apart by
 abbrev pub names : Tree → Span → List (List ℕ)

@@ -2,13 +2,13 @@
 use Rattle.std.specs.Prelude.{◌≡◌, ◌<◌, ℕ, true, List, [], ◌∷◌, codes, drop, if◌then◌else◌}
 use Rattle.std.specs.List.{flat_map}
 use Rattle.std.specs.Str.{bytes_eq}
-use Rattle.sql_keyword.specs.declared.words.TheConstants.Keyword as keyword
-use Rattle.sql_token.specs.declared.token.Tok.{Tok}
-use Rattle.sql_token.specs.Token.{Text, text_of}
-use Rattle.sql_tree.specs.declared.kinds.StmtKind.TheVariants as stmt
-use Rattle.sql_tree.specs.Path.{name_cuts}
-use Rattle.sql_tree.specs.Statement.{Tree}
-use Rattle.lint_transaction.specs.Transaction.{stmt_at}
+use Rattle.law_renumber.specs.sql_keyword.declared.words.TheConstants.Keyword as keyword
+use Rattle.law_renumber.specs.sql_token.declared.token.Tok.{Tok}
+use Rattle.law_renumber.specs.sql_token.Token.{Text, text_of}
+use Rattle.law_renumber.specs.sql_tree.declared.kinds.StmtKind.TheVariants as stmt
+use Rattle.law_renumber.specs.sql_tree.Path.{name_cuts}
+use Rattle.law_renumber.specs.sql_tree.Statement.{Tree}
+use Rattle.hazard_find.specs.lint_transaction.Transaction.{stmt_at}
 use Rattle.law_hazards.specs.Words.{begin_with, statement_tokens}
 
 -- a dot and the token behind it, where the tokens begin with them, and what comes of the others

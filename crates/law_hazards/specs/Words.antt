@@ -1,16 +1,16 @@
 -- The tokens of a part of a text, and the words that they begin with.
 use Rattle.std.specs.Prelude.{ℕ, ◌+◌, Bool, true, false, ◌&&◌, List, [], ◌∷◌, drop, take, filter, Option, Some, None}
-use Rattle.sql_keyword.specs.declared.words.Keyword.{Keyword}
-use Rattle.sql_keyword.specs.Same.{same_keyword}
-use Rattle.sql_keyword.specs.Find.{keyword_of}
-use Rattle.sql_token.specs.declared.token.Tok.{Tok}
-use Rattle.sql_token.specs.declared.token.TokKind.{TokKind}
-use Rattle.sql_token.specs.declared.token.TokKind.TheVariants as kinds
-use Rattle.sql_token.specs.Terminal.{is_significant_token}
-use Rattle.sql_token.specs.Token.{Text, text_of}
-use Rattle.sql_tree.specs.declared.nodes.Action.{Action}
-use Rattle.sql_tree.specs.declared.nodes.Stmt.{Stmt}
-use Rattle.sql_tree.specs.Statement.{Tree}
+use Rattle.law_renumber.specs.sql_keyword.declared.words.Keyword.{Keyword}
+use Rattle.law_renumber.specs.sql_keyword.Same.{same_keyword}
+use Rattle.law_renumber.specs.sql_keyword.Find.{keyword_of}
+use Rattle.law_renumber.specs.sql_token.declared.token.Tok.{Tok}
+use Rattle.law_renumber.specs.sql_token.declared.token.TokKind.{TokKind}
+use Rattle.law_renumber.specs.sql_token.declared.token.TokKind.TheVariants as kinds
+use Rattle.law_renumber.specs.sql_token.Terminal.{is_significant_token}
+use Rattle.law_renumber.specs.sql_token.Token.{Text, text_of}
+use Rattle.law_renumber.specs.sql_tree.declared.nodes.Action.{Action}
+use Rattle.law_renumber.specs.sql_tree.declared.nodes.Stmt.{Stmt}
+use Rattle.law_renumber.specs.sql_tree.Statement.{Tree}
 
 -- the tokens from the first number to before the last one that are no blanks and no comments
 unfoldable pub shown : Tree → ℕ → ℕ → List Tok

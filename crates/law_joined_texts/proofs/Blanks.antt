@@ -1,9 +1,9 @@
 -- A text that ends in a Blank.
 use Rattle.std.proofs.Common.{◌≡◌, ◌<◌, ℕ, false, List, [], ◌∷◌, ap, ◌∙◌, arith}
 use Rattle.std.specs.Prelude.{not}
-use Rattle.sql_token.specs.declared.token.Tok.{Tok}
-use Rattle.sql_token.specs.declared.token.TokKind.{TokKind}
-use Rattle.sql_token.specs.Token.{Text, Leads, is_blank}
+use Rattle.law_edit_cuts.specs.sql_token.declared.token.Tok.{Tok}
+use Rattle.law_edit_cuts.specs.sql_token.declared.token.TokKind.{TokKind}
+use Rattle.law_edit_cuts.specs.sql_token.Token.{Text, Leads, is_blank}
 use Rattle.law_edit_tokens.specs.Exchange.{LastKeeps, keeps_before}
 use Rattle.law_joined_texts.specs.Joined.{EndsInBlank}
 

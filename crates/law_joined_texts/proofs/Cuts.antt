@@ -3,11 +3,11 @@ use Rattle.std.proofs.Common.{◌≡◌, ◌∙◌, ℕ, suc, ◌+◌, Bool, tru
 use Rattle.std.proofs.lemmas.Bool.{false≢true}
 use Rattle.std.proofs.lemmas.Bool.Decides.{nat_tests}
 use Rattle.std.specs.Prelude.{◌==◌, ◌&&◌, if◌then◌else◌}
-use Rattle.sql_token.specs.declared.terminal.Symbol.{Symbol}
-use Rattle.sql_token.specs.declared.terminal.Symbol.TheVariants as s
-use Rattle.sql_token.specs.declared.terminal.Terminal.{Terminal}
-use Rattle.sql_token.specs.Depth.{closed, one_if, onto, opened, statements_from}
-use Rattle.sql_token.specs.Terminal.{is_closer, is_closer_symbol, is_opener, is_opener_symbol, is_semicolon, is_semicolon_symbol}
+use Rattle.law_edit_cuts.specs.sql_token.declared.terminal.Symbol.{Symbol}
+use Rattle.law_edit_cuts.specs.sql_token.declared.terminal.Symbol.TheVariants as s
+use Rattle.law_edit_cuts.specs.sql_token.declared.terminal.Terminal.{Terminal}
+use Rattle.law_edit_cuts.specs.sql_token.Depth.{closed, one_if, onto, opened, statements_from}
+use Rattle.law_edit_cuts.specs.sql_token.Terminal.{is_closer, is_closer_symbol, is_opener, is_opener_symbol, is_semicolon, is_semicolon_symbol}
 use Rattle.law_joined_texts.specs.Joined.{ends_in_semicolon}
 
 -- the last terminal is a semicolon that ends a statement, where o openers and c closers came before

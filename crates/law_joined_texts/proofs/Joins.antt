@@ -3,22 +3,22 @@ use Rattle.std.proofs.Common.{◌≡◌, ◌∙◌, ℕ, ◌+◌, ◌-◌, ◌<�
 use Rattle.std.proofs.lemmas.Bool.{false≢true}
 use Rattle.std.proofs.lemmas.List.{drop_at, get_or_append_left, get_or-append-add, map-id}
 use Rattle.std.specs.Prelude.{◌&&◌, ◌||◌}
-use Rattle.sql_token.specs.declared.token.Tok.{Tok}
-use Rattle.sql_token.specs.declared.terminal.Terminal.{Terminal}
-use Rattle.sql_token.specs.Depth.{span_of, statements, statements_from}
-use Rattle.sql_token.specs.Sound.{is_sound}
-use Rattle.sql_token.specs.Terminal.{is_semicolon, terminals, terminals_from}
-use Rattle.sql_token.specs.Token.{Text, At, Leads, Lexed, begins_blank, begins_byte_order_mark, is_blank}
-use Rattle.sql_token.proofs.Ahead.{Agree}
-use Rattle.sql_token.proofs.Statements.{by_counts}
-use Rattle.sql_tree.specs.declared.nodes.Stmt.{Stmt}
-use Rattle.sql_tree.specs.Statement.{all_statements, and_then_all, read_tokens, statement}
-use Rattle.law_renumber.specs.Moved.{stmt_moved}
-use Rattle.law_renumber.specs.Renumber.{renumber}
-use Rattle.law_renumber.specs.Texts.{reading_moved}
-use Rattle.law_renumber.proofs.Options.{by_words, text_by_all}
-use Rattle.law_renumber.proofs.Readings.{reading_renumbers}
-use Rattle.law_renumber.proofs.Seen.{numbers}
+use Rattle.law_edit_cuts.specs.sql_token.declared.token.Tok.{Tok}
+use Rattle.law_edit_cuts.specs.sql_token.declared.terminal.Terminal.{Terminal}
+use Rattle.law_edit_cuts.specs.sql_token.Depth.{span_of, statements, statements_from}
+use Rattle.law_edit_cuts.specs.sql_token.Sound.{is_sound}
+use Rattle.law_edit_cuts.specs.sql_token.Terminal.{is_semicolon, terminals, terminals_from}
+use Rattle.law_edit_cuts.specs.sql_token.Token.{Text, At, Leads, Lexed, begins_blank, begins_byte_order_mark, is_blank}
+use Rattle.law_edit_cuts.proofs.of_sql_token.Ahead.{Agree}
+use Rattle.law_edit_cuts.proofs.of_sql_token.Statements.{by_counts}
+use Rattle.law_edit_cuts.specs.sql_tree.declared.nodes.Stmt.{Stmt}
+use Rattle.law_edit_cuts.specs.sql_tree.Statement.{all_statements, and_then_all, read_tokens, statement}
+use Rattle.law_edit_cuts.specs.law_renumber.Moved.{stmt_moved}
+use Rattle.law_edit_cuts.specs.law_renumber.Renumber.{renumber}
+use Rattle.law_edit_cuts.specs.law_renumber.Texts.{reading_moved}
+use Rattle.law_edit_cuts.proofs.of_law_renumber.Options.{by_words, text_by_all}
+use Rattle.law_edit_cuts.proofs.of_law_renumber.Readings.{reading_renumbers}
+use Rattle.law_edit_cuts.proofs.of_law_renumber.Seen.{numbers}
 use Rattle.law_edit_tokens.specs.Exchange.{Cut, FirstStays, tok_moved}
 use Rattle.law_edit_tokens.proofs.After.{at_unstarted, rereads_after_one}
 use Rattle.law_edit_tokens.proofs.Prefix.{prefix_stays}

@@ -1,12 +1,12 @@
 -- Two texts, one put after the other.
 use Rattle.std.specs.Prelude.{◌≡◌, ◌<◌, ◌^◌, ◌+◌, Bool, true, false, List, [], ◌∷◌, ◌++◌, length, map}
-use Rattle.sql_token.specs.declared.token.Tok.{Tok}
-use Rattle.sql_token.specs.declared.token.TokKind.TheVariants.{Blank}
-use Rattle.sql_token.specs.declared.terminal.Terminal.{Terminal}
-use Rattle.sql_token.specs.Terminal.{terminals, is_semicolon}
-use Rattle.sql_token.specs.Token.{Text, begins_blank}
-use Rattle.sql_tree.specs.Statement.{Tree, IsTree, IsValid}
-use Rattle.law_renumber.specs.Moved.{stmt_moved}
+use Rattle.law_edit_cuts.specs.sql_token.declared.token.Tok.{Tok}
+use Rattle.law_edit_cuts.specs.sql_token.declared.token.TokKind.TheVariants.{Blank}
+use Rattle.law_edit_cuts.specs.sql_token.declared.terminal.Terminal.{Terminal}
+use Rattle.law_edit_cuts.specs.sql_token.Terminal.{terminals, is_semicolon}
+use Rattle.law_edit_cuts.specs.sql_token.Token.{Text, begins_blank}
+use Rattle.law_edit_cuts.specs.sql_tree.Statement.{Tree, IsTree, IsValid}
+use Rattle.law_edit_cuts.specs.law_renumber.Moved.{stmt_moved}
 use Rattle.law_edit_tokens.specs.Exchange.{tok_moved}
 
 -- Both texts, and their tokens and statements: those of the second one have the places and the numbers that come after the

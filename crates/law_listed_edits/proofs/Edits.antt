@@ -2,44 +2,44 @@
 use Rattle.std.proofs.Common.{◌≡◌, ℕ, ◌<◌, ◌≤◌, ◌⊎◌, inl, inr, Bool, true, List, [], ◌∷◌, ◌++◌, length, sym, refl, ap, ◌∙◌, subst, arith, Some, None}
 use Rattle.std.proofs.lemmas.List.Elements.{All-nil, All-append}
 use Rattle.std.specs.Prelude.{All}
-use Rattle.sql_token.specs.Token.{Text}
-use Rattle.sql_tree.specs.declared.nodes.Action.{Action}
-use Rattle.sql_tree.specs.declared.nodes.Body.{Body}
-use Rattle.sql_tree.specs.declared.nodes.Body.TheVariants as body
-use Rattle.sql_tree.specs.declared.nodes.ColType.{ColType}
-use Rattle.sql_tree.specs.declared.nodes.Stmt.{Stmt}
-use Rattle.sql_tree.specs.Range.{token_at, span_range_of}
-use Rattle.sql_tree.specs.Statement.{Tree, IsTree}
-use Rattle.law_edit_inserts.proofs.Apart.{stays_within}
-use Rattle.lint_base.specs.declared.rule.Rule.TheVariants as rule
-use Rattle.lint_base.specs.declared.settings.LinterSettings.{LinterSettings}
-use Rattle.lint_base.specs.declared.violation.Violation.{Violation}
-use Rattle.lint_base.specs.Edits.{insertion, replacement}
-use Rattle.lint_base.specs.Fixes.{FixValue}
-use Rattle.lint_base.specs.RuleSets.{Rules, has}
-use Rattle.lint_node.specs.ColumnTypes.{column_types}
-use Rattle.lint_node.specs.Parts.{table_actions}
-use Rattle.lint_node.specs.Plain.{is_plain_detach, is_plain_drop, is_plain_reindex}
-use Rattle.lint_pass.specs.Fixes.{insertion_fix}
-use Rattle.lint_pass.specs.RuleLaws.{flat_all, one_all, pieces_all, rule_all, unless_all, where_all}
-use Rattle.lint_pass.specs.Those.{that, those}
-use Rattle.lint_transaction.specs.Transaction.{is_new, no_stmt, stmt_at}
-use Rattle.pass_concurrent.specs.RequireConcurrentIndexCreation as index
-use Rattle.pass_concurrent.specs.RequireConcurrentIndexDeletion as deletion
-use Rattle.pass_concurrent.specs.RequireConcurrentPartitionDetach as detachment
-use Rattle.pass_concurrent.specs.RequireConcurrentReindex as reindex
-use Rattle.pass_session.specs.RequireTimeoutSettings.{both_reports, is_first_slow, is_set, lock_report, lock_timeout, statement_report, statement_timeout, timeouts_at}
-use Rattle.sql_tree.specs.Path.{path_cuts}
+use Rattle.law_answers.specs.sql_token.Token.{Text}
+use Rattle.law_answers.specs.sql_tree.declared.nodes.Action.{Action}
+use Rattle.law_answers.specs.sql_tree.declared.nodes.Body.{Body}
+use Rattle.law_answers.specs.sql_tree.declared.nodes.Body.TheVariants as body
+use Rattle.law_answers.specs.sql_tree.declared.nodes.ColType.{ColType}
+use Rattle.law_answers.specs.sql_tree.declared.nodes.Stmt.{Stmt}
+use Rattle.law_answers.specs.sql_tree.Range.{token_at, span_range_of}
+use Rattle.law_answers.specs.sql_tree.Statement.{Tree, IsTree}
+use Rattle.law_answers.proofs.of_law_edit_inserts.Apart.{stays_within}
+use Rattle.law_answers.specs.lint_base.declared.rule.Rule.TheVariants as rule
+use Rattle.law_answers.specs.lint_base.declared.settings.LinterSettings.{LinterSettings}
+use Rattle.law_answers.specs.lint_base.declared.violation.Violation.{Violation}
+use Rattle.law_answers.specs.lint_base.Edits.{insertion, replacement}
+use Rattle.law_answers.specs.lint_base.Fixes.{FixValue}
+use Rattle.law_answers.specs.lint_base.RuleSets.{Rules, has}
+use Rattle.law_answers.specs.lint_node.ColumnTypes.{column_types}
+use Rattle.law_answers.specs.lint_node.Parts.{table_actions}
+use Rattle.law_answers.specs.lint_node.Plain.{is_plain_detach, is_plain_drop, is_plain_reindex}
+use Rattle.law_answers.specs.lint_pass.Fixes.{insertion_fix}
+use Rattle.law_answers.specs.lint_pass.RuleLaws.{flat_all, one_all, pieces_all, rule_all, unless_all, where_all}
+use Rattle.law_answers.specs.lint_pass.Those.{that, those}
+use Rattle.law_answers.specs.lint_transaction.Transaction.{is_new, no_stmt, stmt_at}
+use Rattle.law_answers.specs.pass_concurrent.RequireConcurrentIndexCreation as index
+use Rattle.law_answers.specs.pass_concurrent.RequireConcurrentIndexDeletion as deletion
+use Rattle.law_answers.specs.pass_concurrent.RequireConcurrentPartitionDetach as detachment
+use Rattle.law_answers.specs.pass_concurrent.RequireConcurrentReindex as reindex
+use Rattle.law_answers.specs.pass_session.RequireTimeoutSettings.{both_reports, is_first_slow, is_set, lock_report, lock_timeout, statement_report, statement_timeout, timeouts_at}
+use Rattle.law_answers.specs.sql_tree.Path.{path_cuts}
 use Rattle.law_answers.specs.Tables.{timeouts}
-use Rattle.law_fixes.specs.Mended.{builds, dropped, rebuilt, detached}
-use Rattle.law_fixes.proofs.Fixed.{At, at_or_none, inside_some}
-use Rattle.law_fixes.proofs.Tokens.{starts_ascend}
-use Rattle.law_type_fixes.specs.Rules.{TypeRule, reports_on, type_reports, type_table, ints, smallints, timestamps, varchars}
-use Rattle.law_type_fixes.proofs.ColumnTypes.{no_types}
-use Rattle.law_type_fixes.proofs.Edits.{puts_word}
-use Rattle.law_type_fixes.proofs.Fixes.{all_reports}
-use Rattle.law_type_fixes.proofs.TypesApart.{types_apart}
-use Rattle.law_type_fixes.proofs.Words.{HasFix, InnerFix, NameFix, ints_fix, smallints_fix, timestamps_fix, varchars_fix}
+use Rattle.law_answers.specs.law_fixes.Mended.{builds, dropped, rebuilt, detached}
+use Rattle.law_answers.proofs.of_law_fixes.Fixed.{At, at_or_none, inside_some}
+use Rattle.law_answers.proofs.of_law_fixes.Tokens.{starts_ascend}
+use Rattle.law_answers.specs.law_type_fixes.Rules.{TypeRule, reports_on, type_reports, type_table, ints, smallints, timestamps, varchars}
+use Rattle.law_answers.proofs.of_law_type_fixes.ColumnTypes.{no_types}
+use Rattle.law_answers.proofs.of_law_type_fixes.Edits.{puts_word}
+use Rattle.law_answers.proofs.of_law_type_fixes.Fixes.{all_reports}
+use Rattle.law_answers.proofs.of_law_type_fixes.TypesApart.{types_apart}
+use Rattle.law_answers.proofs.of_law_type_fixes.Words.{HasFix, InnerFix, NameFix, ints_fix, smallints_fix, timestamps_fix, varchars_fix}
 use Rattle.law_listed_edits.specs.OneEdit.{AreMendedByOne, HasOneEdit, IsMendedByOne, MendedByOne}
 use Rattle.law_listed_edits.proofs.TypesBehind.{type_behind}
 

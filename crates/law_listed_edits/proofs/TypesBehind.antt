@@ -3,42 +3,42 @@ use Rattle.std.proofs.Common.{◌≡◌, ℕ, suc, ◌+◌, ◌-◌, ◌<◌, �
 use Rattle.std.specs.Prelude.{if◌then◌else◌, is_some}
 use Rattle.std.specs.List.{flat_map}
 use Rattle.std.specs.Option.{option_and_then}
-use Rattle.sql_keyword.specs.declared.words.TheConstants.Keyword as keyword
-use Rattle.sql_token.specs.declared.terminal.Terminal.{Terminal}
-use Rattle.sql_token.specs.declared.token.Span.{Span}
-use Rattle.sql_token.specs.Depth.{span_of}
-use Rattle.sql_token.specs.Sound.{is_sound}
-use Rattle.sql_token.specs.Terminal.{is_semicolon}
-use Rattle.sql_tree.specs.declared.forms.BodyShape.{BodyShape}
-use Rattle.sql_tree.specs.declared.forms.BodyShape.TheVariants as shape
-use Rattle.sql_tree.specs.declared.kinds.StmtKind.{StmtKind}
-use Rattle.sql_tree.specs.declared.nodes.Action.{Action}
-use Rattle.sql_tree.specs.declared.nodes.Body.{Body}
-use Rattle.sql_tree.specs.declared.nodes.Body.TheVariants as body
-use Rattle.sql_tree.specs.declared.nodes.ColType.{ColType}
-use Rattle.sql_tree.specs.declared.nodes.Stmt.{Stmt}
-use Rattle.sql_tree.specs.Action.{actions_of}
-use Rattle.sql_tree.specs.Column.{domain_constraints, drops_on_commit, elements}
-use Rattle.sql_tree.specs.Forms.{State}
-use Rattle.sql_tree.specs.Groups.{inside_list}
-use Rattle.sql_tree.specs.Nodes.{element_types, action_types, types_in}
-use Rattle.sql_tree.specs.Statement.{final_kind, body_shape_of, body_by, kind_and_body, front_by, from_verb, form_from, form_of, last_of, without_semicolon, stmt_in, statement}
-use Rattle.sql_tree.specs.Tails.{after_flag, after_options, paths_from, reindex, reindex_body, reindex_object, target_symbol, whole_path}
-use Rattle.sql_tree.specs.Write.{targets, table_write}
-use Rattle.law_renumber.proofs.There.{IfThere, from_there, if_there}
-use Rattle.law_renumber.proofs.Ordered.{Numbered, numbered_le, numbered_lower, LeftOf, front_left, verb_left}
-use Rattle.law_renumber.proofs.NodeOrder.{take_numbered}
-use Rattle.law_type_fixes.proofs.Walk.{Walks, table_walk, actions_walk}
-use Rattle.sql_token.specs.Depth.{statements}
-use Rattle.sql_token.specs.Terminal.{terminals}
-use Rattle.sql_tree.specs.Statement.{Tree, IsTree}
-use Rattle.lint_node.specs.ColumnTypes.{column_types}
-use Rattle.law_renumber.proofs.Ordered.{numbered_raise}
-use Rattle.law_edit_cuts.specs.Exchanges.{joined}
-use Rattle.law_edit_inserts.proofs.Statements.{of_read, statements_join, joined_append, stmt_at_place}
-use Rattle.law_type_fixes.proofs.ColumnTypes.{types_ranged}
-use Rattle.law_type_fixes.proofs.Ranged.{Ranged, walk_ranged, ranged_le, ranged_parts}
-use Rattle.law_type_fixes.proofs.TypesApart.{all_numbered, numbered_parts}
+use Rattle.law_answers.specs.sql_keyword.declared.words.TheConstants.Keyword as keyword
+use Rattle.law_answers.specs.sql_token.declared.terminal.Terminal.{Terminal}
+use Rattle.law_answers.specs.sql_token.declared.token.Span.{Span}
+use Rattle.law_answers.specs.sql_token.Depth.{span_of}
+use Rattle.law_answers.specs.sql_token.Sound.{is_sound}
+use Rattle.law_answers.specs.sql_token.Terminal.{is_semicolon}
+use Rattle.law_answers.specs.sql_tree.declared.forms.BodyShape.{BodyShape}
+use Rattle.law_answers.specs.sql_tree.declared.forms.BodyShape.TheVariants as shape
+use Rattle.law_answers.specs.sql_tree.declared.kinds.StmtKind.{StmtKind}
+use Rattle.law_answers.specs.sql_tree.declared.nodes.Action.{Action}
+use Rattle.law_answers.specs.sql_tree.declared.nodes.Body.{Body}
+use Rattle.law_answers.specs.sql_tree.declared.nodes.Body.TheVariants as body
+use Rattle.law_answers.specs.sql_tree.declared.nodes.ColType.{ColType}
+use Rattle.law_answers.specs.sql_tree.declared.nodes.Stmt.{Stmt}
+use Rattle.law_answers.specs.sql_tree.Action.{actions_of}
+use Rattle.law_answers.specs.sql_tree.Column.{domain_constraints, drops_on_commit, elements}
+use Rattle.law_answers.specs.sql_tree.Forms.{State}
+use Rattle.law_answers.specs.sql_tree.Groups.{inside_list}
+use Rattle.law_answers.specs.sql_tree.Nodes.{element_types, action_types, types_in}
+use Rattle.law_answers.specs.sql_tree.Statement.{final_kind, body_shape_of, body_by, kind_and_body, front_by, from_verb, form_from, form_of, last_of, without_semicolon, stmt_in, statement}
+use Rattle.law_answers.specs.sql_tree.Tails.{after_flag, after_options, paths_from, reindex, reindex_body, reindex_object, target_symbol, whole_path}
+use Rattle.law_answers.specs.sql_tree.Write.{targets, table_write}
+use Rattle.law_answers.proofs.of_law_renumber.There.{IfThere, from_there, if_there}
+use Rattle.law_answers.proofs.of_law_renumber.Ordered.{Numbered, numbered_le, numbered_lower, LeftOf, front_left, verb_left}
+use Rattle.law_answers.proofs.of_law_renumber.NodeOrder.{take_numbered}
+use Rattle.law_answers.proofs.of_law_type_fixes.Walk.{Walks, table_walk, actions_walk}
+use Rattle.law_answers.specs.sql_token.Depth.{statements}
+use Rattle.law_answers.specs.sql_token.Terminal.{terminals}
+use Rattle.law_answers.specs.sql_tree.Statement.{Tree, IsTree}
+use Rattle.law_answers.specs.lint_node.ColumnTypes.{column_types}
+use Rattle.law_answers.proofs.of_law_renumber.Ordered.{numbered_raise}
+use Rattle.law_answers.specs.law_edit_cuts.Exchanges.{joined}
+use Rattle.law_answers.proofs.of_law_edit_inserts.Statements.{of_read, statements_join, joined_append, stmt_at_place}
+use Rattle.law_answers.proofs.of_law_type_fixes.ColumnTypes.{types_ranged}
+use Rattle.law_answers.proofs.of_law_type_fixes.Ranged.{Ranged, walk_ranged, ranged_le, ranged_parts}
+use Rattle.law_answers.proofs.of_law_type_fixes.TypesApart.{all_numbered, numbered_parts}
 
 module _ (T : ℕ → ℕ → List ColType → Type 0) (walk : Walks T) (lo hi : ℕ) where
   abbrev InBody : Body → Type 0

@@ -1,1 +1,2 @@
 pub mod OneEdit
+pub use Rattle.law_answers.specs as law_answers

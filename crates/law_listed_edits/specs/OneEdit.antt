@@ -1,13 +1,13 @@
 -- The fixes of the rules whose fixes are known to mend a text: each has one edit.
 use Rattle.std.specs.Prelude.{◌≡◌, ◌<◌, All, [], ◌∷◌, Some, IfSome}
-use Rattle.sql_tree.specs.Statement.{Tree, IsTree}
-use Rattle.lint_base.specs.declared.edit.Edit.{Edit}
-use Rattle.lint_base.specs.declared.rule.Rule.{Rule}
-use Rattle.lint_base.specs.declared.settings.LinterSettings.{LinterSettings}
-use Rattle.lint_base.specs.declared.violation.Violation.{Violation}
-use Rattle.lint_base.specs.Fixes.{FixValue}
-use Rattle.lint_base.specs.RuleSets.{Rules}
-use Rattle.law_fixes.specs.Mended.{Table}
+use Rattle.law_answers.specs.sql_tree.Statement.{Tree, IsTree}
+use Rattle.law_answers.specs.lint_base.declared.edit.Edit.{Edit}
+use Rattle.law_answers.specs.lint_base.declared.rule.Rule.{Rule}
+use Rattle.law_answers.specs.lint_base.declared.settings.LinterSettings.{LinterSettings}
+use Rattle.law_answers.specs.lint_base.declared.violation.Violation.{Violation}
+use Rattle.law_answers.specs.lint_base.Fixes.{FixValue}
+use Rattle.law_answers.specs.lint_base.RuleSets.{Rules}
+use Rattle.law_answers.specs.law_fixes.Mended.{Table}
 use Rattle.law_answers.specs.Tables.{mended_table}
 
 -- The fix has one edit, and where it replaces bytes, there are bytes before them.

@@ -3,10 +3,10 @@ use Rattle.std.proofs.Common.{◌≡◌, ◌∙◌, ℕ, ◌+◌, ◌<◌, ◌�
 use Rattle.std.proofs.lemmas.Bool.{ltb-true, leb-true}
 use Rattle.std.specs.List.{list_all}
 use Rattle.std.specs.Prelude.{nat_lt, nat_le}
-use Rattle.sql_token.specs.declared.token.TokKind.TheVariants.{Blank, Word, Number, Op, Punct}
-use Rattle.sql_token.specs.Token.{Text, begins_word, is_blank, is_word}
-use Rattle.law_edit_tokens.specs.Exchange.{Fits, IsPlainWord, IsTokenBefore, Made, made_text}
-use Rattle.law_edit_tokens.proofs.Made.{blank_fits, word_fits}
+use Rattle.law_joined_texts.specs.sql_token.declared.token.TokKind.TheVariants.{Blank, Word, Number, Op, Punct}
+use Rattle.law_joined_texts.specs.sql_token.Token.{Text, begins_word, is_blank, is_word}
+use Rattle.law_joined_texts.specs.law_edit_tokens.Exchange.{Fits, IsPlainWord, IsTokenBefore, Made, made_text}
+use Rattle.law_joined_texts.proofs.of_law_edit_tokens.Made.{blank_fits, word_fits}
 use Rattle.squawk_generate.specs.Made.{column_group, constraint_group, index_group, index_on, table_group}
 use Rattle.law_made_texts.proofs.Names.{IsNumber, name_plain}
 

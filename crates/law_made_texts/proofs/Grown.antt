@@ -2,16 +2,16 @@
 use Rattle.std.proofs.Common.{◌≡◌, ◌∙◌, ℕ, zero, suc, ◌+◌, ◌*◌, ◌%◌, ◌<◌, ◌≤◌, ◌^◌, Bool, true, false, List, [], ◌∷◌, ◌++◌, length, length-append, append-nil, codes, decimal, refl, ap, sym, subst, arith, lit<, if◌then◌else◌, Ok}
 use Rattle.std.specs.Prelude.{◌==◌}
 use Rattle.std.specs.Str.{IsUtf8}
-use Rattle.sql_token.specs.Chunks.{chunks}
-use Rattle.sql_token.specs.Depth.{statements}
-use Rattle.sql_token.specs.Terminal.{terminals}
-use Rattle.sql_token.specs.Token.{Text, Leads, Lexed, begins_blank}
-use Rattle.sql_tree.specs.declared.nodes.Stmt.{Stmt}
-use Rattle.sql_tree.specs.Statement.{Tree, IsTree, IsValid, all_statements, read_tokens}
-use Rattle.law_edit_tokens.specs.Exchange.{Fits, Made, made_text, made_toks}
-use Rattle.law_edit_tokens.specs.Terminals.{made_terms}
-use Rattle.law_edit_tokens.proofs.Made.{made_lead}
-use Rattle.law_edit_tokens.proofs.Terminals.{made_terminals}
+use Rattle.law_joined_texts.specs.sql_token.Chunks.{chunks}
+use Rattle.law_joined_texts.specs.sql_token.Depth.{statements}
+use Rattle.law_joined_texts.specs.sql_token.Terminal.{terminals}
+use Rattle.law_joined_texts.specs.sql_token.Token.{Text, Leads, Lexed, begins_blank}
+use Rattle.law_joined_texts.specs.sql_tree.declared.nodes.Stmt.{Stmt}
+use Rattle.law_joined_texts.specs.sql_tree.Statement.{Tree, IsTree, IsValid, all_statements, read_tokens}
+use Rattle.law_joined_texts.specs.law_edit_tokens.Exchange.{Fits, Made, made_text, made_toks}
+use Rattle.law_joined_texts.specs.law_edit_tokens.Terminals.{made_terms}
+use Rattle.law_joined_texts.proofs.of_law_edit_tokens.Made.{made_lead}
+use Rattle.law_joined_texts.proofs.of_law_edit_tokens.Terminals.{made_terminals}
 use Rattle.law_joined_texts.specs.Joined.{EndsInBlank, IsFinished, ends_in_semicolon, joined}
 use Rattle.law_joined_texts.proofs.Joins.{finished_stays, trees_join}
 use Rattle.squawk_generate.specs.Made.{group, group_by, made}

@@ -10,11 +10,11 @@ use Rattle.std.specs.Prelude.{◌==◌, ◌&&◌, not, nat_eq, map}
 use Rattle.std.specs.Str.{str_eq_ignore_ascii_case}
 use Rattle.std.specs.Str.Parse.{AllDigits}
 use lib.Pointwise.{pointwise}
-use Rattle.sql_keyword.specs.declared.words.Keyword.{Keyword}
-use Rattle.sql_keyword.specs.Find.{keyword_of}
-use Rattle.sql_keyword.specs.Texts.{all_keywords, text}
-use Rattle.sql_token.specs.Token.{begins_word, is_word}
-use Rattle.law_edit_tokens.specs.Exchange.{IsPlainWord}
+use Rattle.law_joined_texts.specs.sql_keyword.declared.words.Keyword.{Keyword}
+use Rattle.law_joined_texts.specs.sql_keyword.Find.{keyword_of}
+use Rattle.law_joined_texts.specs.sql_keyword.Texts.{all_keywords, text}
+use Rattle.law_joined_texts.specs.sql_token.Token.{begins_word, is_word}
+use Rattle.law_joined_texts.specs.law_edit_tokens.Exchange.{IsPlainWord}
 
 -- at least one byte, and each is a digit
 pub record IsNumber (number : List ℕ) : Type 0 where

@@ -1,31 +1,31 @@
 -- What made groups are read as.
 use Rattle.std.proofs.Common.{◌≡◌, ◌∙◌, ℕ, ◌+◌, true, cond, List, [], ◌∷◌, codes, refl, ap, sym, lit<, Ok, Err, Result}
-use Rattle.sql_keyword.specs.Find.{keyword_of}
-use Rattle.sql_keyword.specs.Same.{same_keyword}
-use Rattle.sql_keyword.specs.Texts.{all_keywords, text}
-use Rattle.sql_token.specs.declared.token.TokKind.TheVariants.{Word}
-use Rattle.sql_token.specs.Chunks.{chunks}
-use Rattle.sql_token.specs.Depth.{has_keyword, statements}
-use Rattle.sql_token.specs.Sound.{begins_atomic, is_sound}
-use Rattle.sql_token.specs.Terminal.{is_closer, is_dot, is_keyword, is_name, is_opener, is_round, is_semicolon, is_significant, is_unicode_name, symbol_of, word_symbol}
-use Rattle.sql_tree.specs.Action.{action, actions_of, add_constraint, added_constraint, after_column, after_name, begins_domain_constraint, built, by_rows, column_in, general_action, listed_action, one_action, options, own_action, own_part, pieces_in, several_actions, takes_constraint, unlisted_action}
-use Rattle.sql_tree.specs.ActionRows.{first_rows, first_rows_at, general_rows, general_rows_at, own_rows}
-use Rattle.sql_tree.specs.Column.{column, drops_on_commit, element, elements, leads_constraint}
-use Rattle.sql_tree.specs.ColumnMarks.{constraint_head, constraint_start, first_kind, is_bound, kind_after_name, kind_led, type_end, value_end}
-use Rattle.sql_tree.specs.ColumnType.{arguments, array_by_groups, array_by_word, array_of, before_groups, column_type, ends_with, no_group, only_groups, path_type, plain_type, type_len, word_type}
-use Rattle.sql_tree.specs.Constraint.{after_exclude, after_two, by_index, column_constraint, column_constraints, column_kind, constraint_in, constraint_kind, constraint_name, default_value, table_constraint, two_word_kind, value_in}
-use Rattle.sql_tree.specs.Constraint.{named as named_constraint}
-use Rattle.sql_tree.specs.Expression.{after_path, all_full, cast_at, cast_call, ends_not_null, expression_of, is_literal, is_not_null, leaf, shape_of}
-use Rattle.sql_tree.specs.Expression.{named as named_value, tree as value_tree}
-use Rattle.sql_tree.specs.Forms.{alter_rows, create_rows, family_of, led_by, one_word_kind, rows_of, take_part, words_of}
-use Rattle.sql_tree.specs.Groups.{inside_list, is_list, is_square, path_first}
-use Rattle.sql_tree.specs.Pieces.{pieces}
-use Rattle.sql_tree.specs.Split.{after_list, before, cast, comma, not_valid, on_commit_drop, operator, split, word}
-use Rattle.sql_tree.specs.declared.nodes.Stmt.{Stmt}
-use Rattle.sql_tree.specs.Statement.{all_statements, body_by, body_shape_of, final_kind, form_from, form_of, from_verb, front_by, statement, kind_and_body}
-use Rattle.sql_tree.specs.Words.{is_of_class}
-use Rattle.law_edit_tokens.specs.Exchange.{Made}
-use Rattle.law_edit_tokens.specs.Terminals.{made_terms}
+use Rattle.law_joined_texts.specs.sql_keyword.Find.{keyword_of}
+use Rattle.law_joined_texts.specs.sql_keyword.Same.{same_keyword}
+use Rattle.law_joined_texts.specs.sql_keyword.Texts.{all_keywords, text}
+use Rattle.law_joined_texts.specs.sql_token.declared.token.TokKind.TheVariants.{Word}
+use Rattle.law_joined_texts.specs.sql_token.Chunks.{chunks}
+use Rattle.law_joined_texts.specs.sql_token.Depth.{has_keyword, statements}
+use Rattle.law_joined_texts.specs.sql_token.Sound.{begins_atomic, is_sound}
+use Rattle.law_joined_texts.specs.sql_token.Terminal.{is_closer, is_dot, is_keyword, is_name, is_opener, is_round, is_semicolon, is_significant, is_unicode_name, symbol_of, word_symbol}
+use Rattle.law_joined_texts.specs.sql_tree.Action.{action, actions_of, add_constraint, added_constraint, after_column, after_name, begins_domain_constraint, built, by_rows, column_in, general_action, listed_action, one_action, options, own_action, own_part, pieces_in, several_actions, takes_constraint, unlisted_action}
+use Rattle.law_joined_texts.specs.sql_tree.ActionRows.{first_rows, first_rows_at, general_rows, general_rows_at, own_rows}
+use Rattle.law_joined_texts.specs.sql_tree.Column.{column, drops_on_commit, element, elements, leads_constraint}
+use Rattle.law_joined_texts.specs.sql_tree.ColumnMarks.{constraint_head, constraint_start, first_kind, is_bound, kind_after_name, kind_led, type_end, value_end}
+use Rattle.law_joined_texts.specs.sql_tree.ColumnType.{arguments, array_by_groups, array_by_word, array_of, before_groups, column_type, ends_with, no_group, only_groups, path_type, plain_type, type_len, word_type}
+use Rattle.law_joined_texts.specs.sql_tree.Constraint.{after_exclude, after_two, by_index, column_constraint, column_constraints, column_kind, constraint_in, constraint_kind, constraint_name, default_value, table_constraint, two_word_kind, value_in}
+use Rattle.law_joined_texts.specs.sql_tree.Constraint.{named as named_constraint}
+use Rattle.law_joined_texts.specs.sql_tree.Expression.{after_path, all_full, cast_at, cast_call, ends_not_null, expression_of, is_literal, is_not_null, leaf, shape_of}
+use Rattle.law_joined_texts.specs.sql_tree.Expression.{named as named_value, tree as value_tree}
+use Rattle.law_joined_texts.specs.sql_tree.Forms.{alter_rows, create_rows, family_of, led_by, one_word_kind, rows_of, take_part, words_of}
+use Rattle.law_joined_texts.specs.sql_tree.Groups.{inside_list, is_list, is_square, path_first}
+use Rattle.law_joined_texts.specs.sql_tree.Pieces.{pieces}
+use Rattle.law_joined_texts.specs.sql_tree.Split.{after_list, before, cast, comma, not_valid, on_commit_drop, operator, split, word}
+use Rattle.law_joined_texts.specs.sql_tree.declared.nodes.Stmt.{Stmt}
+use Rattle.law_joined_texts.specs.sql_tree.Statement.{all_statements, body_by, body_shape_of, final_kind, form_from, form_of, from_verb, front_by, statement, kind_and_body}
+use Rattle.law_joined_texts.specs.sql_tree.Words.{is_of_class}
+use Rattle.law_joined_texts.specs.law_edit_tokens.Exchange.{Made}
+use Rattle.law_joined_texts.specs.law_edit_tokens.Terminals.{made_terms}
 use Rattle.law_joined_texts.specs.Joined.{ends_in_semicolon}
 use Rattle.law_made_texts.proofs.Groups.{alter_toks, blank, column_made, column_toks, constraint_made, constraint_toks, feed, index_made, index_toks, semicolon, table_made}
 use Rattle.law_made_texts.proofs.Names.{IsNumber, name_free}

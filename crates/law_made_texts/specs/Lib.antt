@@ -1,1 +1,2 @@
 pub mod Valid
+pub use Rattle.squawk_generate.specs as squawk_generate

@@ -2,3 +2,6 @@
 #![tactic(auto)]
 
 pub mod laws;
+
+// What crates above reach through this one.
+pub use squawk_generate::{made_text, write_summary};

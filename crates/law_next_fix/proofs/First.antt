@@ -3,15 +3,15 @@ use Rattle.std.proofs.Common.{◌≡◌, Bool, true, false, cond, List, [], ◌�
 use Rattle.std.proofs.lemmas.List.Elements.{All-head, All-tail}
 use Rattle.std.specs.Prelude.{All, ◌&&◌, not}
 use Rattle.std.specs.Option.{option_map, option_or}
-use Rattle.sql_token.specs.Token.{Text}
-use Rattle.sql_tree.specs.Statement.{Tree}
-use Rattle.lint_base.specs.declared.settings.LinterSettings.{LinterSettings}
-use Rattle.lint_base.specs.declared.violation.Violation.{Violation}
-use Rattle.lint_base.specs.Fixes.{FixValue}
-use Rattle.lint_ignore.specs.Comment.{has_disable_comment}
-use Rattle.law_fix_steps.specs.Listed.{is_listed}
+use Rattle.fix_choice.specs.sql_token.Token.{Text}
+use Rattle.fix_choice.specs.sql_tree.Statement.{Tree}
+use Rattle.fix_choice.specs.lint_base.declared.settings.LinterSettings.{LinterSettings}
+use Rattle.fix_choice.specs.lint_base.declared.violation.Violation.{Violation}
+use Rattle.fix_choice.specs.lint_base.Fixes.{FixValue}
+use Rattle.fix_choice.specs.lint_ignore.Comment.{has_disable_comment}
+use Rattle.fix_choice.specs.law_fix_steps.Listed.{is_listed}
 use Rattle.fix_choice.specs.Fits.{first_fitting, fits, fitting}
-use Rattle.squawk_linter.specs.Reports.{cleared}
+use Rattle.law_answer_steps.specs.squawk_linter.Reports.{cleared}
 use Rattle.law_next_fix.specs.Fitting.{IfFitting}
 
 -- ---- the first fix that fits

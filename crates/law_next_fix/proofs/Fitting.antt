@@ -5,30 +5,30 @@ use Rattle.std.proofs.lemmas.List.{get_or-drop}
 use Rattle.std.proofs.lemmas.List.Elements.{All-contains}
 use Rattle.std.specs.Prelude.{All, Contains, ◌==◌, ◌&&◌, ◌||◌, not, is_some, nat_lt, slice_index}
 use Rattle.std.specs.List.{list_all}
-use Rattle.sql_token.specs.Token.{Text, is_word}
-use Rattle.sql_tree.specs.Statement.{Tree, IsTree}
-use Rattle.lint_base.specs.declared.edit.Edit.{Edit}
-use Rattle.lint_base.specs.declared.rule.Rule.{Rule}
-use Rattle.lint_base.specs.declared.rule.Rule.TheVariants as rule
-use Rattle.lint_base.specs.declared.settings.LinterSettings.{LinterSettings}
-use Rattle.lint_base.specs.declared.violation.Violation.{Violation}
-use Rattle.lint_base.specs.Fixes.{FixValue}
-use Rattle.lint_base.specs.RuleSets.{Rules}
-use Rattle.lint_pass.specs.RuleLaws.{one_all}
-use Rattle.law_answers.specs.Tables.{mended_table}
-use Rattle.law_fixes.specs.Edited.{edited}
-use Rattle.law_fixes.specs.Mended.{Table}
-use Rattle.law_type_fixes.specs.Mended.{JoinsNone}
-use Rattle.law_fix_steps.specs.Listed.{is_listed}
-use Rattle.law_fix_steps.specs.Step.{FixSteps, JoinNoWord, Steps}
+use Rattle.fix_choice.specs.sql_token.Token.{Text, is_word}
+use Rattle.fix_choice.specs.sql_tree.Statement.{Tree, IsTree}
+use Rattle.fix_choice.specs.lint_base.declared.edit.Edit.{Edit}
+use Rattle.fix_choice.specs.lint_base.declared.rule.Rule.{Rule}
+use Rattle.fix_choice.specs.lint_base.declared.rule.Rule.TheVariants as rule
+use Rattle.fix_choice.specs.lint_base.declared.settings.LinterSettings.{LinterSettings}
+use Rattle.fix_choice.specs.lint_base.declared.violation.Violation.{Violation}
+use Rattle.fix_choice.specs.lint_base.Fixes.{FixValue}
+use Rattle.fix_choice.specs.lint_base.RuleSets.{Rules}
+use Rattle.fix_choice.specs.lint_pass.RuleLaws.{one_all}
+use Rattle.law_listed_edits.specs.law_answers.Tables.{mended_table}
+use Rattle.fix_choice.specs.law_fixes.Edited.{edited}
+use Rattle.fix_choice.specs.law_fixes.Mended.{Table}
+use Rattle.fix_choice.specs.law_type_fixes.Mended.{JoinsNone}
+use Rattle.fix_choice.specs.law_fix_steps.Listed.{is_listed}
+use Rattle.fix_choice.specs.law_fix_steps.Step.{FixSteps, JoinNoWord, Steps}
 use Rattle.law_answer_steps.specs.Answers.{AnswersStep}
 use Rattle.law_listed_edits.specs.OneEdit.{AreMendedByOne, HasOneEdit, IsMendedByOne, MendedByOne}
-use Rattle.fix_edit.specs.Faults.{AreGood}
+use Rattle.fix_choice.specs.fix_edit.Faults.{AreGood}
 use Rattle.fix_choice.specs.Fits.{CanBeTried, fits, joins_no_word}
-use Rattle.squawk_linter.specs.Answers.{reports}
-use Rattle.squawk_linter.specs.Mending.{AnswersAreInTheirTables}
-use Rattle.squawk_linter.specs.Placed.{AnsweredFixesAreGood}
-use Rattle.squawk_linter.specs.Reports.{cleared}
+use Rattle.law_answer_steps.specs.squawk_linter.Answers.{reports}
+use Rattle.law_answer_steps.specs.squawk_linter.Mending.{AnswersAreInTheirTables}
+use Rattle.law_answer_steps.specs.squawk_linter.Placed.{AnsweredFixesAreGood}
+use Rattle.law_answer_steps.specs.squawk_linter.Reports.{cleared}
 use Rattle.law_next_fix.specs.Fitting.{AnswersCanBeTried, FittingFixesMayStep, FittingFixesStep, IfFitting, MayStep}
 
 -- ---- it joins no word

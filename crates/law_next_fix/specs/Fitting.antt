@@ -1,18 +1,18 @@
 -- The fixes of an answer that are made one after another: those of listed rules that fit.
 use Rattle.std.specs.Prelude.{◌≡◌, ◌<◌, ◌^◌, true, All, length, Some}
-use Rattle.sql_token.specs.Token.{Text}
-use Rattle.sql_tree.specs.Statement.{Tree, IsTree}
-use Rattle.lint_base.specs.declared.settings.LinterSettings.{LinterSettings}
-use Rattle.lint_base.specs.declared.violation.Violation.{Violation}
-use Rattle.lint_base.specs.Fixes.{FixValue}
-use Rattle.lint_base.specs.RuleSets.{Rules}
-use Rattle.lint_pass.specs.Laws.{IsRead}
-use Rattle.law_fixes.specs.Edited.{edited}
-use Rattle.law_fix_steps.specs.Listed.{is_listed}
-use Rattle.law_fix_steps.specs.Step.{JoinNoWord, Steps}
+use Rattle.fix_choice.specs.sql_token.Token.{Text}
+use Rattle.fix_choice.specs.sql_tree.Statement.{Tree, IsTree}
+use Rattle.fix_choice.specs.lint_base.declared.settings.LinterSettings.{LinterSettings}
+use Rattle.fix_choice.specs.lint_base.declared.violation.Violation.{Violation}
+use Rattle.fix_choice.specs.lint_base.Fixes.{FixValue}
+use Rattle.fix_choice.specs.lint_base.RuleSets.{Rules}
+use Rattle.fix_choice.specs.lint_pass.Laws.{IsRead}
+use Rattle.fix_choice.specs.law_fixes.Edited.{edited}
+use Rattle.fix_choice.specs.law_fix_steps.Listed.{is_listed}
+use Rattle.fix_choice.specs.law_fix_steps.Step.{JoinNoWord, Steps}
 use Rattle.fix_choice.specs.Fits.{ListedCanBeTried, fits}
-use Rattle.squawk_linter.specs.Answers.{reports}
-use Rattle.squawk_linter.specs.Reports.{cleared}
+use Rattle.law_answer_steps.specs.squawk_linter.Answers.{reports}
+use Rattle.law_answer_steps.specs.squawk_linter.Reports.{cleared}
 
 -- ---- before it is tried
 

@@ -3,8 +3,8 @@
 ghost use Rattle.law_next_fix.specs.Fitting.{AnswersCanBeTried, FittingFixesMayStep, FittingFixesStep};
 
 use law_answer_steps::laws::answers_step;
+use law_answer_steps::{answered_fixes_mend, answers_placed};
 use law_listed_edits::laws::listed_edits;
-use squawk_linter::laws::{answered_fixes_mend, answers_placed};
 
 /// The fix of each report of a listed rule that a linter answers can be tried in the text that was linted. If it fits there, it is as a
 /// step asks, and so it is a step: a loop that makes one such fix after another ends, whichever it chooses.

@@ -1,20 +1,20 @@
 -- What is printed of files, finding by finding.
 use Rattle.std.proofs.Common.{◌≡◌, ◌∙◌, ◌||◌, ◌==◌, ℕ, Bool, true, false, not, List, [], ◌∷◌, ◌++◌, ap, append_assoc, append-nil, arith, length, map, refl, sym}
 use Rattle.std.proofs.lemmas.List.{map-append}
-use Rattle.check_print.specs.declared.style.Style.{Style}
-use Rattle.check_print.specs.Found.{Found, all_found, found_by, found_in, found_refusal, found_report}
-use Rattle.check_print.specs.Findings.{array_separator, printed_refusal, printed_report, separator}
-use Rattle.check_print.specs.Printed.{printed_answer, printed_file, printed_files, printed_reports, separated, source_of}
-use Rattle.check_words.specs.declared.request.Format.TheVariants as format
-use Rattle.checked_file.specs.declared.answer.Answer.{Answer}
-use Rattle.checked_file.specs.declared.answer.Answer.TheVariants.{Reports, Refused}
-use Rattle.checked_file.specs.declared.checked.Checked.{Checked}
-use Rattle.checked_file.specs.Answers.{has_findings}
-use Rattle.lint_report.specs.declared.report.Report.{Report}
+use Rattle.law_printed_lines.specs.check_print.declared.style.Style.{Style}
+use Rattle.law_printed_lines.specs.check_print.Found.{Found, all_found, found_by, found_in, found_refusal, found_report}
+use Rattle.law_printed_lines.specs.check_print.Findings.{array_separator, printed_refusal, printed_report, separator}
+use Rattle.law_printed_lines.specs.check_print.Printed.{printed_answer, printed_file, printed_files, printed_reports, separated, source_of}
+use Rattle.law_printed_lines.specs.check_words.declared.request.Format.TheVariants as format
+use Rattle.law_printed_lines.specs.checked_file.declared.answer.Answer.{Answer}
+use Rattle.law_printed_lines.specs.checked_file.declared.answer.Answer.TheVariants.{Reports, Refused}
+use Rattle.law_printed_lines.specs.checked_file.declared.checked.Checked.{Checked}
+use Rattle.law_printed_lines.specs.checked_file.Answers.{has_findings}
+use Rattle.law_printed_lines.specs.lint_report.declared.report.Report.{Report}
 use Rattle.serde_json.specs.Data.{Members, object}
 use Rattle.serde_json.specs.Written.{compact_text}
-use Rattle.source_file.specs.declared.refusal.Refusal.{Refusal}
-use Rattle.source_file.specs.File.{FileValue}
+use Rattle.law_printed_lines.specs.source_file.declared.refusal.Refusal.{Refusal}
+use Rattle.law_printed_lines.specs.source_file.File.{FileValue}
 use Rattle.law_printed_arrays.specs.Unique.{style_in}
 use Rattle.law_printed_arrays.proofs.Values.{issue_of, members_by, object_of, result_of}
 

@@ -4,14 +4,14 @@ use Rattle.std.proofs.lemmas.List.{get_or_past}
 use Rattle.std.proofs.lemmas.List.Elements.{All-head, All-tail}
 use Rattle.std.specs.Option.{IfSome}
 use Rattle.std.specs.Str.{IsCharBoundary}
-use Rattle.checked_file.specs.Sound.{AreEditsIn}
-use Rattle.lint_base.specs.declared.edit.Edit.{Edit}
-use Rattle.lint_report.specs.declared.report.ReportFix.{ReportFix}
-use Rattle.report_sarif.specs.Places.{is_boundary, is_range_in}
-use Rattle.report_sarif.specs.Results.{are_in_text, fix_object, fixes, one}
+use Rattle.law_printed_lines.specs.checked_file.Sound.{AreEditsIn}
+use Rattle.law_printed_lines.specs.lint_base.declared.edit.Edit.{Edit}
+use Rattle.law_printed_lines.specs.lint_report.declared.report.ReportFix.{ReportFix}
+use Rattle.law_printed_lines.specs.report_sarif.Places.{is_boundary, is_range_in}
+use Rattle.law_printed_lines.specs.report_sarif.Results.{are_in_text, fix_object, fixes, one}
 use Rattle.serde_json.specs.Data.{Data, array, no_items}
-use Rattle.source_file.specs.File.{FileValue, IsRangeIn}
-use Rattle.text_pos.specs.Range.{Range}
+use Rattle.law_printed_lines.specs.source_file.File.{FileValue, IsRangeIn}
+use Rattle.law_printed_lines.specs.text_pos.Range.{Range}
 
 boundary_is : (text : List ℕ) (at : ℕ) → IsCharBoundary text at → is_boundary text at ≡ true
 unfolding is_boundary

@@ -3,19 +3,19 @@ use Rattle.std.proofs.Common.{◌≡◌, ◌∙◌, ◌<◌, ◌^◌, ℕ, List,
 use Rattle.std.proofs.lemmas.Fmt.{decimal_injective}
 use Rattle.std.specs.Prelude.{decimal}
 use Rattle.json.specs.Json as json
-use Rattle.json_value.specs.Values.{text_data}
-use Rattle.lint_base.specs.declared.edit.Edit.{Edit}
-use Rattle.lint_report.specs.declared.fix_class.FixClass.{FixClass}
-use Rattle.lint_report.specs.declared.fix_class.FixClass.TheVariants.{Safe, Unsafe, Template}
-use Rattle.lint_report.specs.declared.report.ReportFix.{ReportFix}
-use Rattle.lint_report.specs.FixClasses as classes
+use Rattle.law_printed_lines.specs.json_value.Values.{text_data}
+use Rattle.law_printed_lines.specs.lint_base.declared.edit.Edit.{Edit}
+use Rattle.law_printed_lines.specs.lint_report.declared.fix_class.FixClass.{FixClass}
+use Rattle.law_printed_lines.specs.lint_report.declared.fix_class.FixClass.TheVariants.{Safe, Unsafe, Template}
+use Rattle.law_printed_lines.specs.lint_report.declared.report.ReportFix.{ReportFix}
+use Rattle.law_printed_lines.specs.lint_report.FixClasses as classes
 use Rattle.serde_json.specs.Written.{outline}
-use Rattle.source_file.specs.declared.level.Level.{Level}
-use Rattle.source_file.specs.declared.level.Level.TheVariants.{Warning, Error}
-use Rattle.source_file.specs.declared.place.Place.{Place}
-use Rattle.source_file.specs.File.{location}
-use Rattle.source_file.specs.Levels.{word_of}
-use Rattle.text_pos.specs.Range.{Range}
+use Rattle.law_printed_lines.specs.source_file.declared.level.Level.{Level}
+use Rattle.law_printed_lines.specs.source_file.declared.level.Level.TheVariants.{Warning, Error}
+use Rattle.law_printed_lines.specs.source_file.declared.place.Place.{Place}
+use Rattle.law_printed_lines.specs.source_file.File.{location}
+use Rattle.law_printed_lines.specs.source_file.Levels.{word_of}
+use Rattle.law_printed_lines.specs.text_pos.Range.{Range}
 use Rattle.law_printed_arrays.specs.Kept.{KeptFinding}
 use Rattle.law_printed_lines.proofs.Places.{column_short, line_short}
 use Rattle.law_printed_arrays.proofs.Shapes.{first_in, items_in}

@@ -1,15 +1,15 @@
 -- From an object of JSON back to its finding.
 use Rattle.std.proofs.Common.{◌≡◌, ◌<◌, ◌^◌, ℕ, List, Option, Some, None, ap, length, refl}
 use Rattle.std.specs.Option.{IfSome}
-use Rattle.checked_file.specs.Sound.{AreEditsIn}
-use Rattle.lint_base.specs.declared.edit.Edit.{Edit}
-use Rattle.lint_report.specs.declared.report.ReportFix.{ReportFix}
-use Rattle.report_json.specs.Objects.{edit_object, fix_data}
+use Rattle.law_printed_lines.specs.checked_file.Sound.{AreEditsIn}
+use Rattle.law_printed_lines.specs.lint_base.declared.edit.Edit.{Edit}
+use Rattle.law_printed_lines.specs.lint_report.declared.report.ReportFix.{ReportFix}
+use Rattle.law_printed_lines.specs.report_json.Objects.{edit_object, fix_data}
 use Rattle.serde_json.specs.Data.{object}
 use Rattle.serde_json.specs.Written.{outline}
-use Rattle.source_file.specs.File.{IsRangeIn}
+use Rattle.law_printed_lines.specs.source_file.File.{IsRangeIn}
 use Rattle.std.proofs.lemmas.Fmt.{decimal_injective}
-use Rattle.text_pos.specs.Range.{Range}
+use Rattle.law_printed_lines.specs.text_pos.Range.{Range}
 use Rattle.std.specs.Prelude.{decimal}
 use Rattle.law_printed_arrays.specs.Kept.{kept_finding}
 use Rattle.law_printed_arrays.proofs.Fields.{at, class_back, level_back, place_back, same_edit, same_finding, same_fix, same_range, text_back, text_in}

@@ -3,16 +3,16 @@ use Rattle.std.proofs.Common.{◌<◌, ◌^◌, List, [], ◌∷◌, All, arith,
 use Rattle.std.proofs.lemmas.List.Elements.{All-append, All-cons, All-head, All-map, All-nil, All-tail, All-weaker}
 use Rattle.std.specs.Option.{IfSome}
 use Rattle.std.specs.Str.{IsCharBoundary}
-use Rattle.check_print.specs.Found.{Found, all_found, found_by, found_in, found_refusal, found_report}
-use Rattle.check_print.specs.Printed.{source_of}
-use Rattle.checked_file.specs.declared.answer.Answer.{Answer}
-use Rattle.checked_file.specs.declared.answer.Answer.TheVariants.{Reports, Refused}
-use Rattle.checked_file.specs.declared.checked.Checked.{Checked}
-use Rattle.checked_file.specs.Sound.{AreEditsIn, IsIn, IsReportIn, IsSound}
-use Rattle.lint_report.specs.declared.report.Report.{Report}
-use Rattle.source_file.specs.declared.refusal.Refusal.{Refusal}
-use Rattle.source_file.specs.File.{FileValue, IsRangeIn}
-use Rattle.source_file.specs.Refusals.{place_of}
+use Rattle.law_printed_lines.specs.check_print.Found.{Found, all_found, found_by, found_in, found_refusal, found_report}
+use Rattle.law_printed_lines.specs.check_print.Printed.{source_of}
+use Rattle.law_printed_lines.specs.checked_file.declared.answer.Answer.{Answer}
+use Rattle.law_printed_lines.specs.checked_file.declared.answer.Answer.TheVariants.{Reports, Refused}
+use Rattle.law_printed_lines.specs.checked_file.declared.checked.Checked.{Checked}
+use Rattle.law_printed_lines.specs.checked_file.Sound.{AreEditsIn, IsIn, IsReportIn, IsSound}
+use Rattle.law_printed_lines.specs.lint_report.declared.report.Report.{Report}
+use Rattle.law_printed_lines.specs.source_file.declared.refusal.Refusal.{Refusal}
+use Rattle.law_printed_lines.specs.source_file.File.{FileValue, IsRangeIn}
+use Rattle.law_printed_lines.specs.source_file.Refusals.{place_of}
 use Rattle.law_printed_arrays.proofs.Names.{name_bytes}
 
 -- the name of a finding's file has bytes alone, its text is short, and the finding, its statement and its fix are in it

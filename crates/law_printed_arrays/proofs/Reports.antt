@@ -3,28 +3,28 @@ use Rattle.std.proofs.Common.{◌≡◌, ◌∙◌, Result, Ok, Err, ℕ, List, 
 use Rattle.std.proofs.lemmas.List.{map-append}
 use Rattle.std.specs.Prelude.{codes, unwrap_or}
 use Rattle.std.specs.Str.{bytes_eq}
-use Rattle.check_print.specs.Found.{all_found, found_by, found_in, found_report}
-use Rattle.check_print.specs.Printed.{source_of}
-use Rattle.checked_file.specs.declared.answer.Answer.{Answer}
-use Rattle.checked_file.specs.declared.answer.Answer.TheVariants.{Reports, Refused}
-use Rattle.checked_file.specs.declared.checked.Checked.{Checked}
-use Rattle.hazard_base.proofs.Names as hazard_names
-use Rattle.hazard_base.specs.declared.hazard.Hazard.{Hazard}
-use Rattle.hazard_base.specs.Hazards as hazards
-use Rattle.lint_base.specs.declared.rule.Rule.{Rule}
-use Rattle.lint_base.specs.declared.rule.Rule.TheVariants as rule
-use Rattle.lint_base.specs.RuleNames.{rule_named, same_rule}
-use Rattle.lint_base.specs.Rules.{all_rules, facts_of}
-use Rattle.lint_report.specs.declared.code.Code.{Code}
-use Rattle.lint_report.specs.declared.code.Code.TheVariants as code
-use Rattle.lint_report.specs.declared.report.Report.{Report}
-use Rattle.lint_report.specs.Codes.{code_named, name_of}
-use Rattle.source_file.specs.declared.level.Level.{Level}
-use Rattle.source_file.specs.declared.level.Level.TheVariants.{Warning, Error}
-use Rattle.source_file.specs.declared.refusal.Refusal.{Refusal}
-use Rattle.source_file.specs.declared.refusal.Refusal.TheVariants.{Missing, Unreadable, NotUtf8, TooLong, Unterminated, Syntax}
-use Rattle.source_file.specs.File.{FileValue}
-use Rattle.source_file.specs.Refusals as refusals
+use Rattle.law_printed_lines.specs.check_print.Found.{all_found, found_by, found_in, found_report}
+use Rattle.law_printed_lines.specs.check_print.Printed.{source_of}
+use Rattle.law_printed_lines.specs.checked_file.declared.answer.Answer.{Answer}
+use Rattle.law_printed_lines.specs.checked_file.declared.answer.Answer.TheVariants.{Reports, Refused}
+use Rattle.law_printed_lines.specs.checked_file.declared.checked.Checked.{Checked}
+use Rattle.law_printed_lines.proofs.of_hazard_base.HazardNames as hazard_names
+use Rattle.law_printed_lines.specs.hazard_base.declared.hazard.Hazard.{Hazard}
+use Rattle.law_printed_lines.specs.hazard_base.Hazards as hazards
+use Rattle.law_printed_lines.specs.lint_base.declared.rule.Rule.{Rule}
+use Rattle.law_printed_lines.specs.lint_base.declared.rule.Rule.TheVariants as rule
+use Rattle.law_printed_lines.specs.lint_base.RuleNames.{rule_named, same_rule}
+use Rattle.law_printed_lines.specs.lint_base.Rules.{all_rules, facts_of}
+use Rattle.law_printed_lines.specs.lint_report.declared.code.Code.{Code}
+use Rattle.law_printed_lines.specs.lint_report.declared.code.Code.TheVariants as code
+use Rattle.law_printed_lines.specs.lint_report.declared.report.Report.{Report}
+use Rattle.law_printed_lines.specs.lint_report.Codes.{code_named, name_of}
+use Rattle.law_printed_lines.specs.source_file.declared.level.Level.{Level}
+use Rattle.law_printed_lines.specs.source_file.declared.level.Level.TheVariants.{Warning, Error}
+use Rattle.law_printed_lines.specs.source_file.declared.refusal.Refusal.{Refusal}
+use Rattle.law_printed_lines.specs.source_file.declared.refusal.Refusal.TheVariants.{Missing, Unreadable, NotUtf8, TooLong, Unterminated, Syntax}
+use Rattle.law_printed_lines.specs.source_file.File.{FileValue}
+use Rattle.law_printed_lines.specs.source_file.Refusals as refusals
 use Rattle.law_printed_arrays.specs.Kept.{KeptFinding, all_reported, kept_finding, reported_by, reported_in}
 
 -- ---- from its name back to a rule or a hazard

@@ -2,19 +2,19 @@
 use Rattle.std.proofs.Common.{◌≡◌, ◌∙◌, ◌-◌, ◌<◌, ◌^◌, ℕ, List, All, Option, Some, None, ap, arith, length, refl, sym}
 use Rattle.std.proofs.lemmas.Fmt.{decimal_injective}
 use Rattle.std.specs.Option.{IfSome}
-use Rattle.check_print.specs.Found.{Found}
-use Rattle.checked_file.specs.Sound.{AreEditsIn}
+use Rattle.law_printed_lines.specs.check_print.Found.{Found}
+use Rattle.law_printed_lines.specs.checked_file.Sound.{AreEditsIn}
 use Rattle.json.specs.Json as json
-use Rattle.lint_base.specs.declared.edit.Edit.{Edit}
-use Rattle.lint_report.specs.declared.report.ReportFix.{ReportFix}
+use Rattle.law_printed_lines.specs.lint_base.declared.edit.Edit.{Edit}
+use Rattle.law_printed_lines.specs.lint_report.declared.report.ReportFix.{ReportFix}
 use Rattle.percent_encoding.specs.Percent.{percent_decode}
 use Rattle.percent_encoding.proofs.PercentLemmas.{round_trip}
-use Rattle.report_sarif.specs.Places.{region, uri_of}
-use Rattle.report_sarif.specs.Results.{fixes, inserted, replacement}
+use Rattle.law_printed_lines.specs.report_sarif.Places.{region, uri_of}
+use Rattle.law_printed_lines.specs.report_sarif.Results.{fixes, inserted, replacement}
 use Rattle.serde_json.specs.Data.{object}
 use Rattle.serde_json.specs.Written.{members_outline, outline}
-use Rattle.source_file.specs.File.{FileValue, IsRangeIn}
-use Rattle.text_pos.specs.Range.{Range}
+use Rattle.law_printed_lines.specs.source_file.File.{FileValue, IsRangeIn}
+use Rattle.law_printed_lines.specs.text_pos.Range.{Range}
 use Rattle.law_printed_arrays.specs.Kept.{kept_finding}
 use Rattle.law_printed_arrays.proofs.Edits.{fixes_are, plain_fixes}
 use Rattle.law_printed_arrays.proofs.Fields.{at, class_back, level_back, only, place_back, same_edit, same_finding, same_fix, same_range, text_back, text_in, value_at}

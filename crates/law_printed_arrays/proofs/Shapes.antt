@@ -1,7 +1,7 @@
 -- From the outline of an array back to the findings.
 use Rattle.std.proofs.Common.{◌≡◌, ◌∙◌, ◌+◌, List, [], ◌∷◌, ◌++◌, All, Option, Some, None, ap, arith, map, refl, sym}
 use Rattle.std.proofs.lemmas.List.Elements.{All-head, All-tail}
-use Rattle.check_print.specs.Found.{Found}
+use Rattle.law_printed_lines.specs.check_print.Found.{Found}
 use Rattle.json.specs.Json as json
 use Rattle.json.specs.Token.{Token}
 use Rattle.json.specs.Tree.{HasNumbers, ItemsHaveNumbers, MembersHaveNumbers, depth, json_tokens}

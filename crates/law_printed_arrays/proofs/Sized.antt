@@ -2,18 +2,18 @@
 use Rattle.std.proofs.Common.{ℕ, ◌<◌, ◌^◌, Bool, true, false, List, [], ◌∷◌, arith, length, map, Option, Some, None, if◌then◌else◌}
 use Rattle.std.proofs.lemmas.List.Elements.{All-head, All-tail}
 use Rattle.std.specs.Option.{IfSome}
-use Rattle.check_print.specs.Found.{Found}
-use Rattle.checked_file.specs.Sound.{AreEditsIn}
-use Rattle.json_value.specs.Values.{text_data}
-use Rattle.lint_base.specs.declared.edit.Edit.{Edit}
-use Rattle.lint_report.specs.declared.report.ReportFix.{ReportFix}
-use Rattle.report_json.specs.Objects as json
-use Rattle.report_sarif.specs.Places.{region}
-use Rattle.report_sarif.specs.Results as sarif
+use Rattle.law_printed_lines.specs.check_print.Found.{Found}
+use Rattle.law_printed_lines.specs.checked_file.Sound.{AreEditsIn}
+use Rattle.law_printed_lines.specs.json_value.Values.{text_data}
+use Rattle.law_printed_lines.specs.lint_base.declared.edit.Edit.{Edit}
+use Rattle.law_printed_lines.specs.lint_report.declared.report.ReportFix.{ReportFix}
+use Rattle.law_printed_lines.specs.report_json.Objects as json
+use Rattle.law_printed_lines.specs.report_sarif.Places.{region}
+use Rattle.law_printed_lines.specs.report_sarif.Results as sarif
 use Rattle.serde_json.specs.Data.{Data, array, no_items}
 use Rattle.serde_json.specs.View.{items_of}
-use Rattle.source_file.specs.File.{FileValue, IsRangeIn}
-use Rattle.text_pos.specs.Range.{Range}
+use Rattle.law_printed_lines.specs.source_file.File.{FileValue, IsRangeIn}
+use Rattle.law_printed_lines.specs.text_pos.Range.{Range}
 use Rattle.law_printed_arrays.proofs.Placed.{IsPlaced}
 use Rattle.law_printed_arrays.proofs.Places.{at_short}
 use Rattle.law_printed_lines.proofs.Places.{column_short, line_short}

@@ -3,15 +3,15 @@ use Rattle.std.proofs.Common.{◌≡◌, ◌∙◌, ◌++◌, ◌∷◌, [], fal
 use Rattle.std.specs.Prelude.{codes}
 use Rattle.std.proofs.lemmas.List.{append_cancel_left, append_cancel_right}
 use Rattle.std.proofs.lemmas.List.Elements.{All-weaker}
-use Rattle.check_print.specs.declared.style.Style.{Style}
-use Rattle.check_print.specs.Found.{Found, all_found}
-use Rattle.check_print.specs.Printed.{printed_files}
-use Rattle.check_words.specs.declared.request.Format.TheVariants as format
-use Rattle.checked_file.specs.declared.checked.Checked.{Checked}
-use Rattle.checked_file.specs.Sound.{IsSound}
+use Rattle.law_printed_lines.specs.check_print.declared.style.Style.{Style}
+use Rattle.law_printed_lines.specs.check_print.Found.{Found, all_found}
+use Rattle.law_printed_lines.specs.check_print.Printed.{printed_files}
+use Rattle.law_printed_lines.specs.check_words.declared.request.Format.TheVariants as format
+use Rattle.law_printed_lines.specs.checked_file.declared.checked.Checked.{Checked}
+use Rattle.law_printed_lines.specs.checked_file.Sound.{IsSound}
 use Rattle.json.specs.Lex.{tokens}
 use Rattle.json.specs.Spaced.{print_spaced}
-use Rattle.report_sarif.specs.Log as sarif
+use Rattle.law_printed_lines.specs.report_sarif.Log as sarif
 use Rattle.serde_json.specs.Data.{Members, object}
 use Rattle.law_printed_arrays.specs.Kept.{kept_finding, kept_issue}
 use Rattle.law_printed_arrays.specs.Unique.{HaveSameFindings, HaveSameReports, IsUnique, UniqueIssues, style_in}

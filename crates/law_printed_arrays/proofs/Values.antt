@@ -1,15 +1,15 @@
 -- What is printed of a finding for programs.
 use Rattle.std.specs.Prelude.{ℕ, List, [], Option, Some, None, slice_range}
-use Rattle.check_print.specs.Found.{Found}
-use Rattle.json_value.specs.Values.{text_data}
-use Rattle.report_gitlab.specs.Issues.{issue_object}
-use Rattle.report_json.specs.Objects as json
-use Rattle.report_sarif.specs.Places.{region}
-use Rattle.report_sarif.specs.Results as sarif
+use Rattle.law_printed_lines.specs.check_print.Found.{Found}
+use Rattle.law_printed_lines.specs.json_value.Values.{text_data}
+use Rattle.law_printed_lines.specs.report_gitlab.Issues.{issue_object}
+use Rattle.law_printed_lines.specs.report_json.Objects as json
+use Rattle.law_printed_lines.specs.report_sarif.Places.{region}
+use Rattle.law_printed_lines.specs.report_sarif.Results as sarif
 use Rattle.serde_json.specs.Data.{Data, Members, array, boolean, no_members, null, number, object, string}
-use Rattle.source_file.specs.File.{line_number}
-use Rattle.source_file.specs.Levels.{word_of}
-use Rattle.text_pos.specs.Range.{Range}
+use Rattle.law_printed_lines.specs.source_file.File.{line_number}
+use Rattle.law_printed_lines.specs.source_file.Levels.{word_of}
+use Rattle.law_printed_lines.specs.text_pos.Range.{Range}
 
 -- ---- the statement
 

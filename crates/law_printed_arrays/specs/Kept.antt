@@ -1,17 +1,17 @@
 -- What the formats for programs keep of a finding.
 use Rattle.std.specs.Prelude.{ℕ, List, [], ◌∷◌, Option, flat_map, map, Result, Ok, Err}
-use Rattle.check_print.specs.Found.{Found}
-use Rattle.checked_file.specs.declared.answer.Answer.{Answer}
-use Rattle.checked_file.specs.declared.answer.Answer.TheVariants.{Reports, Refused}
-use Rattle.checked_file.specs.declared.checked.Checked.{Checked}
-use Rattle.lint_report.specs.declared.report.Report.{Report}
-use Rattle.lint_report.specs.declared.report.ReportFix.{ReportFix}
-use Rattle.report_gitlab.specs.Issues.{severity_of}
-use Rattle.source_file.specs.declared.level.Level.{Level}
-use Rattle.source_file.specs.declared.place.Place.{Place}
-use Rattle.source_file.specs.declared.refusal.Refusal.{Refusal}
-use Rattle.source_file.specs.File.{line_number, location}
-use Rattle.text_pos.specs.Range.{Range}
+use Rattle.law_printed_lines.specs.check_print.Found.{Found}
+use Rattle.law_printed_lines.specs.checked_file.declared.answer.Answer.{Answer}
+use Rattle.law_printed_lines.specs.checked_file.declared.answer.Answer.TheVariants.{Reports, Refused}
+use Rattle.law_printed_lines.specs.checked_file.declared.checked.Checked.{Checked}
+use Rattle.law_printed_lines.specs.lint_report.declared.report.Report.{Report}
+use Rattle.law_printed_lines.specs.lint_report.declared.report.ReportFix.{ReportFix}
+use Rattle.law_printed_lines.specs.report_gitlab.Issues.{severity_of}
+use Rattle.law_printed_lines.specs.source_file.declared.level.Level.{Level}
+use Rattle.law_printed_lines.specs.source_file.declared.place.Place.{Place}
+use Rattle.law_printed_lines.specs.source_file.declared.refusal.Refusal.{Refusal}
+use Rattle.law_printed_lines.specs.source_file.File.{line_number, location}
+use Rattle.law_printed_lines.specs.text_pos.Range.{Range}
 
 -- ---- reports
 

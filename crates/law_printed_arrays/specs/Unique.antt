@@ -1,12 +1,12 @@
 -- No two different lists of reports are printed alike for programs.
 use Rattle.std.specs.Prelude.{◌≡◌, All, Bool, List, map}
-use Rattle.check_words.specs.declared.request.Format.{Format}
-use Rattle.check_words.specs.declared.request.Format.TheVariants as format
-use Rattle.checked_file.specs.declared.checked.Checked.{Checked}
-use Rattle.checked_file.specs.Sound.{IsSound}
-use Rattle.check_print.specs.declared.style.Style.{Style}
-use Rattle.check_print.specs.Found.{all_found}
-use Rattle.check_print.specs.Printed.{printed}
+use Rattle.law_printed_lines.specs.check_words.declared.request.Format.{Format}
+use Rattle.law_printed_lines.specs.check_words.declared.request.Format.TheVariants as format
+use Rattle.law_printed_lines.specs.checked_file.declared.checked.Checked.{Checked}
+use Rattle.law_printed_lines.specs.checked_file.Sound.{IsSound}
+use Rattle.law_printed_lines.specs.check_print.declared.style.Style.{Style}
+use Rattle.law_printed_lines.specs.check_print.Found.{all_found}
+use Rattle.law_printed_lines.specs.check_print.Printed.{printed}
 use Rattle.law_printed_arrays.specs.Kept.{all_reported, kept_finding, kept_issue}
 
 -- a format, whatever else is asked for

@@ -2,7 +2,7 @@
 //! leads back to each finding as far as its format keeps it.
 #![tactic(auto)]
 
-ghost use Rattle.check_words.specs.declared.request.Format.TheVariants as format;
+ghost use Rattle.law_printed_lines.specs.check_words.declared.request.Format.TheVariants as format;
 ghost use Rattle.law_printed_arrays.specs.Unique.{IsUnique, UniqueIssues};
 
 /// Two lists of sound files of which the same JSON is printed have the same reports, field by field, and the same refusals, in the same order;

@@ -5,9 +5,9 @@ use Rattle.std.specs.Prelude.{codes, nat_le}
 use Rattle.std.proofs.lemmas.Bool.{leb-true}
 use Rattle.std.proofs.lemmas.Grind.{flat_map-append}
 use Rattle.std.proofs.lemmas.List.Elements.{All-append, All-nil}
-use Rattle.report_lines.specs.Github.{detail, encoded, encoded_byte}
-use Rattle.source_file.specs.declared.level.Level.{Level}
-use Rattle.source_file.specs.declared.level.Level.TheVariants.{Warning, Error}
+use Rattle.check_print.specs.report_lines.Github.{detail, encoded, encoded_byte}
+use Rattle.check_print.specs.source_file.declared.level.Level.{Level}
+use Rattle.check_print.specs.source_file.declared.level.Level.TheVariants.{Warning, Error}
 use Rattle.law_printed_lines.specs.Kept.{detail_line, details_of}
 use Rattle.law_printed_lines.proofs.Escaping.{IsApart, read, read_on, read_written, written_shown}
 use Rattle.law_printed_lines.proofs.Percents.{encoded_flat_same}

@@ -6,11 +6,11 @@ use Rattle.std.proofs.lemmas.Fmt.{decimal_injective}
 use Rattle.std.proofs.lemmas.List.{append_cancel_left}
 use Rattle.std.proofs.lemmas.List.Elements.{All-weaker}
 use Rattle.check_print.specs.Found.{Found}
-use Rattle.report_lines.specs.Github.{columns_part, command, encoded, lines_part, opening, property, span, titled}
-use Rattle.source_file.specs.declared.level.Level.{Level}
-use Rattle.source_file.specs.File.{FileValue, location}
-use Rattle.source_file.specs.Levels.{word_of}
-use Rattle.text_pos.specs.Range.{Range}
+use Rattle.check_print.specs.report_lines.Github.{columns_part, command, encoded, lines_part, opening, property, span, titled}
+use Rattle.check_print.specs.source_file.declared.level.Level.{Level}
+use Rattle.check_print.specs.source_file.File.{FileValue, location}
+use Rattle.check_print.specs.source_file.Levels.{word_of}
+use Rattle.check_print.specs.text_pos.Range.{Range}
 use Rattle.law_printed_lines.proofs.Annotations.{annotation_text, details_text}
 use Rattle.law_printed_lines.proofs.Decimals.{decimal_free}
 use Rattle.law_printed_lines.proofs.Lines.{same_word}

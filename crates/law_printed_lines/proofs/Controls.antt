@@ -4,8 +4,8 @@ use Rattle.std.specs.List.{list_all}
 use Rattle.std.specs.Prelude.{◌==◌, nat_le, nat_lt}
 use Rattle.std.proofs.lemmas.Bool.{and_left, and_parts, both_ways, cond_both, eqb-true, false_from_ne_true, le-ltb, leb-true, ne_eqb, or_from}
 use Rattle.std.proofs.lemmas.List.{get_or-drop}
-use Rattle.source_file.specs.Escaped.{escaped_after}
-use Rattle.source_file.specs.Shown.{escape, hex_digit, is_c1, is_embedding, is_isolate}
+use Rattle.check_print.specs.source_file.Escaped.{escaped_after}
+use Rattle.check_print.specs.source_file.Shown.{escape, hex_digit, is_c1, is_embedding, is_isolate}
 use Rattle.law_printed_lines.specs.Escapes.{has_control, is_control}
 use Rattle.law_printed_lines.proofs.Escaping.{IsPlain, begins, first_cases, is_digit, written}
 

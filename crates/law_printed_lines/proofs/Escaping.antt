@@ -5,8 +5,8 @@ use Rattle.std.specs.Prelude.{◌==◌, codes, nat_le, nat_lt, ⊤}
 use Rattle.std.proofs.lemmas.Bool.{and_from, and_parts, both_ways, cond-false, cond-true, cond_both, eq-eqb, eqb-false, eqb-true, false_from_ne_true, le-ltb, leb-true, lt-ltb, ltb-true, ltb-false, ne_eqb}
 use Rattle.std.proofs.lemmas.List.{get_or-drop}
 use Rattle.std.proofs.lemmas.List.Elements.{All-append, All-cons, All-head, All-nil, All-tail, All-weaker}
-use Rattle.source_file.specs.Escaped.{escaped_after, escaped_byte, first_escaped, is_escape, is_mark, mark_escaped}
-use Rattle.source_file.specs.Shown.{c1_escape, escape, hex_digit, is_c1, is_embedding, is_isolate, more_len}
+use Rattle.check_print.specs.source_file.Escaped.{escaped_after, escaped_byte, first_escaped, is_escape, is_mark, mark_escaped}
+use Rattle.check_print.specs.source_file.Shown.{c1_escape, escape, hex_digit, is_c1, is_embedding, is_isolate, more_len}
 
 -- ---- reading
 

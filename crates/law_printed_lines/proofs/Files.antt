@@ -8,18 +8,18 @@ use Rattle.check_print.specs.declared.style.Style.{Style}
 use Rattle.check_print.specs.Findings.{printed_refusal, printed_report, separator}
 use Rattle.check_print.specs.Found.{Found, all_found, found_by, found_in, found_refusal, found_report}
 use Rattle.check_print.specs.Printed.{printed_answer, printed_file, printed_files, printed_reports, separated, source_of}
-use Rattle.check_words.specs.declared.request.Format.TheVariants as format
-use Rattle.checked_file.specs.declared.answer.Answer.{Answer}
-use Rattle.checked_file.specs.declared.answer.Answer.TheVariants.{Reports, Refused}
-use Rattle.checked_file.specs.declared.checked.Checked.{Checked}
-use Rattle.checked_file.specs.Answers.{has_findings}
-use Rattle.lint_report.specs.declared.report.Report.{Report}
-use Rattle.report_lines.specs.Concise.{concise}
-use Rattle.report_lines.specs.declared.concise.Order.{Order}
-use Rattle.report_lines.specs.declared.concise.Order.TheVariants.{RuleFirst, RuleLast}
-use Rattle.report_lines.specs.Github.{command, detail}
-use Rattle.source_file.specs.declared.refusal.Refusal.{Refusal}
-use Rattle.source_file.specs.File.{FileValue}
+use Rattle.check_print.specs.check_words.declared.request.Format.TheVariants as format
+use Rattle.check_print.specs.checked_file.declared.answer.Answer.{Answer}
+use Rattle.check_print.specs.checked_file.declared.answer.Answer.TheVariants.{Reports, Refused}
+use Rattle.check_print.specs.checked_file.declared.checked.Checked.{Checked}
+use Rattle.check_print.specs.checked_file.Answers.{has_findings}
+use Rattle.check_print.specs.lint_report.declared.report.Report.{Report}
+use Rattle.check_print.specs.report_lines.Concise.{concise}
+use Rattle.check_print.specs.report_lines.declared.concise.Order.{Order}
+use Rattle.check_print.specs.report_lines.declared.concise.Order.TheVariants.{RuleFirst, RuleLast}
+use Rattle.check_print.specs.report_lines.Github.{command, detail}
+use Rattle.check_print.specs.source_file.declared.refusal.Refusal.{Refusal}
+use Rattle.check_print.specs.source_file.File.{FileValue}
 use Rattle.law_printed_lines.specs.Unique.{IsShort, style_in}
 use Rattle.law_printed_lines.proofs.Commands.{command_line}
 use Rattle.law_printed_lines.proofs.Names.{code_name, is_name, refusal_name}

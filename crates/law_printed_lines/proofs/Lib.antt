@@ -14,3 +14,4 @@ pub mod Statistics
 pub mod Files
 pub mod Uniqueness
 pub mod Steering
+pub use Rattle.check_print.proofs.of_hazard_base

@@ -5,14 +5,14 @@ use Rattle.std.specs.Prelude.{codes}
 use Rattle.std.proofs.lemmas.Fmt.{decimal_injective}
 use Rattle.std.proofs.lemmas.List.{append_cancel_left, append_cancel_right}
 use Rattle.std.proofs.lemmas.List.Elements.{All-append, All-cons, All-nil, All-weaker}
-use Rattle.report_lines.specs.Concise.{concise}
-use Rattle.report_lines.specs.declared.concise.Order.{Order}
-use Rattle.report_lines.specs.declared.concise.Order.TheVariants.{RuleFirst, RuleLast}
-use Rattle.source_file.specs.declared.level.Level.{Level}
-use Rattle.source_file.specs.declared.level.Level.TheVariants.{Warning, Error}
-use Rattle.source_file.specs.Escaped.{escaped, escaped_name}
-use Rattle.source_file.specs.File.{FileValue, location}
-use Rattle.source_file.specs.Levels.{word_of}
+use Rattle.check_print.specs.report_lines.Concise.{concise}
+use Rattle.check_print.specs.report_lines.declared.concise.Order.{Order}
+use Rattle.check_print.specs.report_lines.declared.concise.Order.TheVariants.{RuleFirst, RuleLast}
+use Rattle.check_print.specs.source_file.declared.level.Level.{Level}
+use Rattle.check_print.specs.source_file.declared.level.Level.TheVariants.{Warning, Error}
+use Rattle.check_print.specs.source_file.Escaped.{escaped, escaped_name}
+use Rattle.check_print.specs.source_file.File.{FileValue, location}
+use Rattle.check_print.specs.source_file.Levels.{word_of}
 use Rattle.law_printed_lines.proofs.Decimals.{decimal_first, decimal_free}
 use Rattle.law_printed_lines.proofs.Escaping.{written_same, written_shown}
 use Rattle.law_printed_lines.proofs.Marks.{split_mark, written_free}

@@ -4,8 +4,8 @@ use Rattle.std.specs.List.{list_all}
 use Rattle.std.specs.Prelude.{◌==◌, nat_le, nat_lt}
 use Rattle.std.proofs.lemmas.Bool.{and_from, and_left, and_parts, both_ways, cond-false, cond_both, false_from_ne_true, le-leb, leb-true, ltb-true, ne_eqb, or_from, or_parts, or_right}
 use Rattle.std.proofs.lemmas.List.Elements.{All-head, All-tail}
-use Rattle.source_file.specs.Escaped.{escaped_after, escaped_name, is_mark, is_number_mark}
-use Rattle.source_file.specs.Shown.{escape, hex_digit}
+use Rattle.check_print.specs.source_file.Escaped.{escaped_after, escaped_name, is_mark, is_number_mark}
+use Rattle.check_print.specs.source_file.Shown.{escape, hex_digit}
 use Rattle.law_printed_lines.proofs.Decimals.{IsDigit}
 use Rattle.law_printed_lines.proofs.Escaping.{begins, first_cases, is_digit}
 

@@ -4,18 +4,18 @@ use Rattle.std.proofs.lemmas.Bool.{and_parts, both_ways}
 use Rattle.std.proofs.lemmas.List.Elements.{All-cons, All-nil}
 use Rattle.std.specs.List.{list_all}
 use Rattle.std.specs.Prelude.{◌==◌, nat_le}
-use Rattle.hazard_base.specs.declared.hazard.Hazard.{Hazard}
-use Rattle.hazard_base.specs.declared.hazard.Hazard.TheVariants as hazard
-use Rattle.hazard_base.specs.Hazards as hazards
-use Rattle.lint_base.specs.declared.rule.Rule.{Rule}
-use Rattle.lint_base.specs.declared.rule.Rule.TheVariants as rule
-use Rattle.lint_base.specs.Rules as rules
-use Rattle.lint_report.specs.declared.code.Code.{Code}
-use Rattle.lint_report.specs.declared.code.Code.TheVariants as code
-use Rattle.lint_report.specs.Codes.{name_of}
-use Rattle.source_file.specs.declared.refusal.Refusal.{Refusal}
-use Rattle.source_file.specs.declared.refusal.Refusal.TheVariants as refusal
-use Rattle.source_file.specs.Refusals as refusals
+use Rattle.check_print.specs.hazard_base.declared.hazard.Hazard.{Hazard}
+use Rattle.check_print.specs.hazard_base.declared.hazard.Hazard.TheVariants as hazard
+use Rattle.check_print.specs.hazard_base.Hazards as hazards
+use Rattle.check_print.specs.lint_base.declared.rule.Rule.{Rule}
+use Rattle.check_print.specs.lint_base.declared.rule.Rule.TheVariants as rule
+use Rattle.check_print.specs.lint_base.Rules as rules
+use Rattle.check_print.specs.lint_report.declared.code.Code.{Code}
+use Rattle.check_print.specs.lint_report.declared.code.Code.TheVariants as code
+use Rattle.check_print.specs.lint_report.Codes.{name_of}
+use Rattle.check_print.specs.source_file.declared.refusal.Refusal.{Refusal}
+use Rattle.check_print.specs.source_file.declared.refusal.Refusal.TheVariants as refusal
+use Rattle.check_print.specs.source_file.Refusals as refusals
 
 -- a byte of such a name
 abbrev pub is_name_byte : ℕ → Bool

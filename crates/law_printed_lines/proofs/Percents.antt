@@ -4,7 +4,7 @@ use Rattle.std.specs.List.{flat_map, list_all}
 use Rattle.std.specs.Prelude.{◌==◌, codes, nat_lt}
 use Rattle.std.proofs.lemmas.Bool.{and_parts, cond-false, cond_both, eqb-false, eqb-true, not-true}
 use Rattle.std.proofs.lemmas.List.Elements.{All-append, All-cons, All-nil}
-use Rattle.report_lines.specs.Github.{encoded_byte, property, property_byte}
+use Rattle.check_print.specs.report_lines.Github.{encoded_byte, property, property_byte}
 use Rattle.law_printed_lines.proofs.Escaping.{HoldsOfEscapes, written_each, written_same}
 use Rattle.law_printed_lines.proofs.Tests.{all_from_test}
 

@@ -4,9 +4,9 @@ use Rattle.std.proofs.lemmas.List.Sums.{count_by-le-length}
 use Rattle.std.specs.Prelude.{not}
 use Rattle.std.specs.List.{suffix_len}
 use Rattle.std.specs.Str.{chars, chars_after, continuation_len, lead_bits}
-use Rattle.source_file.specs.File.{line_number, location}
-use Rattle.source_file.specs.Line.{front_of}
-use Rattle.text_pos.specs.Line.{is_line_feed}
+use Rattle.check_print.specs.source_file.File.{line_number, location}
+use Rattle.check_print.specs.source_file.Line.{front_of}
+use Rattle.check_print.specs.text_pos.Line.{is_line_feed}
 
 -- ---- parts of a text are no longer than it
 

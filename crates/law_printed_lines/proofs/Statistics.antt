@@ -5,12 +5,12 @@ use Rattle.std.specs.List.{flat_map}
 use Rattle.std.specs.Prelude.{◌==◌}
 use Rattle.std.proofs.lemmas.Bool.{cond_both}
 use Rattle.std.proofs.lemmas.List.Elements.{All-head}
-use Rattle.hazard_base.specs.Hazards.{all_hazards}
-use Rattle.lint_base.specs.Rules.{all_rules}
-use Rattle.lint_report.specs.declared.code.Code.{Code}
-use Rattle.lint_report.specs.declared.code.Code.TheVariants as code
-use Rattle.lint_report.specs.Codes.{name_of}
-use Rattle.checked_file.specs.declared.checked.Checked.{Checked}
+use Rattle.check_print.specs.hazard_base.Hazards.{all_hazards}
+use Rattle.check_print.specs.lint_base.Rules.{all_rules}
+use Rattle.check_print.specs.lint_report.declared.code.Code.{Code}
+use Rattle.check_print.specs.lint_report.declared.code.Code.TheVariants as code
+use Rattle.check_print.specs.lint_report.Codes.{name_of}
+use Rattle.check_print.specs.checked_file.declared.checked.Checked.{Checked}
 use Rattle.check_print.specs.declared.style.Style.{Style}
 use Rattle.check_print.specs.Counted.{capped}
 use Rattle.check_print.specs.Printed.{statistics}

@@ -9,18 +9,18 @@ use Rattle.check_print.specs.declared.style.Style.{Style}
 use Rattle.check_print.specs.Found.{Found, all_found}
 use Rattle.check_print.specs.Printed.{printed_files, statistics}
 use Rattle.check_print.specs.Statistics.{code_line}
-use Rattle.check_words.specs.declared.request.Format.TheVariants as format
-use Rattle.checked_file.specs.declared.checked.Checked.{Checked}
-use Rattle.lint_report.specs.Codes.{name_of}
-use Rattle.report_lines.specs.declared.concise.Order.{Order}
-use Rattle.report_lines.specs.declared.concise.Order.TheVariants.{RuleFirst, RuleLast}
-use Rattle.report_lines.specs.Github.{detail, encoded, encoded_byte, property, property_byte}
-use Rattle.source_file.specs.declared.level.Level.{Level}
-use Rattle.source_file.specs.declared.level.Level.TheVariants.{Warning, Error}
-use Rattle.source_file.specs.Escaped.{escaped, escaped_name}
-use Rattle.source_file.specs.File.{location}
-use Rattle.source_file.specs.Levels.{word_of}
-use Rattle.source_file.specs.Shown.{is_c1, is_embedding, is_isolate}
+use Rattle.check_print.specs.check_words.declared.request.Format.TheVariants as format
+use Rattle.check_print.specs.checked_file.declared.checked.Checked.{Checked}
+use Rattle.check_print.specs.lint_report.Codes.{name_of}
+use Rattle.check_print.specs.report_lines.declared.concise.Order.{Order}
+use Rattle.check_print.specs.report_lines.declared.concise.Order.TheVariants.{RuleFirst, RuleLast}
+use Rattle.check_print.specs.report_lines.Github.{detail, encoded, encoded_byte, property, property_byte}
+use Rattle.check_print.specs.source_file.declared.level.Level.{Level}
+use Rattle.check_print.specs.source_file.declared.level.Level.TheVariants.{Warning, Error}
+use Rattle.check_print.specs.source_file.Escaped.{escaped, escaped_name}
+use Rattle.check_print.specs.source_file.File.{location}
+use Rattle.check_print.specs.source_file.Levels.{word_of}
+use Rattle.check_print.specs.source_file.Shown.{is_c1, is_embedding, is_isolate}
 use Rattle.law_printed_lines.specs.Steering.{SteerNothing, has_steering}
 use Rattle.law_printed_lines.specs.Escapes.{has_control, is_control}
 use Rattle.law_printed_lines.specs.Unique.{IsShort, style_in}

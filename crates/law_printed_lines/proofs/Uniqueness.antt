@@ -7,12 +7,12 @@ use Rattle.std.proofs.lemmas.List.Elements.{All-head, All-tail}
 use Rattle.check_print.specs.declared.style.Style.{Style}
 use Rattle.check_print.specs.Found.{Found, all_found}
 use Rattle.check_print.specs.Printed.{printed_files, statistics}
-use Rattle.check_words.specs.declared.request.Format.TheVariants as format
-use Rattle.checked_file.specs.declared.checked.Checked.{Checked}
-use Rattle.report_lines.specs.declared.concise.Order.{Order}
-use Rattle.report_lines.specs.declared.concise.Order.TheVariants.{RuleFirst, RuleLast}
-use Rattle.source_file.specs.declared.level.Level.{Level}
-use Rattle.source_file.specs.File.{location}
+use Rattle.check_print.specs.check_words.declared.request.Format.TheVariants as format
+use Rattle.check_print.specs.checked_file.declared.checked.Checked.{Checked}
+use Rattle.check_print.specs.report_lines.declared.concise.Order.{Order}
+use Rattle.check_print.specs.report_lines.declared.concise.Order.TheVariants.{RuleFirst, RuleLast}
+use Rattle.check_print.specs.source_file.declared.level.Level.{Level}
+use Rattle.check_print.specs.source_file.File.{location}
 use Rattle.law_printed_lines.specs.Kept.{Kept, KeptCommand, annotation, kept, kept_command}
 use Rattle.law_printed_lines.specs.Unique.{IsShort, UniqueCommands, UniqueConcise, UniqueGcc, style_in}
 use Rattle.law_printed_lines.proofs.Annotations.{annotation_same, annotation_shown}

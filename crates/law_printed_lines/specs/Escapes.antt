@@ -1,7 +1,7 @@
 -- A message or a name as it is written on a line.
 use Rattle.std.specs.Prelude.{◌≡◌, ◌==◌, ℕ, Bool, false, ◌||◌, List, [], ◌∷◌, get_or, nat_lt}
-use Rattle.source_file.specs.Escaped.{escaped, escaped_name}
-use Rattle.source_file.specs.Shown.{is_c1, is_embedding, is_isolate}
+use Rattle.check_print.specs.source_file.Escaped.{escaped, escaped_name}
+use Rattle.check_print.specs.source_file.Shown.{is_c1, is_embedding, is_isolate}
 
 -- Two messages that are written alike on a line are the same, and so are two names of files.
 abbrev pub UniqueEscapes : Type 0

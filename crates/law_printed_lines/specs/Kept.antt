@@ -1,10 +1,10 @@
 -- What the formats of one line keep of a finding.
 use Rattle.std.specs.Prelude.{◌==◌, ℕ, if◌then◌else◌, List, [], ◌++◌, Option, Some, None, codes}
 use Rattle.check_print.specs.Found.{Found}
-use Rattle.source_file.specs.declared.level.Level.{Level}
-use Rattle.source_file.specs.declared.level.Level.TheVariants.{Warning, Error}
-use Rattle.source_file.specs.declared.place.Place.{Place}
-use Rattle.source_file.specs.File.{location}
+use Rattle.check_print.specs.source_file.declared.level.Level.{Level}
+use Rattle.check_print.specs.source_file.declared.level.Level.TheVariants.{Warning, Error}
+use Rattle.check_print.specs.source_file.declared.place.Place.{Place}
+use Rattle.check_print.specs.source_file.File.{location}
 
 -- the file's name, the place where the finding begins, its level, its rule or hazard and its message
 pub record Kept : Type 0 where

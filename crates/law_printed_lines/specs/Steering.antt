@@ -2,8 +2,8 @@
 use Rattle.std.specs.Prelude.{◌≡◌, ◌==◌, ℕ, All, Bool, false, not, ◌&&◌, ◌||◌, List, [], ◌∷◌, get_or}
 use Rattle.check_print.specs.declared.style.Style.{Style}
 use Rattle.check_print.specs.Printed.{printed}
-use Rattle.check_words.specs.declared.request.Format.TheVariants as format
-use Rattle.checked_file.specs.declared.checked.Checked.{Checked}
+use Rattle.check_print.specs.check_words.declared.request.Format.TheVariants as format
+use Rattle.check_print.specs.checked_file.declared.checked.Checked.{Checked}
 use Rattle.law_printed_lines.specs.Escapes.{is_control}
 use Rattle.law_printed_lines.specs.Unique.{IsShort, style_in}
 

@@ -1,9 +1,9 @@
 -- What is printed on lines leads back to each finding.
 use Rattle.std.specs.Prelude.{◌≡◌, ◌<◌, ◌^◌, All, List, length, map}
-use Rattle.check_words.specs.declared.request.Format.{Format}
-use Rattle.check_words.specs.declared.request.Format.TheVariants as format
-use Rattle.checked_file.specs.declared.checked.Checked.{Checked}
-use Rattle.checked_file.specs.Files.{readable_of}
+use Rattle.check_print.specs.check_words.declared.request.Format.{Format}
+use Rattle.check_print.specs.check_words.declared.request.Format.TheVariants as format
+use Rattle.check_print.specs.checked_file.declared.checked.Checked.{Checked}
+use Rattle.check_print.specs.checked_file.Files.{readable_of}
 use Rattle.check_print.specs.declared.style.Style.{Style}
 use Rattle.check_print.specs.Found.{all_found}
 use Rattle.check_print.specs.Printed.{printed}

@@ -2,25 +2,25 @@
 use Rattle.std.proofs.Common.{◌≡◌, ℕ, ◌+◌, Bool, true, false, List, [], ◌∷◌, ◌++◌, codes, is_none, ◌&&◌, max, refl, replicate, slice_range, Option, Some, None, length, drop, take, ◌-◌, nat_le, not, ◌==◌}
 use Rattle.std.proofs.lemmas.Bool.{cond_both}
 use Rattle.std.specs.List.{list_all}
-use Rattle.lint_base.specs.declared.edit.Edit.{Edit}
-use Rattle.lint_report.specs.declared.fix_class.FixClass.{FixClass}
-use Rattle.lint_report.specs.declared.fix_class.FixClass.TheVariants as class
-use Rattle.lint_report.specs.declared.report.Report.{Report}
-use Rattle.lint_report.specs.declared.report.ReportFix.{ReportFix}
-use Rattle.report_text.specs.Excerpt.{carets, closing_row, excerpt, excerpt_by, inner_part, inset_row, is_blank, lead, opening_rows, plain_row, stroke_row}
-use Rattle.report_text.specs.Fixed.{changes, changes_in, class_mark, fix_part, is_in_order}
-use Rattle.report_text.specs.Layouts.{bar, bar_line, number_bar, numbered, point}
-use Rattle.report_text.specs.Paint.{style_of}
-use Rattle.report_text.specs.Report.{hint_part, layout_of, note, note_row, notes}
-use Rattle.report_text.specs.Rows.{gap, inner_row, inner_rows, numbered_rows}
-use Rattle.source_file.specs.declared.hints.Hint.{Hint}
-use Rattle.source_file.specs.declared.level.Level.{Level}
-use Rattle.source_file.specs.Columns.{width_of}
-use Rattle.source_file.specs.Hints.{text_of}
-use Rattle.source_file.specs.File.{line_number}
-use Rattle.source_file.specs.Line.{Text, block_of, front_of, lines_of}
-use Rattle.source_file.specs.Shown.{shown}
-use Rattle.text_pos.specs.Range.{Range}
+use Rattle.law_printed_lines.specs.lint_base.declared.edit.Edit.{Edit}
+use Rattle.law_printed_lines.specs.lint_report.declared.fix_class.FixClass.{FixClass}
+use Rattle.law_printed_lines.specs.lint_report.declared.fix_class.FixClass.TheVariants as class
+use Rattle.law_printed_lines.specs.lint_report.declared.report.Report.{Report}
+use Rattle.law_printed_lines.specs.lint_report.declared.report.ReportFix.{ReportFix}
+use Rattle.law_printed_lines.specs.report_text.Excerpt.{carets, closing_row, excerpt, excerpt_by, inner_part, inset_row, is_blank, lead, opening_rows, plain_row, stroke_row}
+use Rattle.law_printed_lines.specs.report_text.Fixed.{changes, changes_in, class_mark, fix_part, is_in_order}
+use Rattle.law_printed_lines.specs.report_text.Layouts.{bar, bar_line, number_bar, numbered, point}
+use Rattle.law_printed_lines.specs.report_text.Paint.{style_of}
+use Rattle.law_printed_lines.specs.report_text.Report.{hint_part, layout_of, note, note_row, notes}
+use Rattle.law_printed_lines.specs.report_text.Rows.{gap, inner_row, inner_rows, numbered_rows}
+use Rattle.law_printed_lines.specs.source_file.declared.hints.Hint.{Hint}
+use Rattle.law_printed_lines.specs.source_file.declared.level.Level.{Level}
+use Rattle.law_printed_lines.specs.source_file.Columns.{width_of}
+use Rattle.law_printed_lines.specs.source_file.Hints.{text_of}
+use Rattle.law_printed_lines.specs.source_file.File.{line_number}
+use Rattle.law_printed_lines.specs.source_file.Line.{Text, block_of, front_of, lines_of}
+use Rattle.law_printed_lines.specs.source_file.Shown.{shown}
+use Rattle.law_printed_lines.specs.text_pos.Range.{Range}
 use Rattle.law_printed_text.proofs.Rows.{IsClean, IsPiece, IsRows, back, both, front, is_plain, joined, no_rows, row, word}
 use Rattle.law_printed_text.proofs.Pieces.{added, blanks_clean, bold, decimal_clean, escaped_clean, frame, level_plain, of_level, removed, repeated, shell, shell_clean, shell_piece, shown_clean, solid}
 

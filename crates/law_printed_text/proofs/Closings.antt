@@ -1,20 +1,20 @@
 -- What is printed after the last finding is rows.
 use Rattle.std.proofs.Common.{◌≡◌, ℕ, ◌==◌, true, List, [], ◌∷◌, ◌++◌, Option, Some, None, append_assoc, codes, decimal, flat_map, refl, subst}
 use Rattle.std.proofs.lemmas.Bool.{cond_both}
-use Rattle.check_print.specs.declared.style.Style.{Style}
-use Rattle.check_print.specs.Passed.{passed_by, passed_counts, passed_in, passed_line, passed_place}
-use Rattle.check_print.specs.Printed.{last_line, passed_lines, statistics}
-use Rattle.check_print.specs.Statistics.{code_line, code_lines, count_of, hazard_line, rule_line}
-use Rattle.checked_file.specs.declared.checked.Checked.{Checked}
-use Rattle.checked_file.specs.declared.checked.Passed.{Passed}
-use Rattle.hazard_base.specs.Hazards.{all_hazards}
-use Rattle.lint_base.specs.Rules.{all_rules}
-use Rattle.lint_report.specs.declared.code.Code.{Code}
-use Rattle.lint_report.specs.declared.code.Code.TheVariants as code
-use Rattle.lint_report.specs.Codes.{name_of}
-use Rattle.report_text.specs.declared.closing.Counts.{Counts}
-use Rattle.report_text.specs.Closing as text
-use Rattle.source_file.specs.File.{FileValue}
+use Rattle.law_printed_lines.specs.check_print.declared.style.Style.{Style}
+use Rattle.law_printed_lines.specs.check_print.Passed.{passed_by, passed_counts, passed_in, passed_line, passed_place}
+use Rattle.law_printed_lines.specs.check_print.Printed.{last_line, passed_lines, statistics}
+use Rattle.law_printed_lines.specs.check_print.Statistics.{code_line, code_lines, count_of, hazard_line, rule_line}
+use Rattle.law_printed_lines.specs.checked_file.declared.checked.Checked.{Checked}
+use Rattle.law_printed_lines.specs.checked_file.declared.checked.Passed.{Passed}
+use Rattle.law_printed_lines.specs.hazard_base.Hazards.{all_hazards}
+use Rattle.law_printed_lines.specs.lint_base.Rules.{all_rules}
+use Rattle.law_printed_lines.specs.lint_report.declared.code.Code.{Code}
+use Rattle.law_printed_lines.specs.lint_report.declared.code.Code.TheVariants as code
+use Rattle.law_printed_lines.specs.lint_report.Codes.{name_of}
+use Rattle.law_printed_lines.specs.report_text.declared.closing.Counts.{Counts}
+use Rattle.law_printed_lines.specs.report_text.Closing as text
+use Rattle.law_printed_lines.specs.source_file.File.{FileValue}
 use Rattle.law_printed_text.proofs.Heads.{name_clean}
 use Rattle.law_printed_lines.proofs.Names.{code_name}
 use Rattle.law_printed_text.proofs.Pieces.{decimal_clean, escaped_clean, solid}

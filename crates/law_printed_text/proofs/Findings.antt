@@ -1,23 +1,23 @@
 -- What is printed of a finding begins with its title and its place, is cut off by an empty line, and leads back to it.
 use Rattle.std.proofs.Common.{◌≡◌, ◌∙◌, ℕ, ◌-◌, ◌<◌, ◌^◌, Bool, true, false, List, ◌++◌, Option, Some, None, ap, append_assoc, codes, decimal, length, refl, sym}
 use Rattle.std.proofs.lemmas.Fmt.{decimal_injective}
-use Rattle.lint_report.specs.declared.report.Report.{Report}
-use Rattle.lint_report.specs.Codes.{name_of}
-use Rattle.report_text.specs.Excerpt.{excerpt}
-use Rattle.report_text.specs.Fixed.{fix_part}
-use Rattle.report_text.specs.Layouts.{bar_line, blanks}
-use Rattle.report_text.specs.Paint.{style_of}
-use Rattle.report_text.specs.Report.{head, hides_help, hint_part, layout_of, name_arrow, notes, printed_refusal, printed_report, shown_help, title}
-use Rattle.source_file.specs.declared.hints.Hint.{Hint}
-use Rattle.source_file.specs.declared.level.Level.{Level}
-use Rattle.source_file.specs.declared.level.Level.TheVariants.{Warning, Error}
-use Rattle.source_file.specs.declared.refusal.Refusal.{Refusal}
-use Rattle.source_file.specs.declared.refusal.Refusal.TheVariants as refusal
-use Rattle.source_file.specs.Escaped.{escaped}
-use Rattle.source_file.specs.File.{FileValue, line_number, location}
-use Rattle.source_file.specs.Hints.{hint_of}
-use Rattle.source_file.specs.Refusals as refusals
-use Rattle.text_pos.specs.Range.{Range}
+use Rattle.law_printed_lines.specs.lint_report.declared.report.Report.{Report}
+use Rattle.law_printed_lines.specs.lint_report.Codes.{name_of}
+use Rattle.law_printed_lines.specs.report_text.Excerpt.{excerpt}
+use Rattle.law_printed_lines.specs.report_text.Fixed.{fix_part}
+use Rattle.law_printed_lines.specs.report_text.Layouts.{bar_line, blanks}
+use Rattle.law_printed_lines.specs.report_text.Paint.{style_of}
+use Rattle.law_printed_lines.specs.report_text.Report.{head, hides_help, hint_part, layout_of, name_arrow, notes, printed_refusal, printed_report, shown_help, title}
+use Rattle.law_printed_lines.specs.source_file.declared.hints.Hint.{Hint}
+use Rattle.law_printed_lines.specs.source_file.declared.level.Level.{Level}
+use Rattle.law_printed_lines.specs.source_file.declared.level.Level.TheVariants.{Warning, Error}
+use Rattle.law_printed_lines.specs.source_file.declared.refusal.Refusal.{Refusal}
+use Rattle.law_printed_lines.specs.source_file.declared.refusal.Refusal.TheVariants as refusal
+use Rattle.law_printed_lines.specs.source_file.Escaped.{escaped}
+use Rattle.law_printed_lines.specs.source_file.File.{FileValue, line_number, location}
+use Rattle.law_printed_lines.specs.source_file.Hints.{hint_of}
+use Rattle.law_printed_lines.specs.source_file.Refusals as refusals
+use Rattle.law_printed_lines.specs.text_pos.Range.{Range}
 use Rattle.law_printed_text.proofs.Blocks.{bar_row, excerpt_rows, fix_rows, hint_rows, notes_rows}
 use Rattle.law_printed_text.proofs.Cuts.{cut_last}
 use Rattle.law_printed_text.proofs.Heads.{arrow_back, arrow_row, arrow_rows, title_back, title_color, title_row}

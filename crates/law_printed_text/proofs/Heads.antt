@@ -3,13 +3,13 @@ use Rattle.std.proofs.Common.{◌≡◌, ◌∙◌, ℕ, ◌==◌, Bool, true, f
 use Rattle.std.proofs.lemmas.List.{append_cancel_left, append_cancel_right}
 use Rattle.std.proofs.lemmas.Bool.Decides.{nat_tests}
 use Rattle.std.specs.List.{list_all}
-use Rattle.report_text.specs.Layouts.{blanks}
-use Rattle.report_text.specs.Paint.{closed}
-use Rattle.report_text.specs.Report.{title}
-use Rattle.source_file.specs.declared.level.Level.{Level}
-use Rattle.source_file.specs.declared.level.Level.TheVariants.{Warning, Error}
-use Rattle.source_file.specs.Escaped.{escaped}
-use Rattle.source_file.specs.Levels.{word_of}
+use Rattle.law_printed_lines.specs.report_text.Layouts.{blanks}
+use Rattle.law_printed_lines.specs.report_text.Paint.{closed}
+use Rattle.law_printed_lines.specs.report_text.Report.{title}
+use Rattle.law_printed_lines.specs.source_file.declared.level.Level.{Level}
+use Rattle.law_printed_lines.specs.source_file.declared.level.Level.TheVariants.{Warning, Error}
+use Rattle.law_printed_lines.specs.source_file.Escaped.{escaped}
+use Rattle.law_printed_lines.specs.source_file.Levels.{word_of}
 use Rattle.law_printed_text.proofs.Cuts.{cut, rest_of_two}
 use Rattle.law_printed_lines.proofs.Names.{is_name, is_name_byte}
 use Rattle.law_printed_text.proofs.Pieces.{blanks_clean, bold, closed_clean, escaped_clean, frame, level_plain, of_level, passes, repeated, shell, shell_clean, shell_piece, solid}

@@ -1,17 +1,17 @@
 -- A finding of a file, as it is printed and as it is kept.
 use Rattle.std.proofs.Common.{◌≡◌, ◌∙◌, ℕ, ◌<◌, ◌==◌, ◌||◌, ◌^◌, Bool, true, false, List, ◌++◌, ◌⊎◌, inl, inr, Some, ap, get_or, length, refl, sym}
 use Rattle.std.specs.Str.{chars}
-use Rattle.check_print.specs.Found.{Found, found_refusal, found_report}
-use Rattle.lint_report.specs.declared.report.Report.{Report}
-use Rattle.report_text.specs.Report.{printed_refusal, printed_report}
-use Rattle.source_file.specs.declared.level.Level.{Level}
-use Rattle.source_file.specs.declared.level.Level.TheVariants.{Warning, Error}
-use Rattle.source_file.specs.declared.place.Place.{Place}
-use Rattle.source_file.specs.declared.refusal.Refusal.{Refusal}
-use Rattle.source_file.specs.declared.refusal.Refusal.TheVariants as refusal
-use Rattle.source_file.specs.Escaped.{escaped}
-use Rattle.source_file.specs.File.{FileValue, location}
-use Rattle.source_file.specs.Refusals as refusals
+use Rattle.law_printed_lines.specs.check_print.Found.{Found, found_refusal, found_report}
+use Rattle.law_printed_lines.specs.lint_report.declared.report.Report.{Report}
+use Rattle.law_printed_lines.specs.report_text.Report.{printed_refusal, printed_report}
+use Rattle.law_printed_lines.specs.source_file.declared.level.Level.{Level}
+use Rattle.law_printed_lines.specs.source_file.declared.level.Level.TheVariants.{Warning, Error}
+use Rattle.law_printed_lines.specs.source_file.declared.place.Place.{Place}
+use Rattle.law_printed_lines.specs.source_file.declared.refusal.Refusal.{Refusal}
+use Rattle.law_printed_lines.specs.source_file.declared.refusal.Refusal.TheVariants as refusal
+use Rattle.law_printed_lines.specs.source_file.Escaped.{escaped}
+use Rattle.law_printed_lines.specs.source_file.File.{FileValue, location}
+use Rattle.law_printed_lines.specs.source_file.Refusals as refusals
 use Rattle.law_printed_lines.specs.Kept.{Kept, kept}
 use Rattle.law_printed_lines.proofs.Escaping.{written_same}
 use Rattle.law_printed_text.proofs.Findings.{IsBlock, block_back, block_color, block_end, place_back, place_clean, place_text, refusal_block, report_block}

@@ -6,12 +6,12 @@ use Rattle.std.proofs.lemmas.List.Elements.{All-replicate, All-weaker}
 use Rattle.std.proofs.lemmas.List.Sums.{list_all-from_AllPass}
 use Rattle.std.specs.Fmt.{digit_glyph, digits, digits_onto}
 use Rattle.std.specs.List.{list_all}
-use Rattle.report_text.specs.Layouts.{blanks}
-use Rattle.report_text.specs.Paint.{closed, code_of, style_of}
-use Rattle.source_file.specs.declared.level.Level.{Level}
-use Rattle.source_file.specs.declared.level.Level.TheVariants.{Warning, Error}
-use Rattle.source_file.specs.Escaped.{escaped_after}
-use Rattle.source_file.specs.Shown.{c1_escape, escape, hex_digit, is_c1, is_embedding, is_isolate, more_len, shown, shown_after, shown_byte}
+use Rattle.law_printed_lines.specs.report_text.Layouts.{blanks}
+use Rattle.law_printed_lines.specs.report_text.Paint.{closed, code_of, style_of}
+use Rattle.law_printed_lines.specs.source_file.declared.level.Level.{Level}
+use Rattle.law_printed_lines.specs.source_file.declared.level.Level.TheVariants.{Warning, Error}
+use Rattle.law_printed_lines.specs.source_file.Escaped.{escaped_after}
+use Rattle.law_printed_lines.specs.source_file.Shown.{c1_escape, escape, hex_digit, is_c1, is_embedding, is_isolate, more_len, shown, shown_after, shown_byte}
 use Rattle.law_printed_lines.proofs.Escaping.{written_shown}
 use Rattle.law_printed_text.proofs.Rows.{IsClean, IsPiece, back, both, front, is_plain, piece, word}
 

@@ -2,17 +2,17 @@
 use Rattle.std.proofs.Common.{ℕ, ◌≡◌, ◌∙◌, ◌||◌, ◌<◌, ◌^◌, Bool, false, true, List, [], ◌∷◌, ◌++◌, inl, inr, All, ap, append_assoc, append-nil, flat_map, length, map, refl, sym}
 use Rattle.std.proofs.lemmas.List.{map-append}
 use Rattle.std.proofs.lemmas.List.Elements.{All-append, All-cons, All-head, All-nil, All-tail}
-use Rattle.check_print.specs.declared.style.Style.{Style}
-use Rattle.check_print.specs.Findings.{printed_refusal, printed_report}
-use Rattle.check_print.specs.Found.{all_found, found_by, found_in, found_report}
-use Rattle.check_print.specs.Printed.{last_line, passed_lines, printed, printed_answer, printed_file, printed_files, printed_reports, source_of, statistics}
-use Rattle.check_words.specs.declared.request.Format.TheVariants as format
-use Rattle.checked_file.specs.declared.answer.Answer.{Answer}
-use Rattle.checked_file.specs.declared.answer.Answer.TheVariants.{Reports, Refused}
-use Rattle.checked_file.specs.declared.checked.Checked.{Checked}
-use Rattle.checked_file.specs.Answers.{has_findings}
-use Rattle.lint_report.specs.declared.report.Report.{Report}
-use Rattle.source_file.specs.File.{FileValue}
+use Rattle.law_printed_lines.specs.check_print.declared.style.Style.{Style}
+use Rattle.law_printed_lines.specs.check_print.Findings.{printed_refusal, printed_report}
+use Rattle.law_printed_lines.specs.check_print.Found.{all_found, found_by, found_in, found_report}
+use Rattle.law_printed_lines.specs.check_print.Printed.{last_line, passed_lines, printed, printed_answer, printed_file, printed_files, printed_reports, source_of, statistics}
+use Rattle.law_printed_lines.specs.check_words.declared.request.Format.TheVariants as format
+use Rattle.law_printed_lines.specs.checked_file.declared.answer.Answer.{Answer}
+use Rattle.law_printed_lines.specs.checked_file.declared.answer.Answer.TheVariants.{Reports, Refused}
+use Rattle.law_printed_lines.specs.checked_file.declared.checked.Checked.{Checked}
+use Rattle.law_printed_lines.specs.checked_file.Answers.{has_findings}
+use Rattle.law_printed_lines.specs.lint_report.declared.report.Report.{Report}
+use Rattle.law_printed_lines.specs.source_file.File.{FileValue}
 use Rattle.law_printed_lines.specs.Kept.{Kept, kept}
 use Rattle.law_printed_lines.specs.Unique.{IsShort, style_in}
 use Rattle.law_printed_text.specs.Unique.{UniqueTexts}

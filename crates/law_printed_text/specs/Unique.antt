@@ -1,10 +1,10 @@
 -- What is printed for people leads back to each finding.
 use Rattle.std.specs.Prelude.{◌≡◌, All, List, map}
-use Rattle.check_words.specs.declared.request.Format.TheVariants as format
-use Rattle.checked_file.specs.declared.checked.Checked.{Checked}
-use Rattle.check_print.specs.declared.style.Style.{Style}
-use Rattle.check_print.specs.Found.{all_found}
-use Rattle.check_print.specs.Printed.{printed}
+use Rattle.law_printed_lines.specs.check_words.declared.request.Format.TheVariants as format
+use Rattle.law_printed_lines.specs.checked_file.declared.checked.Checked.{Checked}
+use Rattle.law_printed_lines.specs.check_print.declared.style.Style.{Style}
+use Rattle.law_printed_lines.specs.check_print.Found.{all_found}
+use Rattle.law_printed_lines.specs.check_print.Printed.{printed}
 use Rattle.law_printed_lines.specs.Kept.{kept}
 use Rattle.law_printed_lines.specs.Unique.{IsShort, style_in}
 

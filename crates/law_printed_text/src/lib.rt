@@ -7,3 +7,8 @@ ghost use Rattle.law_printed_text.specs.Unique.{UniqueTexts};
 pub fn unique_texts()
     ensures { UniqueTexts }
 {}
+
+// What crates above reach through this one.
+pub use law_printed_lines::{
+    have_no_control, steer_nothing, unique_commands, unique_concise, unique_escapes, unique_gcc,
+};

@@ -27,3 +27,4 @@ pub mod Ordered
 pub mod NodeOrder
 pub mod ElementOrder
 pub mod TypeOrder
+pub use Rattle.sql_token.proofs as of_sql_token

@@ -2,7 +2,7 @@
 use Rattle.std.proofs.Common.{◌≡◌, ℕ, ◌+◌, List, [], ◌∷◌, map, refl, Option, Some, None}
 use Rattle.std.specs.Option.{option_map}
 use Rattle.std.proofs.lemmas.List.{length-map, take-map, drop-map}
-use Rattle.sql_keyword.specs.declared.words.Keyword.{Keyword}
+use Rattle.sql_tree.specs.sql_keyword.declared.words.Keyword.{Keyword}
 use Rattle.sql_token.specs.declared.terminal.Terminal.{Terminal}
 use Rattle.sql_token.specs.Terminal.{is_opener, is_closer}
 use Rattle.sql_token.specs.Depth.{one_if, onto}

@@ -17,7 +17,7 @@ use Rattle.sql_token.specs.Sound.{is_sound}
 use Rattle.sql_token.specs.Terminal.{is_closer, is_opener, is_semicolon, is_significant, symbol_of, terminals, terminals_from}
 use Rattle.sql_token.specs.Token.{Text, text_of}
 use Rattle.sql_token.proofs.Statements.{by_counts}
-use Rattle.sql_keyword.specs.declared.words.TheConstants.Keyword as keyword
+use Rattle.sql_tree.specs.sql_keyword.declared.words.TheConstants.Keyword as keyword
 use Rattle.sql_tree.specs.declared.kinds.StmtKind.{StmtKind}
 use Rattle.sql_tree.specs.declared.forms.BodyShape.{BodyShape}
 use Rattle.sql_tree.specs.declared.forms.BodyShape.TheVariants as shape

@@ -1,6 +1,6 @@
 -- Terminals whose numbers ascend, and what reading keeps of that.
 use Rattle.std.proofs.Common.{ℕ, suc, ◌≤◌, List, [], ◌∷◌, ◌++◌, drop, arith}
-use Rattle.sql_keyword.specs.declared.words.Keyword.{Keyword}
+use Rattle.sql_tree.specs.sql_keyword.declared.words.Keyword.{Keyword}
 use Rattle.sql_token.specs.declared.terminal.Symbol.{Symbol}
 use Rattle.sql_token.specs.declared.terminal.Terminal.{Terminal}
 use Rattle.sql_tree.specs.declared.forms.Part.{Part}

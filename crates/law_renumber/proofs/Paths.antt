@@ -3,17 +3,17 @@ use Rattle.std.proofs.Common.{◌≡◌, Bool, true, false, List, [], ◌∷◌,
 use Rattle.std.specs.Prelude.{if◌then◌else◌, is_some, not}
 use Rattle.std.proofs.lemmas.Bool.{not-true}
 use Rattle.std.specs.Option.{option_and_then}
-use Rattle.sql_keyword.specs.declared.words.Keyword.{Keyword}
-use Rattle.sql_keyword.specs.declared.words.Keyword.TheVariants as k
-use Rattle.sql_keyword.specs.declared.words.Verb.TheVariants as verbs
-use Rattle.sql_keyword.specs.declared.words.Object.TheVariants as objects
-use Rattle.sql_keyword.specs.declared.words.Other.TheVariants as others
+use Rattle.sql_tree.specs.sql_keyword.declared.words.Keyword.{Keyword}
+use Rattle.sql_tree.specs.sql_keyword.declared.words.Keyword.TheVariants as k
+use Rattle.sql_tree.specs.sql_keyword.declared.words.Verb.TheVariants as verbs
+use Rattle.sql_tree.specs.sql_keyword.declared.words.Object.TheVariants as objects
+use Rattle.sql_tree.specs.sql_keyword.declared.words.Other.TheVariants as others
 use Rattle.sql_token.specs.declared.terminal.Symbol.{Symbol}
 use Rattle.sql_token.specs.declared.terminal.Symbol.TheVariants as s
 use Rattle.sql_token.specs.declared.terminal.Terminal.{Terminal}
 use Rattle.sql_token.specs.Terminal.{is_name}
 use Rattle.sql_token.specs.Depth.{has_keyword}
-use Rattle.sql_keyword.specs.declared.words.TheConstants.Keyword as keyword
+use Rattle.sql_tree.specs.sql_keyword.declared.words.TheConstants.Keyword as keyword
 use Rattle.sql_tree.specs.declared.kinds.StmtKind.{StmtKind}
 use Rattle.sql_tree.specs.declared.kinds.StmtKind.TheVariants as stmt
 use Rattle.sql_tree.specs.declared.forms.Captures.{Captures}

@@ -2,7 +2,7 @@
 -- INITIALLY and a quoted name are two (PostgreSQL manual, ALTER TABLE, ALTER CONSTRAINT).
 use Rattle.std.specs.Prelude.{◌≡◌, true, if◌then◌else◌, List, [], ◌∷◌, Some}
 use Rattle.std.specs.List.{All}
-use Rattle.sql_keyword.specs.declared.words.TheConstants.Keyword as keyword
+use Rattle.sql_tree.specs.sql_keyword.declared.words.TheConstants.Keyword as keyword
 use Rattle.sql_token.specs.declared.terminal.Terminal.{Terminal}
 use Rattle.sql_token.specs.Depth.{statements}
 use Rattle.sql_token.specs.Terminal.{is_keyword}

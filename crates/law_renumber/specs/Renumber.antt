@@ -1,7 +1,7 @@
 -- Maps of terminals that keep what reading sees of them, what rows of forms read of them, and the laws of marks, parts and rows.
 use Rattle.std.specs.Prelude.{◌≡◌, ℕ, List, map, Option}
 use Rattle.std.specs.Option.{option_map}
-use Rattle.sql_keyword.specs.declared.words.Keyword.{Keyword}
+use Rattle.sql_tree.specs.sql_keyword.declared.words.Keyword.{Keyword}
 use Rattle.sql_token.specs.declared.terminal.Symbol.{Symbol}
 use Rattle.sql_token.specs.declared.terminal.Symbol.TheVariants as s
 use Rattle.sql_token.specs.declared.terminal.Terminal.{Terminal}

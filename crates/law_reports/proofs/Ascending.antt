@@ -5,7 +5,7 @@ use Rattle.std.specs.List.Sorted.{IsNonDecreasingBy}
 use Rattle.std.proofs.lemmas.Bool.{cases_lt}
 use Rattle.std.proofs.lemmas.List.{get_or_append_left}
 use Rattle.std.proofs.lemmas.List.Elements.{All-append, All-nil, All-weaker, filter_passes}
-use Rattle.squawk_linter.specs.ByStart.{by_key}
+use Rattle.text_reports.specs.squawk_linter.ByStart.{by_key}
 
 module _ {X : Type 0} (key : X → ℕ) where
   -- a list in order, and then another one in order whose numbers are not below those of the first

@@ -4,28 +4,28 @@ use Rattle.std.proofs.lemmas.Bool.{cases_Bool, false≢true}
 use Rattle.std.proofs.lemmas.List.Elements.{All-contains, Contains-append_left}
 use Rattle.std.specs.Prelude.{is_none}
 use denote.Enum.Bare.{same_true}
-use Rattle.hazard_base.specs.declared.hazard_set.HazardSet.{HazardSet}
-use Rattle.hazard_find.specs.Findings.{findings_of}
-use Rattle.hazard_ignore.specs.HazardNames.{hazard_of, without_hazard_names}
-use Rattle.law_answers.specs.Tables.{IsCoded}
-use Rattle.lint_base.specs.contracts.rule.Rule.{the_type}
-use Rattle.lint_base.specs.declared.rule.Rule.{Rule}
-use Rattle.lint_base.specs.declared.rule.Rule.TheVariants as rule
-use Rattle.lint_base.specs.declared.settings.LinterSettings.{LinterSettings}
-use Rattle.lint_base.specs.declared.violation.Violation.{Violation}
-use Rattle.lint_base.specs.RuleNames.{same_rule}
-use Rattle.lint_base.specs.RuleSets.{Rules, has}
-use Rattle.lint_pass.specs.Laws.{IsOf, IsRead}
-use Rattle.pass_groups.specs.OwnTable.{own_table}
-use Rattle.sql_tree.specs.Statement.{Tree}
-use Rattle.squawk_linter.proofs.HeadlineLaws.{plain_answer}
-use Rattle.squawk_linter.proofs.Sorting.{by_key_all}
-use Rattle.squawk_linter.specs.Answers.{reports}
-use Rattle.squawk_linter.specs.CleanAnswers.{CleanAnswersWorkAlone}
-use Rattle.squawk_linter.specs.Headline.{HasNoIgnoreComment}
-use Rattle.squawk_linter.specs.Placed.{AnswersPlaced, IsPlaced}
-use Rattle.squawk_linter.specs.Reports as answer
-use Rattle.squawk_linter.specs.Reports.{cleared}
+use Rattle.text_reports.specs.hazard_base.declared.hazard_set.HazardSet.{HazardSet}
+use Rattle.text_reports.specs.hazard_find.Findings.{findings_of}
+use Rattle.text_reports.specs.hazard_ignore.HazardNames.{hazard_of, without_hazard_names}
+use Rattle.text_reports.specs.law_answers.Tables.{IsCoded}
+use Rattle.text_reports.specs.lint_base.contracts.rule.Rule.{the_type}
+use Rattle.text_reports.specs.lint_base.declared.rule.Rule.{Rule}
+use Rattle.text_reports.specs.lint_base.declared.rule.Rule.TheVariants as rule
+use Rattle.text_reports.specs.lint_base.declared.settings.LinterSettings.{LinterSettings}
+use Rattle.text_reports.specs.lint_base.declared.violation.Violation.{Violation}
+use Rattle.text_reports.specs.lint_base.RuleNames.{same_rule}
+use Rattle.text_reports.specs.lint_base.RuleSets.{Rules, has}
+use Rattle.text_reports.specs.lint_pass.Laws.{IsOf, IsRead}
+use Rattle.text_reports.specs.pass_groups.OwnTable.{own_table}
+use Rattle.text_reports.specs.sql_tree.Statement.{Tree}
+use Rattle.text_reports.proofs.of_squawk_linter.HeadlineLaws.{plain_answer}
+use Rattle.text_reports.proofs.of_squawk_linter.Sorting.{by_key_all}
+use Rattle.text_reports.specs.squawk_linter.Answers.{reports}
+use Rattle.text_reports.specs.squawk_linter.CleanAnswers.{CleanAnswersWorkAlone}
+use Rattle.text_reports.specs.squawk_linter.Headline.{HasNoIgnoreComment}
+use Rattle.text_reports.specs.squawk_linter.Placed.{AnswersPlaced, IsPlaced}
+use Rattle.text_reports.specs.squawk_linter.Reports as answer
+use Rattle.text_reports.specs.squawk_linter.Reports.{cleared}
 use Rattle.text_reports.specs.Reports.{all_reports, by_hazard, by_rule, start_of, uncovered, unused, with_hazards}
 use Rattle.law_reports.proofs.Silence.{in_filter, in_map, in_order}
 use Rattle.law_reports.specs.CleanTexts.{CleanTextsWorkAlone}

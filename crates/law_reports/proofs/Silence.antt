@@ -7,23 +7,23 @@ use Rattle.std.proofs.lemmas.Bool.{and_parts, false_from_ne_true, not_from_false
 use Rattle.std.proofs.lemmas.List.Elements.{All-contains, All-nil, Contains-append_left, Contains-append_right, Contains-get_or}
 use Rattle.std.proofs.lemmas.List.Folds.{list_any_none}
 use denote.Enum.Bare.{same_true}
-use Rattle.hazard_base.specs.contracts.hazard.Hazard.{the_type}
-use Rattle.hazard_base.specs.declared.finding.Finding.{Finding}
-use Rattle.hazard_base.specs.declared.hazard.Hazard.{Hazard}
-use Rattle.hazard_base.specs.declared.hazard_set.HazardSet.{HazardSet}
-use Rattle.hazard_base.specs.Hazards.{same_hazard}
-use Rattle.hazard_find.specs.Findings.{findings_of}
-use Rattle.hazard_ignore.specs.Covered.{covers, is_bare, is_covered, named}
-use Rattle.lint_base.specs.declared.settings.LinterSettings.{LinterSettings}
-use Rattle.lint_base.specs.declared.violation.Violation.{Violation}
-use Rattle.lint_base.specs.RuleSets.{Rules}
-use Rattle.lint_report.specs.declared.code.Code.TheVariants as code
-use Rattle.lint_report.specs.declared.report.Report.{Report}
-use Rattle.sql_tree.specs.Statement.{IsTree, Tree}
-use Rattle.squawk_linter.specs.Answers.{reports}
-use Rattle.squawk_linter.specs.ByStart.{by_key}
-use Rattle.squawk_linter.specs.Placed.{IsPlaced}
-use Rattle.text_pos.specs.Line.{line_of}
+use Rattle.text_reports.specs.hazard_base.contracts.hazard.Hazard.{the_type}
+use Rattle.text_reports.specs.hazard_base.declared.finding.Finding.{Finding}
+use Rattle.text_reports.specs.hazard_base.declared.hazard.Hazard.{Hazard}
+use Rattle.text_reports.specs.hazard_base.declared.hazard_set.HazardSet.{HazardSet}
+use Rattle.text_reports.specs.hazard_base.Hazards.{same_hazard}
+use Rattle.text_reports.specs.hazard_find.Findings.{findings_of}
+use Rattle.text_reports.specs.hazard_ignore.Covered.{covers, is_bare, is_covered, named}
+use Rattle.text_reports.specs.lint_base.declared.settings.LinterSettings.{LinterSettings}
+use Rattle.text_reports.specs.lint_base.declared.violation.Violation.{Violation}
+use Rattle.text_reports.specs.lint_base.RuleSets.{Rules}
+use Rattle.text_reports.specs.lint_report.declared.code.Code.TheVariants as code
+use Rattle.text_reports.specs.lint_report.declared.report.Report.{Report}
+use Rattle.text_reports.specs.sql_tree.Statement.{IsTree, Tree}
+use Rattle.text_reports.specs.squawk_linter.Answers.{reports}
+use Rattle.text_reports.specs.squawk_linter.ByStart.{by_key}
+use Rattle.text_reports.specs.squawk_linter.Placed.{IsPlaced}
+use Rattle.text_reports.specs.text_pos.Line.{line_of}
 use Rattle.text_reports.proofs.Placing.{gathered_placed}
 use Rattle.text_reports.specs.Placed.{IsReportPlaced}
 use Rattle.text_reports.specs.Reports.{all_reports, by_hazard, start_of, uncovered, with_hazards}

@@ -1,16 +1,16 @@
 -- What it means that nothing at all is reported of a text.
 use Rattle.std.specs.Prelude.{◌≡◌, true, []}
-use Rattle.hazard_base.specs.declared.hazard_set.HazardSet.{HazardSet}
-use Rattle.law_clean.specs.Clean.{HasDefaults}
-use Rattle.lint_base.specs.declared.settings.LinterSettings.{LinterSettings}
-use Rattle.lint_base.specs.RuleSets.{Rules}
-use Rattle.lint_pass.specs.Laws.{IsRead}
-use Rattle.lock_machine.specs.Plain.{plain}
-use Rattle.lock_machine.specs.Works.{works}
-use Rattle.sql_tree.specs.Statement.{Tree}
-use Rattle.squawk_linter.specs.CleanAnswers.{WorksAlone}
-use Rattle.squawk_linter.specs.Headline.{HasNoIgnoreComment}
-use Rattle.squawk_linter.specs.Reports.{cleared}
+use Rattle.text_reports.specs.hazard_base.declared.hazard_set.HazardSet.{HazardSet}
+use Rattle.text_reports.specs.law_clean.Clean.{HasDefaults}
+use Rattle.text_reports.specs.lint_base.declared.settings.LinterSettings.{LinterSettings}
+use Rattle.text_reports.specs.lint_base.RuleSets.{Rules}
+use Rattle.text_reports.specs.lint_pass.Laws.{IsRead}
+use Rattle.text_reports.specs.lock_machine.Plain.{plain}
+use Rattle.text_reports.specs.lock_machine.Works.{works}
+use Rattle.text_reports.specs.sql_tree.Statement.{Tree}
+use Rattle.text_reports.specs.squawk_linter.CleanAnswers.{WorksAlone}
+use Rattle.text_reports.specs.squawk_linter.Headline.{HasNoIgnoreComment}
+use Rattle.text_reports.specs.squawk_linter.Reports.{cleared}
 use Rattle.text_reports.specs.Reports.{all_reports}
 
 -- A clean text: the rules of the default set are enabled, no ignore comment is in the text, it is plain, and neither a rule nor a

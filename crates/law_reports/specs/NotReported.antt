@@ -1,15 +1,15 @@
 -- Hazards that are not reported.
 use Rattle.std.specs.Prelude.{◌≡◌, ◌≢◌, true, false, All}
 use Rattle.std.specs.Str.{IsUtf8}
-use Rattle.hazard_base.specs.declared.hazard.Hazard.{Hazard}
-use Rattle.hazard_base.specs.declared.hazard_set.HazardSet.{HazardSet}
-use Rattle.hazard_base.specs.HazardSets.{has}
-use Rattle.hazard_ignore.specs.Covered.{is_bare, named}
+use Rattle.text_reports.specs.hazard_base.declared.hazard.Hazard.{Hazard}
+use Rattle.text_reports.specs.hazard_base.declared.hazard_set.HazardSet.{HazardSet}
+use Rattle.text_reports.specs.hazard_base.HazardSets.{has}
+use Rattle.text_reports.specs.hazard_ignore.Covered.{is_bare, named}
 use Rattle.law_hazards.specs.Silence.{IsNotFound}
-use Rattle.lint_base.specs.declared.settings.LinterSettings.{LinterSettings}
-use Rattle.lint_base.specs.RuleSets.{Rules}
-use Rattle.lint_report.specs.declared.code.Code.TheVariants as code
-use Rattle.sql_tree.specs.Statement.{IsTree, Tree}
+use Rattle.text_reports.specs.lint_base.declared.settings.LinterSettings.{LinterSettings}
+use Rattle.text_reports.specs.lint_base.RuleSets.{Rules}
+use Rattle.text_reports.specs.lint_report.declared.code.Code.TheVariants as code
+use Rattle.text_reports.specs.sql_tree.Statement.{IsTree, Tree}
 use Rattle.text_reports.specs.Reports.{all_reports}
 
 -- The hazard is enabled, no ignore comment of the text is a bare one of the whole file or names the hazard, and no report of the text

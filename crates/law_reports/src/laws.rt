@@ -1,14 +1,11 @@
 //! Laws of all that is reported of a text.
 
-ghost use Rattle.law_answers.specs.Tables.{IsCoded};
+ghost use Rattle.text_reports.specs.law_answers.Tables.{IsCoded};
 ghost use Rattle.law_reports.specs.CleanTexts.{CleanTextsWorkAlone};
 ghost use Rattle.law_reports.specs.NotReported.{NotReportedIsNotFound};
 ghost use Rattle.law_reports.specs.Order.{ReportsAscend};
 
-use lint_pass::StepPass;
-use squawk_linter::OwnPasses;
-use squawk_linter::clean::clean_answers;
-use squawk_linter::laws::answers_placed;
+use text_reports::{OwnPasses, StepPass, answers_placed, clean_answers};
 
 /// Each report of a pass is of one of its rules.
 fn coded<P: StepPass>(_pass: &P)

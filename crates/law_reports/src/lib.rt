@@ -8,3 +8,7 @@
 mod laws;
 
 pub use laws::reports_tell;
+
+// What crates above reach through this one.
+pub use text_reports::sql_read::parse;
+pub use text_reports::{LintError, Linter, NoMemory, TextLinter, TextSize, find_reports};

@@ -3,24 +3,24 @@ use Rattle.std.proofs.Common.{◌≡◌, ℕ, Bool, true, false, cond, List, [],
 use Rattle.std.proofs.lemmas.List.{map-append}
 use Rattle.std.specs.List.{flat_map}
 use Rattle.std.specs.Option.{option_and_then, option_map, option_to_list}
-use Rattle.sql_tree.specs.declared.kinds.ActionKind.TheVariants as action
-use Rattle.sql_tree.specs.declared.kinds.PieceKind.TheVariants as piece
-use Rattle.sql_tree.specs.declared.kinds.StmtKind.TheVariants as stmt
-use Rattle.sql_tree.specs.declared.nodes.Action.{Action}
-use Rattle.sql_tree.specs.declared.nodes.Body.{Body}
-use Rattle.sql_tree.specs.declared.nodes.Body.TheVariants as body
-use Rattle.sql_tree.specs.declared.nodes.ColType.{ColType}
-use Rattle.sql_tree.specs.declared.nodes.Column.{Column}
-use Rattle.sql_tree.specs.declared.nodes.Elem.{Elem}
-use Rattle.sql_tree.specs.declared.nodes.Elem.TheVariants as elem
-use Rattle.sql_tree.specs.declared.nodes.Piece.{Piece}
-use Rattle.sql_tree.specs.declared.nodes.Stmt.{Stmt}
-use Rattle.sql_tree.specs.Nodes as node
-use Rattle.sql_tree.specs.Nodes.{actions_in, elements_in, types_in}
-use Rattle.law_renumber.specs.Moved.{type_moved, column_moved, elem_moved, piece_moved, action_moved, body_moved, stmt_moved}
-use Rattle.lint_node.specs.ColumnTypes.{element_type, added_type, set_type, element_types, piece_types, action_types, column_types}
-use Rattle.lint_node.specs.Same.{same_action, same_kind, same_piece}
-use Rattle.lint_transaction.specs.Transaction.{no_stmt}
+use Rattle.pass_data_type.specs.sql_tree.declared.kinds.ActionKind.TheVariants as action
+use Rattle.pass_data_type.specs.sql_tree.declared.kinds.PieceKind.TheVariants as piece
+use Rattle.pass_data_type.specs.sql_tree.declared.kinds.StmtKind.TheVariants as stmt
+use Rattle.pass_data_type.specs.sql_tree.declared.nodes.Action.{Action}
+use Rattle.pass_data_type.specs.sql_tree.declared.nodes.Body.{Body}
+use Rattle.pass_data_type.specs.sql_tree.declared.nodes.Body.TheVariants as body
+use Rattle.pass_data_type.specs.sql_tree.declared.nodes.ColType.{ColType}
+use Rattle.pass_data_type.specs.sql_tree.declared.nodes.Column.{Column}
+use Rattle.pass_data_type.specs.sql_tree.declared.nodes.Elem.{Elem}
+use Rattle.pass_data_type.specs.sql_tree.declared.nodes.Elem.TheVariants as elem
+use Rattle.pass_data_type.specs.sql_tree.declared.nodes.Piece.{Piece}
+use Rattle.pass_data_type.specs.sql_tree.declared.nodes.Stmt.{Stmt}
+use Rattle.pass_data_type.specs.sql_tree.Nodes as node
+use Rattle.pass_data_type.specs.sql_tree.Nodes.{actions_in, elements_in, types_in}
+use Rattle.law_edit_types.specs.law_renumber.Moved.{type_moved, column_moved, elem_moved, piece_moved, action_moved, body_moved, stmt_moved}
+use Rattle.pass_data_type.specs.lint_node.ColumnTypes.{element_type, added_type, set_type, element_types, piece_types, action_types, column_types}
+use Rattle.pass_data_type.specs.lint_node.Same.{same_action, same_kind, same_piece}
+use Rattle.pass_data_type.specs.lint_transaction.Transaction.{no_stmt}
 use Rattle.law_type_fixes.proofs.Ranged.{Ranged, ranged_both, ranged_le, ranged_parts}
 
 -- ---- under other numbers

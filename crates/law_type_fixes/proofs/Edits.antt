@@ -3,14 +3,14 @@ use Rattle.std.proofs.Common.{◌≡◌, ℕ, ◌+◌, ◌-◌, ◌<◌, ◌≤�
 use Rattle.std.proofs.lemmas.Bool.Decides.{nat_tests}
 use Rattle.std.proofs.lemmas.List.Elements.{All-head}
 use Rattle.std.specs.Prelude.{nat_le, nat_lt, All}
-use Rattle.sql_token.specs.Token.{Text, Lexed}
-use Rattle.sql_tree.specs.Range.{span_range_of, token_at}
-use Rattle.sql_tree.specs.Statement.{Tree}
-use Rattle.law_edit_tokens.specs.Exchange.{exchanged, made_text}
+use Rattle.pass_data_type.specs.sql_token.Token.{Text, Lexed}
+use Rattle.pass_data_type.specs.sql_tree.Range.{span_range_of, token_at}
+use Rattle.pass_data_type.specs.sql_tree.Statement.{Tree}
+use Rattle.law_edit_types.specs.law_edit_tokens.Exchange.{exchanged, made_text}
 use Rattle.law_edit_types.specs.Runs.{word_made, worded_text, IsApart}
-use Rattle.lint_base.specs.declared.edit.Edit.{Edit}
-use Rattle.lint_base.specs.Edits.{replacement}
-use Rattle.lint_base.specs.Fixes.{FixValue}
+use Rattle.pass_data_type.specs.lint_base.declared.edit.Edit.{Edit}
+use Rattle.pass_data_type.specs.lint_base.Edits.{replacement}
+use Rattle.pass_data_type.specs.lint_base.Fixes.{FixValue}
 use Rattle.law_fixes.specs.Edited.{edited, place_moved}
 use Rattle.law_type_fixes.specs.Mended.{AreApart, JoinsNone}
 use Rattle.law_type_fixes.specs.Moved.{byte_moved}

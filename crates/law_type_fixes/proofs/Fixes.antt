@@ -3,25 +3,25 @@ use Rattle.std.proofs.Common.{◌≡◌, ◌≢◌, ℕ, ◌<◌, ◌⊎◌, ◌
 use Rattle.std.proofs.lemmas.List.{map-append}
 use Rattle.std.proofs.lemmas.List.Elements.{All-append, All-nil}
 use Rattle.std.specs.Prelude.{All}
-use Rattle.sql_token.specs.Token.{Text}
-use Rattle.sql_name.specs.Name.{full_name}
-use Rattle.sql_tree.specs.declared.nodes.ColType.{ColType}
-use Rattle.sql_tree.specs.declared.nodes.Stmt.{Stmt}
-use Rattle.sql_tree.specs.declared.nodes.TyKind.TheVariants as kind
-use Rattle.sql_tree.specs.Statement.{Tree, IsTree}
-use Rattle.law_renumber.specs.Moved.{type_moved, stmt_moved}
-use Rattle.law_edit_inserts.proofs.Apart.{stays_within}
+use Rattle.pass_data_type.specs.sql_token.Token.{Text}
+use Rattle.pass_data_type.specs.sql_name.Name.{full_name}
+use Rattle.pass_data_type.specs.sql_tree.declared.nodes.ColType.{ColType}
+use Rattle.pass_data_type.specs.sql_tree.declared.nodes.Stmt.{Stmt}
+use Rattle.pass_data_type.specs.sql_tree.declared.nodes.TyKind.TheVariants as kind
+use Rattle.pass_data_type.specs.sql_tree.Statement.{Tree, IsTree}
+use Rattle.law_edit_types.specs.law_renumber.Moved.{type_moved, stmt_moved}
+use Rattle.law_edit_types.proofs.of_law_edit_inserts.Apart.{stays_within}
 use Rattle.law_edit_types.specs.Runs.{fused, worded_tree, IsTypeName, Worded}
-use Rattle.lint_base.specs.declared.settings.LinterSettings.{LinterSettings}
-use Rattle.lint_base.specs.declared.violation.Violation.{Violation}
-use Rattle.lint_base.specs.Fixes.{FixValue}
-use Rattle.lint_base.specs.RuleSets.{Rules, has}
-use Rattle.lint_node.specs.ColumnTypes.{column_types}
-use Rattle.lint_pass.specs.RuleLaws.{one_all, pieces_all, where_all}
-use Rattle.lint_pass.specs.RuleTables.{enabled_reports}
-use Rattle.lint_pass.specs.Those.{that}
-use Rattle.lint_transaction.specs.Names.{name_at}
-use Rattle.lint_transaction.specs.Transaction.{no_stmt, stmt_at}
+use Rattle.pass_data_type.specs.lint_base.declared.settings.LinterSettings.{LinterSettings}
+use Rattle.pass_data_type.specs.lint_base.declared.violation.Violation.{Violation}
+use Rattle.pass_data_type.specs.lint_base.Fixes.{FixValue}
+use Rattle.pass_data_type.specs.lint_base.RuleSets.{Rules, has}
+use Rattle.pass_data_type.specs.lint_node.ColumnTypes.{column_types}
+use Rattle.pass_data_type.specs.lint_pass.RuleLaws.{one_all, pieces_all, where_all}
+use Rattle.pass_data_type.specs.lint_pass.RuleTables.{enabled_reports}
+use Rattle.pass_data_type.specs.lint_pass.Those.{that}
+use Rattle.pass_data_type.specs.lint_transaction.Names.{name_at}
+use Rattle.pass_data_type.specs.lint_transaction.Transaction.{no_stmt, stmt_at}
 use Rattle.law_fixes.specs.Edited.{edited}
 use Rattle.law_fixes.specs.Mended.{Mended}
 use Rattle.law_fixes.proofs.Fixed.{At, at_or_none}
@@ -34,7 +34,7 @@ use Rattle.law_type_fixes.specs.Words.{AddsConstraint, AreWord, InnersBecomeWord
 use Rattle.law_type_fixes.specs.Words.AreWord.{path, none}
 use Rattle.law_type_fixes.proofs.ColumnTypes.{types_moved, no_types}
 use Rattle.law_type_fixes.proofs.Edits.{PutsWord, puts_word}
-use Rattle.law_type_fixes.proofs.Reports.{IsTypeRule, is_varchars, is_timestamps, is_ints, is_smallints}
+use Rattle.law_type_fixes.proofs.TypeReports.{IsTypeRule, is_varchars, is_timestamps, is_ints, is_smallints}
 use Rattle.law_type_fixes.proofs.Tables.{table_silent}
 use Rattle.law_type_fixes.proofs.Tokens.{word_text, word_number}
 use Rattle.law_type_fixes.proofs.TypesApart.{types_apart}

@@ -3,8 +3,8 @@ use Rattle.std.proofs.Common.{◌≡◌, ℕ, List, [], ◌∷◌, ◌++◌, map
 use Rattle.std.proofs.lemmas.List.{map-append}
 use Rattle.std.specs.List.{flat_map}
 use Rattle.std.specs.Option.{option_to_list}
-use Rattle.sql_tree.specs.declared.nodes.ColType.{ColType}
-use Rattle.law_renumber.specs.Moved.{type_moved}
+use Rattle.pass_data_type.specs.sql_tree.declared.nodes.ColType.{ColType}
+use Rattle.law_edit_types.specs.law_renumber.Moved.{type_moved}
 
 types_first : {x y : ColType} {xs ys : List ColType} → x ∷ xs ≡ y ∷ ys → x ≡ y
 types_first e = cc

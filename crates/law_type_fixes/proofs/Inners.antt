@@ -5,27 +5,27 @@ use Rattle.std.proofs.lemmas.List.{map-append}
 use Rattle.std.specs.List.{flat_map}
 use Rattle.std.specs.Option.{option_and_then, option_map, option_to_list}
 use denote.Enum.Bare.{same_true}
-use Rattle.sql_token.specs.declared.token.Span.{Span}
-use Rattle.sql_token.specs.Token.{Text}
-use Rattle.sql_tree.specs.contracts.kinds.PieceKind as piece_kinds
-use Rattle.sql_tree.specs.contracts.kinds.StmtKind as stmt_kinds
-use Rattle.sql_tree.specs.declared.kinds.ActionKind.TheVariants as action
-use Rattle.sql_tree.specs.declared.kinds.PieceKind.{PieceKind}
-use Rattle.sql_tree.specs.declared.kinds.PieceKind.TheVariants as piece
-use Rattle.sql_tree.specs.declared.kinds.StmtKind.{StmtKind}
-use Rattle.sql_tree.specs.declared.kinds.StmtKind.TheVariants as stmt
-use Rattle.sql_tree.specs.declared.nodes.Action.{Action}
-use Rattle.sql_tree.specs.declared.nodes.Body.{Body}
-use Rattle.sql_tree.specs.declared.nodes.Body.TheVariants as body
-use Rattle.sql_tree.specs.declared.nodes.ColType.{ColType}
-use Rattle.sql_tree.specs.declared.nodes.Column.{Column}
-use Rattle.sql_tree.specs.declared.nodes.Elem.{Elem}
-use Rattle.sql_tree.specs.declared.nodes.Elem.TheVariants as elem
-use Rattle.sql_tree.specs.declared.nodes.Piece.{Piece}
-use Rattle.sql_tree.specs.declared.nodes.Stmt.{Stmt}
-use Rattle.sql_tree.specs.Nodes.{actions_in, elements_in}
-use Rattle.sql_tree.specs.Statement.{Tree}
-use Rattle.law_renumber.specs.Moved.{span_moved, type_moved, column_moved, elem_moved, piece_moved, action_moved, stmt_moved}
+use Rattle.pass_data_type.specs.sql_token.declared.token.Span.{Span}
+use Rattle.pass_data_type.specs.sql_token.Token.{Text}
+use Rattle.pass_data_type.specs.sql_tree.contracts.kinds.PieceKind as piece_kinds
+use Rattle.pass_data_type.specs.sql_tree.contracts.kinds.StmtKind as stmt_kinds
+use Rattle.pass_data_type.specs.sql_tree.declared.kinds.ActionKind.TheVariants as action
+use Rattle.pass_data_type.specs.sql_tree.declared.kinds.PieceKind.{PieceKind}
+use Rattle.pass_data_type.specs.sql_tree.declared.kinds.PieceKind.TheVariants as piece
+use Rattle.pass_data_type.specs.sql_tree.declared.kinds.StmtKind.{StmtKind}
+use Rattle.pass_data_type.specs.sql_tree.declared.kinds.StmtKind.TheVariants as stmt
+use Rattle.pass_data_type.specs.sql_tree.declared.nodes.Action.{Action}
+use Rattle.pass_data_type.specs.sql_tree.declared.nodes.Body.{Body}
+use Rattle.pass_data_type.specs.sql_tree.declared.nodes.Body.TheVariants as body
+use Rattle.pass_data_type.specs.sql_tree.declared.nodes.ColType.{ColType}
+use Rattle.pass_data_type.specs.sql_tree.declared.nodes.Column.{Column}
+use Rattle.pass_data_type.specs.sql_tree.declared.nodes.Elem.{Elem}
+use Rattle.pass_data_type.specs.sql_tree.declared.nodes.Elem.TheVariants as elem
+use Rattle.pass_data_type.specs.sql_tree.declared.nodes.Piece.{Piece}
+use Rattle.pass_data_type.specs.sql_tree.declared.nodes.Stmt.{Stmt}
+use Rattle.pass_data_type.specs.sql_tree.Nodes.{actions_in, elements_in}
+use Rattle.pass_data_type.specs.sql_tree.Statement.{Tree}
+use Rattle.law_edit_types.specs.law_renumber.Moved.{span_moved, type_moved, column_moved, elem_moved, piece_moved, action_moved, stmt_moved}
 use Rattle.law_edit_types.specs.Runs.{fused, Worded}
 use Rattle.law_edit_types.specs.Types.{retyped_type, retyped_column}
 use Rattle.law_edit_types.specs.Altered.{ActionNow, IsConstraint, IsRetyped, retyped_action, retyped_in}
@@ -34,8 +34,8 @@ use Rattle.law_edit_types.specs.Created.{TableHead, table_of, retyped_table}
 use Rattle.law_edit_types.proofs.Added.{added_type_reads}
 use Rattle.law_edit_types.proofs.Altered.{set_type_reads}
 use Rattle.law_edit_types.proofs.Created.{created_type_reads}
-use Rattle.lint_node.specs.ColumnTypes.{element_type, added_type, set_type, element_types, piece_types, action_types, column_types}
-use Rattle.lint_node.specs.Same.{same_action, same_kind, same_piece}
+use Rattle.pass_data_type.specs.lint_node.ColumnTypes.{element_type, added_type, set_type, element_types, piece_types, action_types, column_types}
+use Rattle.pass_data_type.specs.lint_node.Same.{same_action, same_kind, same_piece}
 use Rattle.law_type_fixes.specs.Words.{AddsConstraint, AreWord, InnersBecomeWords, TypesNow, WordNow}
 use Rattle.law_type_fixes.specs.Words.AreWord.{path as named, none as gone}
 use Rattle.law_type_fixes.proofs.ColumnTypes.{element_moved, piece_types_moved, added_type_moved, action_types_moved}

@@ -6,14 +6,14 @@ use Rattle.std.specs.Prelude.{◌==◌, ◌&&◌, length, slice_index}
 use Rattle.std.specs.Char.{to_ascii_lowercase}
 use Rattle.std.specs.List.{find}
 use Rattle.std.specs.Str.{bytes_eq}
-use Rattle.sql_keyword.specs.declared.words.Keyword.{Keyword}
-use Rattle.sql_keyword.specs.Find.{keyword_of}
-use Rattle.sql_keyword.specs.Texts.{all_keywords, text}
-use Rattle.sql_token.specs.declared.terminal.Symbol.TheVariants as s
-use Rattle.sql_token.specs.declared.token.TokKind.{TokKind}
-use Rattle.sql_token.specs.declared.token.TokKind.TheVariants as k
-use Rattle.sql_token.specs.Terminal.{symbol_of, number_symbol, operator_symbol, punct_symbol, word_symbol}
-use Rattle.sql_name.specs.Name.{full_name, unquoted}
+use Rattle.pass_data_type.specs.sql_keyword.declared.words.Keyword.{Keyword}
+use Rattle.pass_data_type.specs.sql_keyword.Find.{keyword_of}
+use Rattle.pass_data_type.specs.sql_keyword.Texts.{all_keywords, text}
+use Rattle.pass_data_type.specs.sql_token.declared.terminal.Symbol.TheVariants as s
+use Rattle.pass_data_type.specs.sql_token.declared.token.TokKind.{TokKind}
+use Rattle.pass_data_type.specs.sql_token.declared.token.TokKind.TheVariants as k
+use Rattle.pass_data_type.specs.sql_token.Terminal.{symbol_of, number_symbol, operator_symbol, punct_symbol, word_symbol}
+use Rattle.pass_data_type.specs.sql_name.Name.{full_name, unquoted}
 use Rattle.law_edit_types.specs.Names.{is_key_word}
 
 -- the key word whose text in lower case is l

@@ -1,20 +1,20 @@
 -- Where the last name of a column type becomes a word, and neither is a key word, the statement's types are the old ones.
 use Rattle.std.proofs.Common.{◌≡◌, Bool, true, false, List, ◌++◌, ◌∷◌, refl, sym, ap, ◌∙◌}
 use Rattle.std.specs.Option.{option_to_list}
-use Rattle.sql_token.specs.Token.{text_of}
-use Rattle.sql_tree.specs.declared.kinds.PieceKind.TheVariants as piece
-use Rattle.sql_tree.specs.declared.kinds.StmtKind.TheVariants as stmt
-use Rattle.sql_tree.specs.declared.nodes.ColType.{ColType}
-use Rattle.sql_tree.specs.declared.nodes.Elem.{Elem}
-use Rattle.sql_tree.specs.declared.nodes.Stmt.{Stmt}
-use Rattle.sql_tree.specs.Nodes.{actions_in, elements_in}
-use Rattle.sql_tree.specs.Range.{token_at}
+use Rattle.pass_data_type.specs.sql_token.Token.{text_of}
+use Rattle.pass_data_type.specs.sql_tree.declared.kinds.PieceKind.TheVariants as piece
+use Rattle.pass_data_type.specs.sql_tree.declared.kinds.StmtKind.TheVariants as stmt
+use Rattle.pass_data_type.specs.sql_tree.declared.nodes.ColType.{ColType}
+use Rattle.pass_data_type.specs.sql_tree.declared.nodes.Elem.{Elem}
+use Rattle.pass_data_type.specs.sql_tree.declared.nodes.Stmt.{Stmt}
+use Rattle.pass_data_type.specs.sql_tree.Nodes.{actions_in, elements_in}
+use Rattle.pass_data_type.specs.sql_tree.Range.{token_at}
 use Rattle.law_edit_types.specs.Created.{table_of}
 use Rattle.law_edit_types.specs.Named.{HasType}
 use Rattle.law_edit_types.specs.Named.HasType.{created, added, altered}
 use Rattle.law_edit_types.proofs.Named.{name_reads}
-use Rattle.lint_node.specs.ColumnTypes.{action_types, added_type, column_types, element_type, piece_types, set_type}
-use Rattle.lint_node.specs.Same.{same_kind}
+use Rattle.pass_data_type.specs.lint_node.ColumnTypes.{action_types, added_type, column_types, element_type, piece_types, set_type}
+use Rattle.pass_data_type.specs.lint_node.Same.{same_kind}
 use Rattle.law_type_fixes.specs.Words.{NamesBecomeWords}
 use Rattle.law_type_fixes.proofs.Homes.{Half, half, Home, home, only}
 use Rattle.law_type_fixes.proofs.Homes.Half.{left, right}

@@ -2,28 +2,28 @@
 use Rattle.std.proofs.Common.{◌≡◌, ℕ, zero, suc, ◌-◌, ◌<◌, ◌≤◌, Bool, false, List, [], ◌∷◌, ◌++◌, length, take, refl, Option, Some, None, sym, ap, ◌∙◌, subst, arith}
 use Rattle.std.specs.Prelude.{◌==◌, ◌&&◌}
 use Rattle.std.specs.Option.{option_map, option_to_list}
-use Rattle.sql_keyword.specs.declared.words.Keyword.{Keyword}
-use Rattle.sql_keyword.specs.declared.words.Keyword.TheVariants as k
-use Rattle.sql_keyword.specs.declared.words.Other.TheVariants as others
-use Rattle.sql_keyword.specs.declared.words.TheConstants.Keyword as keyword
-use Rattle.sql_token.specs.declared.token.Span.{Span}
-use Rattle.sql_token.specs.declared.terminal.Symbol.{Symbol}
-use Rattle.sql_token.specs.declared.terminal.Symbol.TheVariants as s
-use Rattle.sql_token.specs.declared.terminal.Terminal.{Terminal}
-use Rattle.sql_token.specs.Depth.{span_of}
-use Rattle.sql_tree.specs.declared.nodes.ColType.{ColType}
-use Rattle.sql_tree.specs.declared.nodes.TyKind.{TyKind}
-use Rattle.sql_tree.specs.declared.nodes.TyKind.TheVariants.{Varchar, Bit, Time, Timestamp, Interval, Path, Double}
-use Rattle.sql_tree.specs.Groups.{path_first}
-use Rattle.sql_tree.specs.Split.{begins_with}
-use Rattle.sql_tree.specs.Statement.{last_of}
-use Rattle.sql_tree.specs.ColumnType.{plain_of, arguments, with_arguments, after_varying, character_kind, character_type, double_type, zone, list_len, maybe_span, time_type, word_type, symbol_type, path_type, plain_type, before_groups, array_of, arrayed, array_by_groups, has_word_array, array_by_word, column_type}
-use Rattle.law_renumber.specs.Moved.{type_moved}
-use Rattle.law_renumber.proofs.Types.{no_type, type_numbers}
-use Rattle.law_renumber.proofs.There.{IfThere, then_there, from_there, either_there, if_there}
-use Rattle.law_renumber.proofs.Ordered.{Numbered, numbered_le}
-use Rattle.law_renumber.proofs.NodeOrder.{Fixes, fixed, take_numbered}
-use Rattle.law_edit_inserts.proofs.TakenConcurrently.{last_after}
+use Rattle.pass_data_type.specs.sql_keyword.declared.words.Keyword.{Keyword}
+use Rattle.pass_data_type.specs.sql_keyword.declared.words.Keyword.TheVariants as k
+use Rattle.pass_data_type.specs.sql_keyword.declared.words.Other.TheVariants as others
+use Rattle.pass_data_type.specs.sql_keyword.declared.words.TheConstants.Keyword as keyword
+use Rattle.pass_data_type.specs.sql_token.declared.token.Span.{Span}
+use Rattle.pass_data_type.specs.sql_token.declared.terminal.Symbol.{Symbol}
+use Rattle.pass_data_type.specs.sql_token.declared.terminal.Symbol.TheVariants as s
+use Rattle.pass_data_type.specs.sql_token.declared.terminal.Terminal.{Terminal}
+use Rattle.pass_data_type.specs.sql_token.Depth.{span_of}
+use Rattle.pass_data_type.specs.sql_tree.declared.nodes.ColType.{ColType}
+use Rattle.pass_data_type.specs.sql_tree.declared.nodes.TyKind.{TyKind}
+use Rattle.pass_data_type.specs.sql_tree.declared.nodes.TyKind.TheVariants.{Varchar, Bit, Time, Timestamp, Interval, Path, Double}
+use Rattle.pass_data_type.specs.sql_tree.Groups.{path_first}
+use Rattle.pass_data_type.specs.sql_tree.Split.{begins_with}
+use Rattle.pass_data_type.specs.sql_tree.Statement.{last_of}
+use Rattle.pass_data_type.specs.sql_tree.ColumnType.{plain_of, arguments, with_arguments, after_varying, character_kind, character_type, double_type, zone, list_len, maybe_span, time_type, word_type, symbol_type, path_type, plain_type, before_groups, array_of, arrayed, array_by_groups, has_word_array, array_by_word, column_type}
+use Rattle.law_edit_types.specs.law_renumber.Moved.{type_moved}
+use Rattle.law_edit_types.proofs.of_law_renumber.Types.{no_type, type_numbers}
+use Rattle.law_edit_types.proofs.of_law_renumber.There.{IfThere, then_there, from_there, either_there, if_there}
+use Rattle.law_edit_types.proofs.of_law_renumber.Ordered.{Numbered, numbered_le}
+use Rattle.law_edit_types.proofs.of_law_renumber.NodeOrder.{Fixes, fixed, take_numbered}
+use Rattle.law_edit_types.proofs.of_law_edit_inserts.TakenConcurrently.{last_after}
 use Rattle.law_type_fixes.proofs.Walk.{Walks}
 use Rattle.law_edit_types.proofs.TypeParts.{some_type}
 

@@ -5,25 +5,25 @@ use Rattle.std.proofs.lemmas.Bool.Decides.{nat_tests}
 use Rattle.std.proofs.lemmas.List.{length-map, map-append}
 use Rattle.std.proofs.lemmas.List.Elements.{All-append, All-cons, All-head, All-nil, All-tail}
 use Rattle.std.specs.Prelude.{◌==◌, All}
-use Rattle.sql_token.specs.Token.{Text}
-use Rattle.sql_name.specs.Name.{full_name}
-use Rattle.sql_tree.specs.declared.nodes.ColType.{ColType}
-use Rattle.sql_tree.specs.declared.nodes.Stmt.{Stmt}
-use Rattle.sql_tree.specs.Range.{token_at}
-use Rattle.sql_tree.specs.Statement.{Tree}
-use Rattle.law_renumber.specs.Moved.{type_moved, stmt_moved}
-use Rattle.law_edit_inserts.specs.Apart.{outside, Apart}
-use Rattle.law_edit_inserts.proofs.Apart.{stays_within, statements_apart}
+use Rattle.pass_data_type.specs.sql_token.Token.{Text}
+use Rattle.pass_data_type.specs.sql_name.Name.{full_name}
+use Rattle.pass_data_type.specs.sql_tree.declared.nodes.ColType.{ColType}
+use Rattle.pass_data_type.specs.sql_tree.declared.nodes.Stmt.{Stmt}
+use Rattle.pass_data_type.specs.sql_tree.Range.{token_at}
+use Rattle.pass_data_type.specs.sql_tree.Statement.{Tree}
+use Rattle.law_edit_types.specs.law_renumber.Moved.{type_moved, stmt_moved}
+use Rattle.law_edit_types.specs.law_edit_inserts.Apart.{outside, Apart}
+use Rattle.law_edit_types.proofs.of_law_edit_inserts.Apart.{stays_within, statements_apart}
 use Rattle.law_edit_types.specs.Runs.{fused, worded_tree}
-use Rattle.lint_base.specs.declared.settings.LinterSettings.{LinterSettings}
-use Rattle.lint_base.specs.declared.violation.Violation.{Violation}
-use Rattle.lint_base.specs.RuleSets.{Rules, has}
-use Rattle.lint_node.specs.ColumnTypes.{column_types}
-use Rattle.lint_pass.specs.RuleLaws.{pieces_all}
-use Rattle.lint_pass.specs.RuleTables.{enabled_reports}
-use Rattle.lint_pass.specs.Those.{that}
-use Rattle.lint_transaction.specs.Earlier.{concat_below}
-use Rattle.lint_transaction.specs.Transaction.{no_stmt, stmt_at}
+use Rattle.pass_data_type.specs.lint_base.declared.settings.LinterSettings.{LinterSettings}
+use Rattle.pass_data_type.specs.lint_base.declared.violation.Violation.{Violation}
+use Rattle.pass_data_type.specs.lint_base.RuleSets.{Rules, has}
+use Rattle.pass_data_type.specs.lint_node.ColumnTypes.{column_types}
+use Rattle.pass_data_type.specs.lint_pass.RuleLaws.{pieces_all}
+use Rattle.pass_data_type.specs.lint_pass.RuleTables.{enabled_reports}
+use Rattle.pass_data_type.specs.lint_pass.Those.{that}
+use Rattle.pass_data_type.specs.lint_transaction.Earlier.{concat_below}
+use Rattle.pass_data_type.specs.lint_transaction.Transaction.{no_stmt, stmt_at}
 use Rattle.law_fixes.proofs.Tokens.{starts_ascend}
 use Rattle.law_type_fixes.specs.Apart.{TypeApart}
 use Rattle.law_type_fixes.specs.Moved.{Replaced, byte_moved, report_moved}
@@ -31,7 +31,7 @@ use Rattle.law_type_fixes.specs.Rules.{TypeRule, reports_on, type_reports, type_
 use Rattle.law_type_fixes.specs.Stays.{IsRun, replaced, but_type, Exchanged, TypesStay, TypesSilent}
 use Rattle.law_type_fixes.specs.Stays.IsRun.{inner, name}
 use Rattle.law_type_fixes.proofs.ColumnTypes.{types_moved, no_types}
-use Rattle.law_type_fixes.proofs.Reports.{Stays, IsTypeRule}
+use Rattle.law_type_fixes.proofs.TypeReports.{Stays, IsTypeRule}
 use Rattle.law_type_fixes.proofs.Tokens.{bounds, same_text, same_range, high_token, place_low, place_high}
 use Rattle.law_type_fixes.proofs.TypesApart.{types_apart}
 

@@ -4,13 +4,13 @@ use Rattle.std.proofs.lemmas.Bool.{cases_lt}
 use Rattle.std.proofs.lemmas.Bool.Decides.{nat_tests}
 use Rattle.std.proofs.lemmas.List.{length-take-le, get_or_append_left, get_or-append_right, get_or-take, get_or-drop, get_or-map}
 use Rattle.std.proofs.Math.Seq.{take-append_seam}
-use Rattle.sql_token.specs.declared.token.Tok.{Tok}
-use Rattle.sql_token.specs.declared.token.TokKind.TheVariants.{Word}
-use Rattle.sql_token.specs.Token.{Text, Lexed, text_of}
-use Rattle.sql_tree.specs.Range.{token_at, span_range_of}
-use Rattle.sql_tree.specs.Statement.{no_token}
-use Rattle.law_edit_tokens.specs.Exchange.{exchanged, tok_moved, made_text, made_toks, reread}
-use Rattle.law_edit_tokens.proofs.After.{exchanged_after, exchanged_agrees, exchanged_at}
+use Rattle.pass_data_type.specs.sql_token.declared.token.Tok.{Tok}
+use Rattle.pass_data_type.specs.sql_token.declared.token.TokKind.TheVariants.{Word}
+use Rattle.pass_data_type.specs.sql_token.Token.{Text, Lexed, text_of}
+use Rattle.pass_data_type.specs.sql_tree.Range.{token_at, span_range_of}
+use Rattle.pass_data_type.specs.sql_tree.Statement.{no_token}
+use Rattle.law_edit_types.specs.law_edit_tokens.Exchange.{exchanged, tok_moved, made_text, made_toks, reread}
+use Rattle.law_edit_types.proofs.of_law_edit_tokens.After.{exchanged_after, exchanged_agrees, exchanged_at}
 use Rattle.law_edit_types.specs.Runs.{fused, word_made}
 use Rattle.law_fixes.proofs.Tokens.{placed, ordered, text_prefix, text_after}
 use Rattle.law_type_fixes.specs.Moved.{Replaced, byte_moved, range_moved}

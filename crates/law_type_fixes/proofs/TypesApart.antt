@@ -1,25 +1,25 @@
 -- The numbers that a column type holds are those of its own tokens.
 use Rattle.std.proofs.Common.{◌≡◌, ℕ, suc, ◌+◌, ◌≤◌, Bool, true, false, cond, List, [], ◌∷◌, ◌++◌, map, length, refl, Option, Ok, sym, ap, ◌∙◌, subst, arith}
-use Rattle.sql_token.specs.declared.token.Tok.{Tok}
-use Rattle.sql_token.specs.declared.terminal.Terminal.{Terminal}
-use Rattle.sql_token.specs.Token.{Text, text_of}
-use Rattle.sql_token.specs.Terminal.{is_significant, symbol_of, terminals, terminals_from}
-use Rattle.sql_token.specs.Depth.{statements}
-use Rattle.sql_tree.specs.declared.nodes.ColType.{ColType}
-use Rattle.sql_tree.specs.declared.nodes.Stmt.{Stmt}
-use Rattle.sql_tree.specs.Nodes.{types_in}
-use Rattle.sql_tree.specs.Statement.{Tree}
-use Rattle.law_renumber.specs.Moved.{type_moved}
-use Rattle.law_renumber.proofs.There.{IfThere}
-use Rattle.law_renumber.proofs.Ordered.{Numbered, numbered_le, numbered_lower}
-use Rattle.law_edit_cuts.specs.Exchanges.{joined}
-use Rattle.law_edit_inserts.specs.Apart.{outside}
-use Rattle.law_edit_inserts.proofs.Statements.{of_read, statements_join, joined_append, stmt_at_place}
+use Rattle.pass_data_type.specs.sql_token.declared.token.Tok.{Tok}
+use Rattle.pass_data_type.specs.sql_token.declared.terminal.Terminal.{Terminal}
+use Rattle.pass_data_type.specs.sql_token.Token.{Text, text_of}
+use Rattle.pass_data_type.specs.sql_token.Terminal.{is_significant, symbol_of, terminals, terminals_from}
+use Rattle.pass_data_type.specs.sql_token.Depth.{statements}
+use Rattle.pass_data_type.specs.sql_tree.declared.nodes.ColType.{ColType}
+use Rattle.pass_data_type.specs.sql_tree.declared.nodes.Stmt.{Stmt}
+use Rattle.pass_data_type.specs.sql_tree.Nodes.{types_in}
+use Rattle.pass_data_type.specs.sql_tree.Statement.{Tree}
+use Rattle.law_edit_types.specs.law_renumber.Moved.{type_moved}
+use Rattle.law_edit_types.proofs.of_law_renumber.There.{IfThere}
+use Rattle.law_edit_types.proofs.of_law_renumber.Ordered.{Numbered, numbered_le, numbered_lower}
+use Rattle.law_edit_types.specs.law_edit_cuts.Exchanges.{joined}
+use Rattle.law_edit_types.specs.law_edit_inserts.Apart.{outside}
+use Rattle.law_edit_types.proofs.of_law_edit_inserts.Statements.{of_read, statements_join, joined_append, stmt_at_place}
 use Rattle.law_type_fixes.specs.Apart.{TypeApart, TypesApart}
 use Rattle.law_type_fixes.proofs.Bodies.{statement_walk}
 use Rattle.law_type_fixes.proofs.ColumnTypes.{types_ranged}
 use Rattle.law_type_fixes.proofs.Ranged.{Within, Ranged, walk_ranged, ranged_le, ranged_parts}
-use Rattle.law_edit_inserts.proofs.Apart.{stays}
+use Rattle.law_edit_types.proofs.of_law_edit_inserts.Apart.{stays}
 
 -- ---- the numbers of terminals ascend
 

@@ -4,35 +4,35 @@ use Rattle.std.proofs.Common.{ℕ, zero, suc, ◌-◌, ◌≤◌, ◌≡◌, Boo
 use Rattle.std.specs.Prelude.{if◌then◌else◌}
 use Rattle.std.specs.List.{flat_map}
 use Rattle.std.specs.Option.{option_and_then, option_to_list}
-use Rattle.sql_keyword.specs.declared.words.TheConstants.Keyword as keyword
-use Rattle.sql_token.specs.declared.terminal.Terminal.{Terminal}
-use Rattle.sql_token.specs.Terminal.{is_name}
-use Rattle.sql_tree.specs.declared.actions.PieceList.{PieceList}
-use Rattle.sql_tree.specs.declared.actions.PieceList.TheVariants as lists
-use Rattle.sql_tree.specs.declared.actions.TheConstants.{OPTIONS, OTHER, COLUMN_OPTION, OTHER_OPTION, ATTRIBUTE}
-use Rattle.sql_tree.specs.declared.kinds.ActionKind.{ActionKind}
-use Rattle.sql_tree.specs.declared.kinds.ActionKind.TheVariants as a
-use Rattle.sql_tree.specs.declared.kinds.PieceKind.{PieceKind}
-use Rattle.sql_tree.specs.declared.kinds.PieceKind.TheVariants as p
-use Rattle.sql_tree.specs.declared.kinds.StmtKind.{StmtKind}
-use Rattle.sql_tree.specs.declared.kinds.StmtKind.TheVariants as stmt
-use Rattle.sql_tree.specs.declared.nodes.Action.{Action}
-use Rattle.sql_tree.specs.declared.nodes.ColType.{ColType}
-use Rattle.sql_tree.specs.declared.nodes.Constraint.{Constraint}
-use Rattle.sql_tree.specs.declared.nodes.Piece.{Piece}
-use Rattle.sql_tree.specs.Action as act
-use Rattle.sql_tree.specs.ActionPieces as piece
-use Rattle.sql_tree.specs.ActionRows.{first_rows_at, own_rows, general_rows_at}
-use Rattle.sql_tree.specs.Column.{type_in, column_with, column, element, elements}
-use Rattle.sql_tree.specs.ColumnType.{type_len, column_type}
-use Rattle.sql_tree.specs.Constraint.{after_two, table_constraint, column_constraints}
-use Rattle.sql_tree.specs.Forms.{State, ActionRow, after_word, first_whole}
-use Rattle.sql_tree.specs.Nodes.{element_types, action_types}
-use Rattle.sql_tree.specs.Split.{all_of, and_others, chunks, chunks_after, comma, split}
-use Rattle.law_renumber.proofs.There.{IfThere, then_there, from_there, either_there, if_there}
-use Rattle.law_renumber.proofs.Ordered.{Numbered, numbered_le, numbered_lower, LeftOf, word_left, whole_left}
-use Rattle.law_renumber.proofs.NodeOrder.{Sliced, split_sliced, take_numbered}
-use Rattle.law_renumber.proofs.ElementOrder.{element_is, elements_are}
+use Rattle.pass_data_type.specs.sql_keyword.declared.words.TheConstants.Keyword as keyword
+use Rattle.pass_data_type.specs.sql_token.declared.terminal.Terminal.{Terminal}
+use Rattle.pass_data_type.specs.sql_token.Terminal.{is_name}
+use Rattle.pass_data_type.specs.sql_tree.declared.actions.PieceList.{PieceList}
+use Rattle.pass_data_type.specs.sql_tree.declared.actions.PieceList.TheVariants as lists
+use Rattle.pass_data_type.specs.sql_tree.declared.actions.TheConstants.{OPTIONS, OTHER, COLUMN_OPTION, OTHER_OPTION, ATTRIBUTE}
+use Rattle.pass_data_type.specs.sql_tree.declared.kinds.ActionKind.{ActionKind}
+use Rattle.pass_data_type.specs.sql_tree.declared.kinds.ActionKind.TheVariants as a
+use Rattle.pass_data_type.specs.sql_tree.declared.kinds.PieceKind.{PieceKind}
+use Rattle.pass_data_type.specs.sql_tree.declared.kinds.PieceKind.TheVariants as p
+use Rattle.pass_data_type.specs.sql_tree.declared.kinds.StmtKind.{StmtKind}
+use Rattle.pass_data_type.specs.sql_tree.declared.kinds.StmtKind.TheVariants as stmt
+use Rattle.pass_data_type.specs.sql_tree.declared.nodes.Action.{Action}
+use Rattle.pass_data_type.specs.sql_tree.declared.nodes.ColType.{ColType}
+use Rattle.pass_data_type.specs.sql_tree.declared.nodes.Constraint.{Constraint}
+use Rattle.pass_data_type.specs.sql_tree.declared.nodes.Piece.{Piece}
+use Rattle.pass_data_type.specs.sql_tree.Action as act
+use Rattle.pass_data_type.specs.sql_tree.ActionPieces as piece
+use Rattle.pass_data_type.specs.sql_tree.ActionRows.{first_rows_at, own_rows, general_rows_at}
+use Rattle.pass_data_type.specs.sql_tree.Column.{type_in, column_with, column, element, elements}
+use Rattle.pass_data_type.specs.sql_tree.ColumnType.{type_len, column_type}
+use Rattle.pass_data_type.specs.sql_tree.Constraint.{after_two, table_constraint, column_constraints}
+use Rattle.pass_data_type.specs.sql_tree.Forms.{State, ActionRow, after_word, first_whole}
+use Rattle.pass_data_type.specs.sql_tree.Nodes.{element_types, action_types}
+use Rattle.pass_data_type.specs.sql_tree.Split.{all_of, and_others, chunks, chunks_after, comma, split}
+use Rattle.law_edit_types.proofs.of_law_renumber.There.{IfThere, then_there, from_there, either_there, if_there}
+use Rattle.law_edit_types.proofs.of_law_renumber.Ordered.{Numbered, numbered_le, numbered_lower, LeftOf, word_left, whole_left}
+use Rattle.law_edit_types.proofs.of_law_renumber.NodeOrder.{Sliced, split_sliced, take_numbered}
+use Rattle.law_edit_types.proofs.of_law_renumber.ElementOrder.{element_is, elements_are}
 
 -- ---- chunks of ascending terminals
 

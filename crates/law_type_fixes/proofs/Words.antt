@@ -7,29 +7,29 @@ use Rattle.std.specs.List.{find}
 use Rattle.std.specs.Option.{option_map, unwrap_or}
 use Rattle.std.specs.Str.{bytes_eq}
 use denote.Enum.Bare.{same_true}
-use Rattle.sql_keyword.specs.Find.{keyword_of}
-use Rattle.sql_keyword.specs.Texts.{all_keywords, text}
-use Rattle.sql_token.specs.declared.token.Span.{Span}
-use Rattle.sql_token.specs.declared.terminal.Symbol.TheVariants as s
-use Rattle.sql_token.specs.declared.token.TokKind.TheVariants.{Word}
-use Rattle.sql_token.specs.Terminal.{symbol_of}
-use Rattle.sql_token.specs.Token.{Text}
-use Rattle.sql_name.specs.Name.{full_name}
-use Rattle.sql_tree.specs.contracts.nodes.TyKind as kinds
-use Rattle.sql_tree.specs.declared.nodes.ColType.{ColType}
-use Rattle.sql_tree.specs.declared.nodes.TyKind.{TyKind}
-use Rattle.sql_tree.specs.declared.nodes.TyKind.TheVariants as kind
-use Rattle.sql_tree.specs.Range.{span_range_of}
-use Rattle.sql_tree.specs.Statement.{Tree}
+use Rattle.pass_data_type.specs.sql_keyword.Find.{keyword_of}
+use Rattle.pass_data_type.specs.sql_keyword.Texts.{all_keywords, text}
+use Rattle.pass_data_type.specs.sql_token.declared.token.Span.{Span}
+use Rattle.pass_data_type.specs.sql_token.declared.terminal.Symbol.TheVariants as s
+use Rattle.pass_data_type.specs.sql_token.declared.token.TokKind.TheVariants.{Word}
+use Rattle.pass_data_type.specs.sql_token.Terminal.{symbol_of}
+use Rattle.pass_data_type.specs.sql_token.Token.{Text}
+use Rattle.pass_data_type.specs.sql_name.Name.{full_name}
+use Rattle.pass_data_type.specs.sql_tree.contracts.nodes.TyKind as kinds
+use Rattle.pass_data_type.specs.sql_tree.declared.nodes.ColType.{ColType}
+use Rattle.pass_data_type.specs.sql_tree.declared.nodes.TyKind.{TyKind}
+use Rattle.pass_data_type.specs.sql_tree.declared.nodes.TyKind.TheVariants as kind
+use Rattle.pass_data_type.specs.sql_tree.Range.{span_range_of}
+use Rattle.pass_data_type.specs.sql_tree.Statement.{Tree}
 use Rattle.law_edit_types.specs.Runs.{IsTypeName, IsTypeSymbol}
 use Rattle.law_edit_types.specs.Runs.IsTypeSymbol.{plain, text as named}
 use Rattle.law_edit_types.specs.Types.{is_replaced, is_replaced_by}
-use Rattle.lint_base.specs.Edits.{replacement}
-use Rattle.lint_base.specs.Fixes.{FixValue}
-use Rattle.lint_node.specs.ColumnTypes.{has_arguments, is_of_kind, is_without_zone}
-use Rattle.lint_node.specs.Same.{same_type}
-use Rattle.lint_pass.specs.Fixes.{replacement_fix}
-use Rattle.lint_transaction.specs.Names.{name_at}
+use Rattle.pass_data_type.specs.lint_base.Edits.{replacement}
+use Rattle.pass_data_type.specs.lint_base.Fixes.{FixValue}
+use Rattle.pass_data_type.specs.lint_node.ColumnTypes.{has_arguments, is_of_kind, is_without_zone}
+use Rattle.pass_data_type.specs.lint_node.Same.{same_type}
+use Rattle.pass_data_type.specs.lint_pass.Fixes.{replacement_fix}
+use Rattle.pass_data_type.specs.lint_transaction.Names.{name_at}
 use Rattle.pass_data_type.specs.declared.wider_integers.WideInteger.{WideInteger}
 use Rattle.pass_data_type.specs.declared.wider_integers.WideInteger.TheVariants as wide
 use Rattle.pass_data_type.specs.PreferTextField as varchar

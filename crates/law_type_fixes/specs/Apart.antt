@@ -1,11 +1,11 @@
 -- The numbers that a column type of a statement holds are those of its own tokens.
 use Rattle.std.specs.Prelude.{◌≡◌, ◌≤◌, ℕ, List, ◌∷◌, ◌++◌, map, length}
-use Rattle.sql_tree.specs.declared.nodes.ColType.{ColType}
-use Rattle.sql_tree.specs.declared.nodes.Stmt.{Stmt}
-use Rattle.sql_tree.specs.Statement.{Tree, IsTree}
-use Rattle.law_renumber.specs.Moved.{type_moved}
-use Rattle.law_edit_inserts.specs.Apart.{outside}
-use Rattle.lint_node.specs.ColumnTypes.{column_types}
+use Rattle.pass_data_type.specs.sql_tree.declared.nodes.ColType.{ColType}
+use Rattle.pass_data_type.specs.sql_tree.declared.nodes.Stmt.{Stmt}
+use Rattle.pass_data_type.specs.sql_tree.Statement.{Tree, IsTree}
+use Rattle.law_edit_types.specs.law_renumber.Moved.{type_moved}
+use Rattle.law_edit_types.specs.law_edit_inserts.Apart.{outside}
+use Rattle.pass_data_type.specs.lint_node.ColumnTypes.{column_types}
 
 -- The types before ty, ty, and those after it: each group stays where all numbers but those of its own tokens change. The first
 -- token of ty is the lowest of its numbers, and its inner type runs forward.

@@ -1,17 +1,17 @@
 -- The law of the fixes that make a word of a column type.
 use Rattle.std.specs.Prelude.{◌≡◌, ◌<◌, ◌≤◌, ℕ, ◌+◌, ◌-◌, ◌^◌, false, List, [], ◌∷◌, drop, length, slice_index, take, All, Some}
-use Rattle.sql_token.specs.declared.token.Tok.{Tok}
-use Rattle.sql_token.specs.Token.{Text, is_word}
-use Rattle.sql_tree.specs.Range.{token_at}
-use Rattle.sql_tree.specs.Statement.{Tree, IsTree}
-use Rattle.law_edit_tokens.specs.Exchange.{made_text, made_toks, reread}
+use Rattle.pass_data_type.specs.sql_token.declared.token.Tok.{Tok}
+use Rattle.pass_data_type.specs.sql_token.Token.{Text, is_word}
+use Rattle.pass_data_type.specs.sql_tree.Range.{token_at}
+use Rattle.pass_data_type.specs.sql_tree.Statement.{Tree, IsTree}
+use Rattle.law_edit_types.specs.law_edit_tokens.Exchange.{made_text, made_toks, reread}
 use Rattle.law_edit_types.specs.Runs.{RunReplaced, word_made}
-use Rattle.lint_base.specs.declared.edit.Edit.{Edit}
-use Rattle.lint_base.specs.declared.settings.LinterSettings.{LinterSettings}
-use Rattle.lint_base.specs.declared.violation.Violation.{Violation}
-use Rattle.lint_base.specs.Edits.{replacement}
-use Rattle.lint_base.specs.Fixes.{FixValue}
-use Rattle.lint_base.specs.RuleSets.{Rules}
+use Rattle.pass_data_type.specs.lint_base.declared.edit.Edit.{Edit}
+use Rattle.pass_data_type.specs.lint_base.declared.settings.LinterSettings.{LinterSettings}
+use Rattle.pass_data_type.specs.lint_base.declared.violation.Violation.{Violation}
+use Rattle.pass_data_type.specs.lint_base.Edits.{replacement}
+use Rattle.pass_data_type.specs.lint_base.Fixes.{FixValue}
+use Rattle.pass_data_type.specs.lint_base.RuleSets.{Rules}
 use Rattle.law_fixes.specs.Edited.{edited}
 use Rattle.law_fixes.specs.Mended.{Table, Mended}
 

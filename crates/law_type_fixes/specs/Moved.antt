@@ -1,10 +1,10 @@
 -- Places and reports where bytes were replaced by others.
 use Rattle.std.specs.Prelude.{ℕ, ◌+◌, ◌-◌, nat_lt, if◌then◌else◌, map}
 use Rattle.std.specs.Option.{option_map}
-use Rattle.text_pos.specs.Range.{Range}
-use Rattle.lint_base.specs.declared.edit.Edit.{Edit}
-use Rattle.lint_base.specs.declared.violation.Violation.{Violation}
-use Rattle.lint_base.specs.Fixes.{FixValue}
+use Rattle.pass_data_type.specs.text_pos.Range.{Range}
+use Rattle.pass_data_type.specs.lint_base.declared.edit.Edit.{Edit}
+use Rattle.pass_data_type.specs.lint_base.declared.violation.Violation.{Violation}
+use Rattle.pass_data_type.specs.lint_base.Fixes.{FixValue}
 
 -- The bytes from one place to before another became others, of this number.
 pub record Replaced : Type 0 where

@@ -1,13 +1,13 @@
 -- Four of the rules on column types that have a fix, as tables.
 use Rattle.std.specs.Prelude.{◌≡◌, Bool, List}
-use Rattle.sql_tree.specs.declared.nodes.ColType.{ColType}
-use Rattle.sql_tree.specs.declared.nodes.Stmt.{Stmt}
-use Rattle.sql_tree.specs.Statement.{Tree}
-use Rattle.lint_base.specs.declared.rule.Rule.{Rule}
-use Rattle.lint_base.specs.declared.rule.Rule.TheVariants as rule
-use Rattle.lint_base.specs.declared.violation.Violation.{Violation}
-use Rattle.lint_node.specs.ColumnTypes.{column_types}
-use Rattle.lint_pass.specs.Those.{those}
+use Rattle.pass_data_type.specs.sql_tree.declared.nodes.ColType.{ColType}
+use Rattle.pass_data_type.specs.sql_tree.declared.nodes.Stmt.{Stmt}
+use Rattle.pass_data_type.specs.sql_tree.Statement.{Tree}
+use Rattle.pass_data_type.specs.lint_base.declared.rule.Rule.{Rule}
+use Rattle.pass_data_type.specs.lint_base.declared.rule.Rule.TheVariants as rule
+use Rattle.pass_data_type.specs.lint_base.declared.violation.Violation.{Violation}
+use Rattle.pass_data_type.specs.lint_node.ColumnTypes.{column_types}
+use Rattle.pass_data_type.specs.lint_pass.Those.{those}
 use Rattle.pass_data_type.specs.PreferTextField as varchar
 use Rattle.pass_data_type.specs.PreferTimestamptz as timestamp
 use Rattle.pass_data_type.specs.WiderIntegers as integer

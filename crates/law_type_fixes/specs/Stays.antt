@@ -1,20 +1,20 @@
 -- Both directions: what is reported of a text in which tokens of a column type became a word is what was reported before, moved,
 -- but for the reports on that type.
 use Rattle.std.specs.Prelude.{◌≡◌, ◌≢◌, ◌<◌, ℕ, ◌==◌, false, if◌then◌else◌, List, ◌∷◌, ◌++◌, map, length, All}
-use Rattle.sql_token.specs.Token.{Text}
-use Rattle.sql_tree.specs.declared.nodes.ColType.{ColType}
-use Rattle.sql_tree.specs.declared.nodes.Stmt.{Stmt}
-use Rattle.sql_tree.specs.Range.{token_at}
-use Rattle.sql_tree.specs.Statement.{Tree, IsTree}
-use Rattle.law_renumber.specs.Moved.{type_moved}
+use Rattle.pass_data_type.specs.sql_token.Token.{Text}
+use Rattle.pass_data_type.specs.sql_tree.declared.nodes.ColType.{ColType}
+use Rattle.pass_data_type.specs.sql_tree.declared.nodes.Stmt.{Stmt}
+use Rattle.pass_data_type.specs.sql_tree.Range.{token_at}
+use Rattle.pass_data_type.specs.sql_tree.Statement.{Tree, IsTree}
+use Rattle.law_edit_types.specs.law_renumber.Moved.{type_moved}
 use Rattle.law_edit_types.specs.Runs.{fused, worded_tree}
-use Rattle.lint_base.specs.declared.settings.LinterSettings.{LinterSettings}
-use Rattle.lint_base.specs.declared.violation.Violation.{Violation}
-use Rattle.lint_base.specs.RuleSets.{Rules}
-use Rattle.lint_node.specs.ColumnTypes.{column_types}
-use Rattle.lint_pass.specs.RuleTables.{enabled_reports}
-use Rattle.lint_transaction.specs.Earlier.{concat_below}
-use Rattle.lint_transaction.specs.Transaction.{stmt_at}
+use Rattle.pass_data_type.specs.lint_base.declared.settings.LinterSettings.{LinterSettings}
+use Rattle.pass_data_type.specs.lint_base.declared.violation.Violation.{Violation}
+use Rattle.pass_data_type.specs.lint_base.RuleSets.{Rules}
+use Rattle.pass_data_type.specs.lint_node.ColumnTypes.{column_types}
+use Rattle.pass_data_type.specs.lint_pass.RuleTables.{enabled_reports}
+use Rattle.pass_data_type.specs.lint_transaction.Earlier.{concat_below}
+use Rattle.pass_data_type.specs.lint_transaction.Transaction.{stmt_at}
 use Rattle.law_type_fixes.specs.Moved.{Replaced, byte_moved, report_moved}
 use Rattle.law_type_fixes.specs.Rules.{TypeRule, reports_on, type_table}
 

@@ -1,25 +1,25 @@
 -- What the law of fixes on column types needs of reading: which types a statement has where the tokens of one of them became a word.
 use Rattle.std.specs.Prelude.{◌≡◌, ◌<◌, ℕ, ◌^◌, true, List, [], ◌∷◌, ◌++◌, map, length, Option, Some, None}
-use Rattle.sql_keyword.specs.Find.{keyword_of}
-use Rattle.sql_token.specs.declared.terminal.Symbol.TheVariants as s
-use Rattle.sql_token.specs.declared.token.Span.{Span}
-use Rattle.sql_token.specs.declared.token.TokKind.TheVariants.{Word}
-use Rattle.sql_token.specs.Terminal.{symbol_of}
-use Rattle.sql_token.specs.Token.{Text}
-use Rattle.sql_tree.specs.declared.kinds.StmtKind.TheVariants as stmt
-use Rattle.sql_tree.specs.declared.nodes.Action.{Action}
-use Rattle.sql_tree.specs.declared.nodes.Body.TheVariants as body
-use Rattle.sql_tree.specs.declared.nodes.ColType.{ColType}
-use Rattle.sql_tree.specs.declared.nodes.Column.{Column}
-use Rattle.sql_tree.specs.declared.nodes.Stmt.{Stmt}
-use Rattle.sql_tree.specs.declared.nodes.TyKind.TheVariants as kind
-use Rattle.sql_tree.specs.Statement.{Tree, IsTree}
-use Rattle.law_renumber.specs.Moved.{action_moved, stmt_moved, type_moved}
+use Rattle.pass_data_type.specs.sql_keyword.Find.{keyword_of}
+use Rattle.pass_data_type.specs.sql_token.declared.terminal.Symbol.TheVariants as s
+use Rattle.pass_data_type.specs.sql_token.declared.token.Span.{Span}
+use Rattle.pass_data_type.specs.sql_token.declared.token.TokKind.TheVariants.{Word}
+use Rattle.pass_data_type.specs.sql_token.Terminal.{symbol_of}
+use Rattle.pass_data_type.specs.sql_token.Token.{Text}
+use Rattle.pass_data_type.specs.sql_tree.declared.kinds.StmtKind.TheVariants as stmt
+use Rattle.pass_data_type.specs.sql_tree.declared.nodes.Action.{Action}
+use Rattle.pass_data_type.specs.sql_tree.declared.nodes.Body.TheVariants as body
+use Rattle.pass_data_type.specs.sql_tree.declared.nodes.ColType.{ColType}
+use Rattle.pass_data_type.specs.sql_tree.declared.nodes.Column.{Column}
+use Rattle.pass_data_type.specs.sql_tree.declared.nodes.Stmt.{Stmt}
+use Rattle.pass_data_type.specs.sql_tree.declared.nodes.TyKind.TheVariants as kind
+use Rattle.pass_data_type.specs.sql_tree.Statement.{Tree, IsTree}
+use Rattle.law_edit_types.specs.law_renumber.Moved.{action_moved, stmt_moved, type_moved}
 use Rattle.law_edit_types.specs.Altered.{ActionNow, IsConstraint}
 use Rattle.law_edit_types.specs.Runs.{fused, worded_text, IsTypeName, IsApart, Worded}
 use Rattle.law_edit_types.specs.Types.{is_replaced}
-use Rattle.lint_node.specs.ColumnTypes.{column_types}
-use Rattle.lint_transaction.specs.Names.{name_at}
+use Rattle.pass_data_type.specs.lint_node.ColumnTypes.{column_types}
+use Rattle.pass_data_type.specs.lint_transaction.Names.{name_at}
 
 -- What is in the place of a type whose inner tokens became the word n: a path of that one name, without arguments. Or nothing,
 -- if `Gone` says why.

@@ -5,6 +5,7 @@ ghost use Rattle.pass_data_type.specs.PreferTimestamptz as timestamp;
 ghost use Rattle.pass_data_type.specs.WiderIntegers as integer;
 ghost use Rattle.law_type_fixes.specs.Apart.{TypesApart};
 ghost use Rattle.law_type_fixes.specs.Mended.{TypeFixesMend};
+ghost use Rattle.law_type_fixes.specs.Moves.{StatementsMove};
 ghost use Rattle.law_type_fixes.specs.Rules as rule;
 ghost use Rattle.law_type_fixes.specs.Rules.{IsOfPass};
 ghost use Rattle.law_type_fixes.specs.Stays.{TypesSilent, TypesStay};
@@ -57,4 +58,10 @@ pub fn fixes_mend()
     ensures timestamps { TypeFixesMend (rule.type_table rule.timestamps) }
     ensures ints { TypeFixesMend (rule.type_table rule.ints) }
     ensures smallints { TypeFixesMend (rule.type_table rule.smallints) }
+{}
+
+/// A statement under other numbers of its tokens begins, ends and chains a transaction where it did, creates the table of the same
+/// path, and has the same column types, with their numbers changed alike.
+pub fn statements_move()
+    ensures { StatementsMove }
 {}

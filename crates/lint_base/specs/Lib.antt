@@ -13,3 +13,4 @@ pub mod Rules
 pub mod Settings
 pub mod TextBytes
 pub mod Violations
+pub use Rattle.text_pos.specs as text_pos

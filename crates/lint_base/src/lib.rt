@@ -29,3 +29,6 @@ pub use rule_set::{RuleSet, RuleSetIter};
 pub use settings::LinterSettings;
 pub use text::Text;
 pub use violation::Violation;
+
+// What crates above reach through this one.
+pub use text_pos::{LineIndex, NoMemory, TextRange, TextSize, line_ending};

@@ -6,8 +6,8 @@ use Rattle.std.proofs.lemmas.List.{take_more}
 use Rattle.std.proofs.lemmas.List.Folds.{list_any-append}
 use Rattle.std.specs.List.{list_any}
 use Rattle.std.specs.Prelude.{◌==◌, ◌&&◌, ◌||◌, not, nat_lt}
-use Rattle.sql_token.specs.Token.{Text}
-use Rattle.text_pos.specs.Line.{line_feeds}
+use Rattle.sql_tree.specs.sql_token.Token.{Text}
+use Rattle.sql_tree.specs.text_pos.Line.{line_feeds}
 use Rattle.lint_base.specs.declared.rule.Rule.{Rule}
 use Rattle.lint_base.specs.RuleSets.{Rules, has}
 use Rattle.lint_ignore.specs.declared.ignore.Ignore.{Ignore}

@@ -6,11 +6,11 @@ use Rattle.std.proofs.lemmas.List.{get_or-take, get_or_default, length-take-le}
 use Rattle.std.proofs.lemmas.Str.{IsCharBoundary-after_ascii, IsCharBoundary-before_ascii}
 use Rattle.std.specs.Str.{IsUtf8}
 use Rattle.std.specs.Prelude.{◌==◌, not, if◌then◌else◌}
-use Rattle.sql_token.specs.declared.token.Tok.{Tok}
-use Rattle.sql_token.specs.declared.token.TokKind.{TokKind}
-use Rattle.sql_token.specs.declared.token.TokKind.TheVariants.{Blank, LineComment, BlockComment, Word, Quoted, Str, UName, Dollar, Param, Number, Op, Punct, Other}
-use Rattle.sql_token.specs.Comment.{opens, closes, Comment, comment, Inside, none, byte, nested}
-use Rattle.sql_token.specs.Token.{Text, begins_line, IsRun, At, Leads, text_of}
+use Rattle.sql_tree.specs.sql_token.declared.token.Tok.{Tok}
+use Rattle.sql_tree.specs.sql_token.declared.token.TokKind.{TokKind}
+use Rattle.sql_tree.specs.sql_token.declared.token.TokKind.TheVariants.{Blank, LineComment, BlockComment, Word, Quoted, Str, UName, Dollar, Param, Number, Op, Punct, Other}
+use Rattle.sql_tree.specs.sql_token.Comment.{opens, closes, Comment, comment, Inside, none, byte, nested}
+use Rattle.sql_tree.specs.sql_token.Token.{Text, begins_line, IsRun, At, Leads, text_of}
 use Rattle.sql_tree.specs.Statement.{Tree, IsTree, no_token}
 use Rattle.sql_tree.specs.Range.{token_at}
 use Rattle.lint_ignore.specs.Comment.{CanCutDelimiters}

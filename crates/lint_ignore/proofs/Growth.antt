@@ -9,7 +9,7 @@ use Rattle.std.specs.Prelude.{filter, not, ◌==◌, if◌then◌else◌}
 use Rattle.lint_base.specs.declared.rule.Rule.{Rule}
 use Rattle.lint_base.specs.GrownLaws.{grown_by_all, grown_by_none, grown_by_first, grown_by_second}
 use Rattle.lint_base.specs.RuleSets.{Rules, with_rule, no_rules}
-use Rattle.sql_token.specs.declared.token.Tok.{Tok}
+use Rattle.sql_tree.specs.sql_token.declared.token.Tok.{Tok}
 use Rattle.sql_tree.specs.Statement.{Tree, no_token}
 use Rattle.sql_tree.specs.Range.{token_at}
 use Rattle.lint_ignore.specs.declared.ignore.IgnoreKind.{IgnoreKind}

@@ -11,11 +11,11 @@ use Rattle.std.specs.List.{cons_option, filter_map, flat_map, starts_with}
 use Rattle.std.specs.Option.{option_and_then}
 use Rattle.std.specs.Prelude.{◌==◌, ◌&&◌, not, nat_eq, slice_index, All, filter, if◌then◌else◌}
 use Rattle.std.specs.Str.{IsUtf8, IsCharBoundary, chars, trim_start, trim_end, encode_utf8_all, all_scalars, skip_leading_whitespace, drop_trailing_whitespace}
-use Rattle.sql_token.specs.declared.token.Tok.{Tok}
-use Rattle.sql_token.specs.declared.token.TokKind.{TokKind}
-use Rattle.sql_token.specs.declared.token.TokKind.TheVariants.{LineComment, BlockComment}
-use Rattle.sql_token.specs.Token.{Text, text_of}
-use Rattle.sql_token.proofs.Boundaries.{token_bounds, token_between}
+use Rattle.sql_tree.specs.sql_token.declared.token.Tok.{Tok}
+use Rattle.sql_tree.specs.sql_token.declared.token.TokKind.{TokKind}
+use Rattle.sql_tree.specs.sql_token.declared.token.TokKind.TheVariants.{LineComment, BlockComment}
+use Rattle.sql_tree.specs.sql_token.Token.{Text, text_of}
+use Rattle.sql_tree.proofs.of_sql_token.Boundaries.{token_bounds, token_between}
 use Rattle.sql_tree.specs.Statement.{Tree, IsTree, no_token}
 use Rattle.sql_tree.specs.Range.{token_at}
 use Rattle.lint_base.specs.declared.rule.Rule.{Rule}

@@ -10,8 +10,8 @@ use Rattle.std.specs.Option.{is_some, option_and_then}
 use Rattle.std.specs.Prelude.{All, bytes_eq, nat_eq, if◌then◌else◌}
 use Rattle.std.specs.Str.{IsUtf8}
 use Rattle.memchr.specs.Find.{FindsNeedle, OccursAt}
-use Rattle.sql_token.specs.declared.token.Tok.{Tok}
-use Rattle.sql_token.specs.Token.{Text}
+use Rattle.sql_tree.specs.sql_token.declared.token.Tok.{Tok}
+use Rattle.sql_tree.specs.sql_token.Token.{Text}
 use Rattle.sql_tree.specs.Statement.{Tree, IsTree, no_token}
 use Rattle.sql_tree.specs.Range.{token_at}
 use Rattle.lint_ignore.specs.declared.ignore.IgnoreKind.{IgnoreKind}

@@ -6,8 +6,8 @@ use Rattle.std.proofs.lemmas.List.{take_more}
 use Rattle.std.proofs.lemmas.List.Folds.{list_any-append}
 use Rattle.std.specs.List.{list_any}
 use Rattle.std.specs.Prelude.{◌==◌, ◌&&◌, ◌||◌}
-use Rattle.text_pos.specs.Line.{line_of}
-use Rattle.sql_token.specs.Token.{Text}
+use Rattle.sql_tree.specs.text_pos.Line.{line_of}
+use Rattle.sql_tree.specs.sql_token.Token.{Text}
 use Rattle.lint_base.specs.declared.rule.Rule.{Rule}
 use Rattle.lint_base.specs.declared.violation.Violation.{Violation}
 use Rattle.lint_base.specs.Rules.{all_rules, number_of}

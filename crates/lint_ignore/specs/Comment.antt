@@ -3,15 +3,15 @@ use Rattle.std.specs.Prelude.{◌≡◌, ◌≤◌, ℕ, ◌-◌, Bool, false, L
 use Rattle.std.specs.List.{list_any, starts_with}
 use Rattle.std.specs.Option.{option_and_then}
 use Rattle.std.specs.Str.{IsCharBoundary}
-use Rattle.sql_token.specs.declared.token.Tok.{Tok}
-use Rattle.sql_token.specs.declared.token.TokKind.{TokKind}
-use Rattle.sql_token.specs.declared.token.TokKind.TheVariants.{LineComment, BlockComment}
-use Rattle.sql_token.specs.Token.{Text, text_of}
+use Rattle.sql_tree.specs.sql_token.declared.token.Tok.{Tok}
+use Rattle.sql_tree.specs.sql_token.declared.token.TokKind.{TokKind}
+use Rattle.sql_tree.specs.sql_token.declared.token.TokKind.TheVariants.{LineComment, BlockComment}
+use Rattle.sql_tree.specs.sql_token.Token.{Text, text_of}
 use Rattle.sql_tree.specs.Statement.{Tree}
 use Rattle.sql_tree.specs.Range.{token_at}
 use Rattle.lint_ignore.specs.declared.ignore.IgnoreKind.{IgnoreKind}
 use Rattle.lint_ignore.specs.declared.ignore.IgnoreKind.TheVariants.{File, Line}
-use Rattle.text_pos.specs.Range.{Range}
+use Rattle.sql_tree.specs.text_pos.Range.{Range}
 use Rattle.lint_ignore.specs.Part.{Part, range_of, part_after, part_before, trimmed, trimmed_end, part_before_dashes}
 
 -- ---- the body of a comment

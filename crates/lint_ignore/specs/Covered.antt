@@ -1,9 +1,9 @@
 -- Which reports the ignore comments of a text cover.
 use Rattle.std.specs.Prelude.{ℕ, ◌+◌, Bool, ◌==◌, ◌&&◌, ◌||◌, not, List}
 use Rattle.std.specs.List.{list_any}
-use Rattle.sql_token.specs.Token.{Text}
-use Rattle.text_pos.specs.Line.{line_of}
-use Rattle.text_pos.specs.Range.{Range}
+use Rattle.sql_tree.specs.sql_token.Token.{Text}
+use Rattle.sql_tree.specs.text_pos.Line.{line_of}
+use Rattle.sql_tree.specs.text_pos.Range.{Range}
 use Rattle.lint_base.specs.declared.rule.Rule.{Rule}
 use Rattle.lint_base.specs.RuleSets.{has}
 use Rattle.lint_ignore.specs.declared.ignore.Ignore.{Ignore}

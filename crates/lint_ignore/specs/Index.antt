@@ -1,8 +1,8 @@
 -- What an index of ignore comments knows.
 use Rattle.std.specs.Prelude.{◌≡◌, ℕ, Bool, true, false, ◌-◌, ◌==◌, ◌&&◌, ◌||◌, nat_lt, not, List}
 use Rattle.std.specs.List.{list_any}
-use Rattle.sql_token.specs.Token.{Text}
-use Rattle.text_pos.specs.Line.{line_feeds}
+use Rattle.sql_tree.specs.sql_token.Token.{Text}
+use Rattle.sql_tree.specs.text_pos.Line.{line_feeds}
 use Rattle.lint_base.specs.declared.rule.Rule.{Rule}
 use Rattle.lint_base.specs.RuleSets.{has}
 use Rattle.lint_ignore.specs.declared.ignore.Ignore.{Ignore}

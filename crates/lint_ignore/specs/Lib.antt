@@ -8,3 +8,7 @@ pub mod Index
 pub mod Unused
 pub mod Reported
 pub mod Places
+pub use Rattle.sql_tree.specs.sql_keyword
+pub use Rattle.sql_tree.specs.sql_name
+pub use Rattle.sql_tree.specs.sql_token
+pub use Rattle.sql_tree.specs as sql_tree

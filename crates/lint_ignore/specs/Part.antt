@@ -1,7 +1,7 @@
 -- Parts of a text, each with the place where it begins.
 use Rattle.std.specs.Prelude.{ℕ, ◌+◌, ◌-◌, List, [], ◌∷◌, take, drop, length, ◌==◌, ◌&&◌, slice_index, Option, Some, None, if◌then◌else◌}
 use Rattle.std.specs.Str.{trim, trim_start, trim_end}
-use Rattle.text_pos.specs.Range.{Range}
+use Rattle.sql_tree.specs.text_pos.Range.{Range}
 use Rattle.lint_ignore.specs.declared.part.Part.{Part as Kept}
 
 -- the bytes of a part of a text, the first of which is at `at`

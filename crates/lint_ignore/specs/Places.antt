@@ -1,9 +1,9 @@
 -- Where the names in ignore comments are there.
 use Rattle.std.specs.Prelude.{◌≤◌, All}
 use Rattle.std.specs.Str.{IsCharBoundary, IsUtf8}
-use Rattle.sql_token.specs.Token.{Text}
+use Rattle.sql_tree.specs.sql_token.Token.{Text}
 use Rattle.sql_tree.specs.Statement.{Tree, IsTree}
-use Rattle.text_pos.specs.Range.{Range}
+use Rattle.sql_tree.specs.text_pos.Range.{Range}
 use Rattle.lint_ignore.specs.Found.{found_in}
 
 -- the range runs forward, and begins and ends between two characters of the text

@@ -1,8 +1,8 @@
 -- What an index of reports knows.
 use Rattle.std.specs.Prelude.{◌≡◌, ℕ, Bool, true, ◌==◌, ◌&&◌, ◌||◌, List}
 use Rattle.std.specs.List.{list_any}
-use Rattle.sql_token.specs.Token.{Text}
-use Rattle.text_pos.specs.Line.{line_feeds, line_of}
+use Rattle.sql_tree.specs.sql_token.Token.{Text}
+use Rattle.sql_tree.specs.text_pos.Line.{line_feeds, line_of}
 use Rattle.lint_base.specs.declared.rule.Rule.{Rule}
 use Rattle.lint_base.specs.declared.violation.Violation.{Violation}
 use Rattle.lint_base.specs.Rules.{number_of}

@@ -1,10 +1,10 @@
 -- The names in ignore comments that cover nothing.
 use Rattle.std.specs.Prelude.{ℕ, ◌-◌, ◌++◌, Bool, true, false, ◌&&◌, not, List, codes, drop, filter, map, slice_index_or, take}
 use Rattle.std.specs.List.{list_any}
-use Rattle.sql_token.specs.Token.{Text}
+use Rattle.sql_tree.specs.sql_token.Token.{Text}
 use Rattle.sql_tree.specs.Statement.{Tree}
-use Rattle.text_pos.specs.Line.{line_of}
-use Rattle.text_pos.specs.Range.{Range}
+use Rattle.sql_tree.specs.text_pos.Line.{line_of}
+use Rattle.sql_tree.specs.text_pos.Range.{Range}
 use Rattle.lint_base.specs.declared.rule.Rule.TheVariants as rule
 use Rattle.lint_base.specs.declared.violation.Violation.{Violation}
 use Rattle.lint_base.specs.Rules.{all_rules}

@@ -7,9 +7,7 @@ ghost use Rattle.sql_tree.specs.Range.{token_at};
 use crate::ignore::IgnoreKind;
 use crate::part::Part;
 use memchr::memmem;
-use sql_token::TokKind;
-use sql_tree::Parse;
-use text_pos::TextRange;
+use sql_tree::{Parse, TextRange, TokKind};
 
 /// The text that makes a comment a line ignore: its body begins with it, and not with [`IGNORE_FILE_TEXT`].
 pub const IGNORE_LINE_TEXT: &str = "squawk-ignore";

@@ -4,9 +4,8 @@ use crate::comment::{IGNORE_LINE_TEXT, ignore_of, may_begin_body};
 use crate::ignore::{Ignore, IgnoreKind, IgnorePiece};
 use crate::part::Part;
 use lint_base::{Reports, Rule, RuleSet, Text, UnknownName, Violation};
-use sql_tree::Parse;
+use sql_tree::{NoMemory, Parse};
 use std::alloc::Global;
-use text_pos::NoMemory;
 
 /// What is found in ignore comments.
 #[derive(Debug, Drop)]

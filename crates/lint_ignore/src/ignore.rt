@@ -1,7 +1,7 @@
 //! What an ignore comment says.
 
 use lint_base::RuleSet;
-use text_pos::TextRange;
+use sql_tree::TextRange;
 
 /// What an ignore comment speaks of.
 #[derive(Clone, Copy, Debug, PartialEq, Eq)]

@@ -1,6 +1,6 @@
 //! Looking up which reports the ignore comments cover.
 ghost use Rattle.std.specs.Prelude.{◌≡◌, ◌||◌, true, false, ◌<◌, ◌^◌, [], List, length, IfOk, OnOk};
-ghost use Rattle.sql_token.specs.Token.{Text};
+ghost use Rattle.sql_tree.specs.sql_token.Token.{Text};
 ghost use Rattle.lint_base.specs.declared.rule.Rule.{Rule};
 ghost use Rattle.lint_base.specs.RuleSets.{has};
 ghost use Rattle.lint_ignore.specs.declared.ignore.Ignore.{Ignore};
@@ -9,10 +9,10 @@ ghost use Rattle.lint_ignore.specs.Index.{names};
 use crate::ignore::{Ignore, IgnoreKind};
 use crate::lines::LineRules;
 use lint_base::{Rule, RuleSet};
+use sql_tree::{LineIndex, NoMemory, TextRange};
 use std::alloc::Global;
 use std::fmt;
 use std::fmt::Write;
-use text_pos::{LineIndex, NoMemory, TextRange};
 
 /// Ignore comments, for looking up whether they cover a report.
 ///

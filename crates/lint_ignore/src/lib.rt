@@ -24,3 +24,11 @@ pub use found::{Found, find_ignores};
 pub use ignore::{Ignore, IgnoreKind, IgnorePiece};
 pub use index::IgnoreIndex;
 pub use unused::unused_pieces;
+
+// What crates above reach through this one.
+pub use sql_tree::{
+    Action, ActionKind, Body, ColType, Column, ConKind, Constraint, Elem, Expr, FullName, Keyword,
+    Name, NamePath, Parse, Piece, PieceKind, ReindexTarget, SetPart, Span, Stmt, StmtKind,
+    TableWrite, Target, TokKind, TyKind, ViewDefinition, first_significant, keyword_of,
+    same_keyword,
+};

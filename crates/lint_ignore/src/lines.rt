@@ -5,9 +5,9 @@ ghost use Rattle.lint_base.specs.RuleSets.{has};
 ghost use Rattle.lint_ignore.specs.Lines.{at_line, is_among};
 
 use lint_base::RuleSet;
+use sql_tree::NoMemory;
 use std::alloc::Global;
 use std::marker::Model;
-use text_pos::NoMemory;
 
 /// A set of rules for each line that was given one.
 ///

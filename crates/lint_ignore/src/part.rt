@@ -1,7 +1,7 @@
 //! Parts of a text, with their places.
 ghost use Rattle.std.specs.Prelude.{◌+◌, ◌<◌, ◌^◌, length};
 
-use text_pos::{TextRange, TextSize};
+use sql_tree::{TextRange, TextSize};
 
 /// A part of a text, and the byte at which it begins.
 #[derive(Clone, Copy)]

@@ -1,6 +1,6 @@
 //! Looking up which rules some reports have, and on which lines.
 ghost use Rattle.std.specs.Prelude.{◌≡◌, ◌<◌, ◌^◌, [], List, length, IfOk, OnOk};
-ghost use Rattle.sql_token.specs.Token.{Text};
+ghost use Rattle.sql_tree.specs.sql_token.Token.{Text};
 ghost use Rattle.lint_base.specs.declared.rule.Rule.{Rule};
 ghost use Rattle.lint_base.specs.declared.violation.Violation.{Violation};
 ghost use Rattle.lint_base.specs.RuleSets.{has};
@@ -9,8 +9,8 @@ use crate::ignore::{Ignore, IgnoreKind};
 use crate::lines::LineRules;
 use crate::sets::with_rule;
 use lint_base::{RuleSet, Violation};
+use sql_tree::{LineIndex, NoMemory, TextRange};
 use std::alloc::Global;
-use text_pos::{LineIndex, NoMemory, TextRange};
 
 /// The rules of some reports of a text, and those on each of its lines.
 ///
@@ -27,7 +27,7 @@ impl ReportIndex {
     ghost use Rattle.lint_ignore.specs.Reported.{AddsReport, IsReportIndex};
     ghost use Rattle.lint_ignore.specs.Unused.{is_used};
     ghost use Rattle.std.specs.Prelude.{◌+◌};
-    ghost use Rattle.text_pos.specs.Line.{line_feeds, line_of};
+    ghost use Rattle.sql_tree.specs.text_pos.Line.{line_feeds, line_of};
 
     /// The index of some reports of a text. The error comes when memory runs out.
     pub(crate) fn new(alloc: Global, text: &str, all: &[Violation]) -> Result<ReportIndex, NoMemory>

@@ -1,7 +1,7 @@
 //! The names in ignore comments that cover nothing.
 ghost use Rattle.std.specs.Prelude.{◌≡◌, ◌<◌, ◌∷◌, [], ◌++◌, List, length, IfOk, OnErr, OnOk};
 ghost use Rattle.std.specs.Str.{IsCharBoundary};
-ghost use Rattle.sql_token.specs.Token.{Text};
+ghost use Rattle.sql_tree.specs.sql_token.Token.{Text};
 ghost use Rattle.lint_base.specs.Grown.{GrownBy};
 ghost use Rattle.lint_base.specs.declared.violation.Violation.{Violation};
 ghost use Rattle.lint_ignore.specs.Found.{found_in};
@@ -11,9 +11,8 @@ ghost use Rattle.lint_ignore.specs.Unused.{bytes_in, is_unused, unused_message, 
 use crate::ignore::{Ignore, IgnorePiece};
 use crate::reported::ReportIndex;
 use lint_base::{Reports, Rule, RuleSet, Text, Violation};
-use sql_tree::Parse;
+use sql_tree::{NoMemory, Parse, TextRange};
 use std::alloc::Global;
-use text_pos::{NoMemory, TextRange};
 
 // The bytes of a text on a range.
 fn bytes_in(text: &str, range: TextRange) -> &str

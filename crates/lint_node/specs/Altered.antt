@@ -1,6 +1,6 @@
 -- What an ALTER TABLE alters: the events of a history of tables (PostgreSQL manual, ALTER TABLE).
 use Rattle.std.specs.Prelude.{List, [], map, Option, Some, None, if◌then◌else◌}
-use Rattle.sql_token.specs.declared.token.Span.{Span}
+use Rattle.sql_tree.specs.sql_token.declared.token.Span.{Span}
 use Rattle.sql_tree.specs.declared.kinds.StmtKind.TheVariants as stmt
 use Rattle.sql_tree.specs.declared.nodes.Action.{Action}
 use Rattle.sql_tree.specs.declared.nodes.Body.{Body}

@@ -7,8 +7,7 @@ ghost use Rattle.lint_node.specs.Parts.{table_actions};
 
 use crate::parts::actions_of;
 use crate::same::same_kind;
-use sql_token::Span;
-use sql_tree::{Action, Body, Stmt, StmtKind};
+use sql_tree::{Action, Body, Span, Stmt, StmtKind};
 
 /// The actions of an ALTER TABLE; none of any other statement.
 pub fn table_actions(s: &Stmt) -> &[Action]

@@ -4,18 +4,18 @@ use Rattle.std.proofs.Common.{◌≡◌, ◌∙◌, refl, sym, ap, subst, map, �
 use Rattle.std.proofs.lemmas.List.{append-nil}
 use Rattle.std.specs.Borrow.{Bor}
 use Rattle.std.specs.List.{flat_map, list_any}
-use Rattle.text_pos.specs.Range.{Range}
+use Rattle.lint_base.specs.text_pos.Range.{Range}
 use Rattle.lint_base.specs.declared.rule.Rule.{Rule}
 use Rattle.lint_base.specs.declared.violation.Violation.{Violation}
 use Rattle.lint_base.specs.RuleSets.{Rules, has}
 use Rattle.lint_base.specs.Violations.{violation}
-use Rattle.sql_tree.specs.declared.kinds.PieceKind.TheVariants as piece
-use Rattle.sql_tree.specs.declared.kinds.StmtKind.{StmtKind}
-use Rattle.sql_tree.specs.declared.nodes.Action.{Action}
-use Rattle.sql_tree.specs.declared.nodes.Stmt.{Stmt}
-use Rattle.sql_tree.specs.Nodes.{actions_in}
-use Rattle.sql_tree.specs.Range.{span_range_of, stmt_range_of}
-use Rattle.sql_tree.specs.Statement.{Tree}
+use Rattle.lint_ignore.specs.sql_tree.declared.kinds.PieceKind.TheVariants as piece
+use Rattle.lint_ignore.specs.sql_tree.declared.kinds.StmtKind.{StmtKind}
+use Rattle.lint_ignore.specs.sql_tree.declared.nodes.Action.{Action}
+use Rattle.lint_ignore.specs.sql_tree.declared.nodes.Stmt.{Stmt}
+use Rattle.lint_ignore.specs.sql_tree.Nodes.{actions_in}
+use Rattle.lint_ignore.specs.sql_tree.Range.{span_range_of, stmt_range_of}
+use Rattle.lint_ignore.specs.sql_tree.Statement.{Tree}
 use Rattle.lint_node.specs.Parts.{has_action, new_constraints, replaces_by}
 use Rattle.lint_node.specs.Same.{same_action, same_constraint, same_piece}
 use Rattle.lint_pass.specs.declared.bans.Spot.{Spot}

@@ -2,9 +2,9 @@
 use Rattle.std.specs.Prelude.{ℕ, All, List, [], ◌∷◌, refl}
 use Rattle.lint_base.specs.declared.rule.Rule.{Rule}
 use Rattle.lint_base.specs.declared.violation.Violation.{Violation}
-use Rattle.sql_tree.specs.declared.nodes.Stmt.{Stmt}
-use Rattle.sql_tree.specs.Range.{span_range_of, stmt_range_of}
-use Rattle.sql_tree.specs.Statement.{Tree}
+use Rattle.lint_ignore.specs.sql_tree.declared.nodes.Stmt.{Stmt}
+use Rattle.lint_ignore.specs.sql_tree.Range.{span_range_of, stmt_range_of}
+use Rattle.lint_ignore.specs.sql_tree.Statement.{Tree}
 use Rattle.lint_pass.specs.declared.nodes.Node.{Node}
 use Rattle.lint_pass.specs.Bans.{BanRow, ban_report, bans_on, by_row, by_rows, fits, fits_statement, on_row, on_rows}
 use Rattle.lint_pass.specs.Laws.{HasCode, IsRead, IsPlacedIn}

@@ -2,19 +2,19 @@
 use Rattle.std.specs.Prelude.{ℕ, Bool, true, false, ◌&&◌, List, [], ◌∷◌, Option, Some, None, if◌then◌else◌}
 use Rattle.std.specs.Borrow.{Bor}
 use Rattle.std.specs.List.{flat_map, list_any}
-use Rattle.text_pos.specs.Range.{Range}
+use Rattle.lint_base.specs.text_pos.Range.{Range}
 use Rattle.lint_base.specs.declared.rule.Rule.{Rule}
 use Rattle.lint_base.specs.declared.violation.Violation.{Violation}
-use Rattle.sql_tree.specs.declared.kinds.PieceKind.TheVariants as piece
-use Rattle.sql_tree.specs.declared.kinds.StmtKind.{StmtKind}
-use Rattle.sql_tree.specs.declared.nodes.Stmt.{Stmt}
-use Rattle.sql_tree.specs.Range.{stmt_range_of}
-use Rattle.sql_tree.specs.Statement.{Tree}
+use Rattle.lint_ignore.specs.sql_tree.declared.kinds.PieceKind.TheVariants as piece
+use Rattle.lint_ignore.specs.sql_tree.declared.kinds.StmtKind.{StmtKind}
+use Rattle.lint_ignore.specs.sql_tree.declared.nodes.Stmt.{Stmt}
+use Rattle.lint_ignore.specs.sql_tree.Range.{stmt_range_of}
+use Rattle.lint_ignore.specs.sql_tree.Statement.{Tree}
 use Rattle.lint_pass.specs.declared.bans.Spot.{Spot}
 use Rattle.lint_pass.specs.declared.bans.Spot.TheVariants as spot
 use Rattle.lint_pass.specs.declared.nodes.Node.{Node}
 use Rattle.lint_pass.specs.declared.nodes.Node.TheVariants as node
-use Rattle.sql_tree.specs.Nodes.{actions_in}
+use Rattle.lint_ignore.specs.sql_tree.Nodes.{actions_in}
 use Rattle.lint_node.specs.Parts.{has_action, replaces_by}
 use Rattle.lint_pass.specs.NodeWalk.{walked}
 use Rattle.lint_node.specs.Same.{same_action, same_constraint, same_kind, same_piece}

@@ -1,7 +1,7 @@
 -- Which statements lie in a block that Alembic writes, by a walk that keeps the number of the next block.
 use Rattle.std.specs.Prelude.{ℕ, Bool, false, ◌&&◌, nat_le, List, [], ◌∷◌}
 use Rattle.std.specs.List.{list_any}
-use Rattle.sql_tree.specs.Statement.{Tree}
+use Rattle.lint_ignore.specs.sql_tree.Statement.{Tree}
 use Rattle.lint_pass.specs.declared.blocks.Block.{Block}
 use Rattle.lint_pass.specs.Blocks.{blocks_of, block_to}
 use Rattle.lint_transaction.specs.Earlier.{concat_below}

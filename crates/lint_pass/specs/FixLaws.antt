@@ -1,7 +1,7 @@
 -- Fixes of one edit are at places of the text.
 use Rattle.std.specs.Prelude.{ℕ, List, [], ◌∷◌}
-use Rattle.sql_tree.specs.Range.{span_range_of}
-use Rattle.sql_tree.specs.Statement.{Tree}
+use Rattle.lint_ignore.specs.sql_tree.Range.{span_range_of}
+use Rattle.lint_ignore.specs.sql_tree.Statement.{Tree}
 use Rattle.lint_base.specs.declared.edit.Edit.{Edit}
 use Rattle.lint_base.specs.Edits.{insertion, replacement}
 use Rattle.lint_ignore.specs.Places.{IsPlace}

@@ -1,6 +1,6 @@
 -- Fixes of one edit.
 use Rattle.std.specs.Prelude.{ℕ, List, [], ◌∷◌}
-use Rattle.text_pos.specs.Range.{Range}
+use Rattle.lint_base.specs.text_pos.Range.{Range}
 use Rattle.lint_base.specs.Edits.{insertion, replacement}
 use Rattle.lint_base.specs.Fixes.{FixValue}
 

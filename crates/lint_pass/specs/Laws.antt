@@ -6,7 +6,7 @@ use Rattle.lint_base.specs.declared.edit.Edit.{Edit}
 use Rattle.lint_base.specs.declared.violation.Violation.{Violation}
 use Rattle.lint_base.specs.RuleNames.{same_rule}
 use Rattle.lint_base.specs.RuleSets.{Rules, has}
-use Rattle.sql_tree.specs.Statement.{Tree, IsTree}
+use Rattle.lint_ignore.specs.sql_tree.Statement.{Tree, IsTree}
 use Rattle.lint_ignore.specs.Places.{IsPlace}
 
 -- its rule is one of the pass's own, and is enabled

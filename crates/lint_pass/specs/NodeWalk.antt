@@ -1,16 +1,16 @@
 -- A walk over a statement and the nodes in it, by place.
 use Rattle.std.specs.Prelude.{List, ◌++◌}
 use Rattle.std.specs.List.{flat_map}
-use Rattle.text_pos.specs.Range.{Range}
+use Rattle.lint_base.specs.text_pos.Range.{Range}
 use Rattle.lint_base.specs.declared.violation.Violation.{Violation}
-use Rattle.sql_tree.specs.declared.kinds.StmtKind.{StmtKind}
-use Rattle.sql_tree.specs.declared.nodes.Action.{Action}
-use Rattle.sql_tree.specs.declared.nodes.Constraint.{Constraint}
-use Rattle.sql_tree.specs.declared.nodes.Piece.{Piece}
-use Rattle.sql_tree.specs.declared.nodes.Stmt.{Stmt}
-use Rattle.sql_tree.specs.Range.{span_range_of}
-use Rattle.sql_tree.specs.Statement.{Tree}
-use Rattle.sql_tree.specs.Nodes.{actions_in}
+use Rattle.lint_ignore.specs.sql_tree.declared.kinds.StmtKind.{StmtKind}
+use Rattle.lint_ignore.specs.sql_tree.declared.nodes.Action.{Action}
+use Rattle.lint_ignore.specs.sql_tree.declared.nodes.Constraint.{Constraint}
+use Rattle.lint_ignore.specs.sql_tree.declared.nodes.Piece.{Piece}
+use Rattle.lint_ignore.specs.sql_tree.declared.nodes.Stmt.{Stmt}
+use Rattle.lint_ignore.specs.sql_tree.Range.{span_range_of}
+use Rattle.lint_ignore.specs.sql_tree.Statement.{Tree}
+use Rattle.lint_ignore.specs.sql_tree.Nodes.{actions_in}
 use Rattle.lint_node.specs.Parts.{new_constraints}
 use Rattle.lint_pass.specs.declared.nodes.Node.{Node}
 use Rattle.lint_pass.specs.declared.nodes.Node.TheVariants as node

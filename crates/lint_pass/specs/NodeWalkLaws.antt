@@ -3,11 +3,11 @@ use Rattle.std.specs.Prelude.{ℕ, All, List}
 use Rattle.std.proofs.lemmas.List.Elements.{All-append}
 use Rattle.std.specs.List.{flat_map}
 use Rattle.lint_base.specs.declared.violation.Violation.{Violation}
-use Rattle.sql_tree.specs.declared.nodes.Action.{Action}
-use Rattle.sql_tree.specs.declared.nodes.Stmt.{Stmt}
-use Rattle.sql_tree.specs.Range.{span_range_of}
-use Rattle.sql_tree.specs.Statement.{Tree}
-use Rattle.sql_tree.specs.Nodes.{actions_in}
+use Rattle.lint_ignore.specs.sql_tree.declared.nodes.Action.{Action}
+use Rattle.lint_ignore.specs.sql_tree.declared.nodes.Stmt.{Stmt}
+use Rattle.lint_ignore.specs.sql_tree.Range.{span_range_of}
+use Rattle.lint_ignore.specs.sql_tree.Statement.{Tree}
+use Rattle.lint_ignore.specs.sql_tree.Nodes.{actions_in}
 use Rattle.lint_node.specs.Parts.{new_constraints}
 use Rattle.lint_pass.specs.declared.nodes.Node.{Node}
 use Rattle.lint_pass.specs.declared.nodes.Node.TheVariants as node

@@ -7,8 +7,8 @@ use Rattle.sql_token.specs.Boundary.{BetweenCharacters}
 use Rattle.sql_token.specs.declared.token.Tok.{Tok}
 use Rattle.sql_token.specs.Token.{Text}
 use Rattle.sql_token.proofs.Boundaries.{keeps_characters}
-use Rattle.sql_tree.specs.Range.{token_at, span_range_of}
-use Rattle.sql_tree.specs.Statement.{Tree}
+use Rattle.lint_ignore.specs.sql_tree.Range.{token_at, span_range_of}
+use Rattle.lint_ignore.specs.sql_tree.Statement.{Tree}
 use Rattle.lint_ignore.specs.Places.{IsPlace}
 use Rattle.lint_pass.specs.Laws.{IsRead}
 

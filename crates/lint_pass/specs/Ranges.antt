@@ -1,8 +1,8 @@
 -- Reports whose ranges lie in the text of a tree.
 use Rattle.std.specs.Prelude.{◌≤◌, List, length, All}
-use Rattle.text_pos.specs.Range.{Range}
+use Rattle.lint_base.specs.text_pos.Range.{Range}
 use Rattle.lint_base.specs.declared.violation.Violation.{Violation}
-use Rattle.sql_tree.specs.Statement.{Tree}
+use Rattle.lint_ignore.specs.sql_tree.Statement.{Tree}
 
 -- the range runs forward and ends in the text
 pub record RangeIn (tree : Tree) (range : Range) : Type 0 where

@@ -4,18 +4,18 @@ use Rattle.std.proofs.Common.{sym, ◌∙◌, subst, inl, inr}
 use Rattle.std.proofs.lemmas.Bool.{cases_Bool}
 use Rattle.std.proofs.lemmas.List.Elements.{All-append, All-cons, All-head, All-nil, All-tail}
 use Rattle.std.specs.List.{flat_map}
-use Rattle.text_pos.specs.Range.{Range}
+use Rattle.lint_base.specs.text_pos.Range.{Range}
 use Rattle.lint_base.specs.declared.rule.Rule.{Rule}
 use Rattle.lint_base.specs.declared.violation.Violation.{Violation}
 use Rattle.lint_base.specs.RuleNames.{same_rule}
 use Rattle.lint_base.specs.RuleSets.{Rules, has}
 use Rattle.lint_base.specs.Violations.{violation}
 use Rattle.lint_transaction.specs.Transaction.{stmt_at}
-use Rattle.sql_tree.specs.declared.nodes.Action.{Action}
-use Rattle.sql_tree.specs.declared.nodes.Stmt.{Stmt}
-use Rattle.sql_tree.specs.Range.{span_range_of, stmt_range_of}
-use Rattle.sql_tree.specs.Statement.{Tree}
-use Rattle.sql_tree.specs.Nodes.{actions_in}
+use Rattle.lint_ignore.specs.sql_tree.declared.nodes.Action.{Action}
+use Rattle.lint_ignore.specs.sql_tree.declared.nodes.Stmt.{Stmt}
+use Rattle.lint_ignore.specs.sql_tree.Range.{span_range_of, stmt_range_of}
+use Rattle.lint_ignore.specs.sql_tree.Statement.{Tree}
+use Rattle.lint_ignore.specs.sql_tree.Nodes.{actions_in}
 use Rattle.lint_node.specs.Parts.{new_constraints}
 use Rattle.lint_pass.specs.declared.nodes.Node.{Node}
 use Rattle.lint_pass.specs.declared.nodes.Node.TheVariants as node

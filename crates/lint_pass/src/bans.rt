@@ -8,13 +8,12 @@ ghost use Rattle.lint_pass.specs.declared.nodes.Node.TheVariants as node;
 
 use crate::nodes::{Node, NodeReader, report_nodes};
 use crate::statement_pass::StatementPass;
-use lint_base::{LinterSettings, Reports, Rule, Text, Violation};
+use lint_base::{LinterSettings, NoMemory, Reports, Rule, Text, TextRange, Violation};
+use lint_ignore::{ActionKind, ConKind, Parse, PieceKind, Stmt, StmtKind};
 use lint_node::{
     actions_of, has_action, replaces, same_action, same_constraint, same_kind, same_piece,
 };
-use sql_tree::{ActionKind, ConKind, Parse, PieceKind, Stmt, StmtKind};
 use std::alloc::Global;
-use text_pos::{NoMemory, TextRange};
 
 /// What a row reports.
 #[derive(Clone, Copy)]

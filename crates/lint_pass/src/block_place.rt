@@ -5,7 +5,7 @@ ghost use Rattle.lint_pass.specs.Blocks.{blocks_of};
 ghost use Rattle.lint_pass.specs.BlockPlace.{ended_before, in_block};
 
 use crate::blocks::Block;
-use sql_tree::Parse;
+use lint_ignore::Parse;
 
 /// Whether statement `i` lies in a block of the text, its BEGIN and its end included; `next` says how many blocks end
 /// before the statement, so that no other block is looked at.

@@ -9,12 +9,12 @@ ghost use Rattle.lint_pass.specs.BlockWalk.{stamped, opening_after, block_from, 
 
 use crate::cursor::Cursor;
 use crate::steps::Steps;
+use lint_base::NoMemory;
+use lint_ignore::{Body, Parse, Stmt, StmtKind};
 use lint_transaction::name_at;
 use sql_token::Span;
-use sql_tree::{Body, Parse, Stmt, StmtKind};
 use std::alloc::Global;
 use std::sync::ledger::Ledger;
-use text_pos::NoMemory;
 
 /// The table in which Alembic keeps the version that a database is at.
 const VERSION_TABLE: &str = "alembic_version";

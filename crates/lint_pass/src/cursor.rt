@@ -1,11 +1,11 @@
 //! A place among the statements of a tree.
 
 ghost use Rattle.std.specs.Prelude.{◌≡◌, ◌+◌, ◌<◌, ◌^◌, length, IfSome, IfNone, is_some, if◌then◌else◌};
-ghost use Rattle.sql_tree.specs.Statement.{IsTree};
+ghost use Rattle.lint_ignore.specs.sql_tree.Statement.{IsTree};
 ghost use Rattle.lint_transaction.specs.Transaction.{stmt_at};
 
 use crate::steps::Steps;
-use sql_tree::{Parse, Stmt};
+use lint_ignore::{Parse, Stmt};
 use std::marker::Model;
 use std::sync::ledger::Ledger;
 
@@ -22,7 +22,7 @@ impl<'a, 't> Model for Cursor<'a, 't> {
 
     ghost Value = { Walk };
 
-    ghost use Rattle.sql_tree.specs.contracts.nodes.Expr as expr;
+    ghost use Rattle.lint_ignore.specs.sql_tree.contracts.nodes.Expr as expr;
     ghost use Rattle.std.specs.Coded.{codes};
 
     ghost coded = { Prim.hlevel (codes, expr.the_row.coded) };

@@ -9,12 +9,11 @@ use crate::blocks::{Block, find_blocks};
 use crate::cursor::Cursor;
 use crate::step::StepPass;
 use crate::steps::Steps;
-use lint_base::{LinterSettings, Reports, RuleSet};
-use sql_tree::Parse;
+use lint_base::{LinterSettings, NoMemory, Reports, RuleSet};
+use lint_ignore::Parse;
 use std::alloc::Global;
 use std::marker::Brand;
 use std::sync::ledger::{Blank, Ledger};
-use text_pos::NoMemory;
 
 /// The blocks of the cursor's tree, where the pass looks at them, and none where it does not.
 fn wanted_blocks<P: StepPass, L: Ledger>(

@@ -3,9 +3,8 @@
 ghost use Rattle.std.specs.Prelude.{◌≡◌, IfOk};
 ghost use Rattle.lint_pass.specs.Fixes.{insertion_fix, replacement_fix};
 
-use lint_base::{Edit, Fix, Text};
+use lint_base::{Edit, Fix, NoMemory, Text, TextRange, TextSize};
 use std::alloc::Global;
-use text_pos::{NoMemory, TextRange, TextSize};
 
 /// A fix that inserts one text before a place. The error comes when memory runs out.
 pub fn insertion_fix(alloc: Global, title: Text, text: Text, at: TextSize) -> Result<Fix, NoMemory>

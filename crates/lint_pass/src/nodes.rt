@@ -6,10 +6,11 @@ ghost use Rattle.lint_base.specs.Grown.{GrownBy};
 ghost use Rattle.lint_pass.specs.NodeWalk.{at_action, at_constraint, at_parts, at_piece, walked};
 ghost use Rattle.lint_pass.specs.declared.nodes.Node.TheVariants as node;
 
-use lint_base::Reports;
+use lint_base::{NoMemory, Reports, TextRange};
+use lint_ignore::{
+    Action, ActionKind, ConKind, Constraint, Parse, Piece, PieceKind, Stmt, StmtKind,
+};
 use lint_node::{actions_of, new_constraints};
-use sql_tree::{Action, ActionKind, ConKind, Constraint, Parse, Piece, PieceKind, Stmt, StmtKind};
-use text_pos::{NoMemory, TextRange};
 
 /// A node in a statement, with the kind of the statement.
 #[derive(Clone, Copy)]
@@ -25,9 +26,9 @@ pub enum Node {
 /// What reports statements and the nodes in them, each by itself.
 pub trait NodeReader {
     ghost use Rattle.std.specs.Prelude.{List};
-    ghost use Rattle.text_pos.specs.Range.{Range};
-    ghost use Rattle.sql_tree.specs.declared.nodes.Stmt.{Stmt};
-    ghost use Rattle.sql_tree.specs.Statement.{Tree};
+    ghost use Rattle.lint_base.specs.text_pos.Range.{Range};
+    ghost use Rattle.lint_ignore.specs.sql_tree.declared.nodes.Stmt.{Stmt};
+    ghost use Rattle.lint_ignore.specs.sql_tree.Statement.{Tree};
     ghost use Rattle.lint_base.specs.declared.violation.Violation.{Violation};
     ghost use Rattle.lint_pass.specs.declared.nodes.Node.{Node};
 

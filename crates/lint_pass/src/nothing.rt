@@ -2,10 +2,9 @@
 
 use crate::blocks::Block;
 use crate::step::StepPass;
-use lint_base::{LinterSettings, Reports, RuleSet};
-use sql_tree::{Parse, Stmt};
+use lint_base::{LinterSettings, NoMemory, Reports, RuleSet};
+use lint_ignore::{Parse, Stmt};
 use std::alloc::Global;
-use text_pos::NoMemory;
 
 /// The pass that reports nothing: a group without members.
 #[derive(Drop)]

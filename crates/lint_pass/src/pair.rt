@@ -6,10 +6,9 @@ ghost use Rattle.lint_transaction.specs.Earlier.{concat_below};
 
 use crate::blocks::Block;
 use crate::step::StepPass;
-use lint_base::{LinterSettings, Reports, RuleSet};
-use sql_tree::{Parse, Stmt};
+use lint_base::{LinterSettings, NoMemory, Reports, RuleSet};
+use lint_ignore::{Parse, Stmt};
 use std::alloc::Global;
-use text_pos::NoMemory;
 
 /// Two passes, the first's reports before the second's. Its rules are those of both.
 #[derive(Drop)]

@@ -6,15 +6,14 @@ ghost use Rattle.lint_pass.specs.Cleared.{IsCleared};
 
 use crate::feed::walk;
 use crate::step::StepPass;
-use lint_base::{LinterSettings, Reports, RuleSet};
-use sql_tree::Parse;
+use lint_base::{LinterSettings, NoMemory, Reports, RuleSet};
+use lint_ignore::Parse;
 use std::alloc::Global;
-use text_pos::NoMemory;
 
 /// What a linter looks for in a tree. It reports its table: one list of reports for each tree, rules and settings.
 pub trait Pass {
     ghost use Rattle.std.specs.Prelude.{List};
-    ghost use Rattle.sql_tree.specs.Statement.{Tree};
+    ghost use Rattle.lint_ignore.specs.sql_tree.Statement.{Tree};
     ghost use Rattle.lint_base.specs.RuleSets.{Rules};
     ghost use Rattle.lint_base.specs.declared.settings.LinterSettings.{LinterSettings};
     ghost use Rattle.lint_base.specs.declared.violation.Violation.{Violation};

@@ -7,15 +7,14 @@ ghost use Rattle.lint_pass.specs.Cleared.{IsCleared};
 
 use crate::blocks::Block;
 use crate::step::StepPass;
-use lint_base::{LinterSettings, Reports, Rule, RuleSet};
-use sql_tree::{Parse, Stmt};
+use lint_base::{LinterSettings, NoMemory, Reports, Rule, RuleSet};
+use lint_ignore::{Parse, Stmt};
 use std::alloc::Global;
-use text_pos::NoMemory;
 
 /// A pass of one rule.
 pub trait RulePass {
     ghost use Rattle.std.specs.Prelude.{ℕ, Bool, List, All};
-    ghost use Rattle.sql_tree.specs.Statement.{Tree};
+    ghost use Rattle.lint_ignore.specs.sql_tree.Statement.{Tree};
     ghost use Rattle.lint_base.specs.declared.rule.Rule.{Rule};
     ghost use Rattle.lint_base.specs.declared.settings.LinterSettings.{LinterSettings};
     ghost use Rattle.lint_base.specs.declared.violation.Violation.{Violation};

@@ -6,9 +6,8 @@ ghost use Rattle.lint_pass.specs.Ruled.{by_ruled, by_ruled_rows, lent_ruled, on_
 
 use crate::bans::{Spot, concerns, fits, fits_statement};
 use crate::nodes::{Node, NodeReader, report_nodes};
-use lint_base::{Reports, Rule, RuleSet, Text, Violation};
-use sql_tree::{Parse, Stmt, StmtKind};
-use text_pos::{NoMemory, TextRange};
+use lint_base::{NoMemory, Reports, Rule, RuleSet, Text, TextRange, Violation};
+use lint_ignore::{Parse, Stmt, StmtKind};
 
 /// A table of what is reported: the rule, where, and the message.
 pub type RuledRows = &'static [(Rule, Spot, &'static str)];

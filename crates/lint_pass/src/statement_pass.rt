@@ -5,16 +5,15 @@ ghost use Rattle.lint_base.specs.Grown.{GrownBy};
 
 use crate::blocks::Block;
 use crate::rule_pass::RulePass;
-use lint_base::{LinterSettings, Reports, Rule};
-use sql_tree::{Parse, Stmt};
+use lint_base::{LinterSettings, NoMemory, Reports, Rule};
+use lint_ignore::{Parse, Stmt};
 use std::alloc::Global;
-use text_pos::NoMemory;
 
 /// A pass of one rule that looks at one statement at a time.
 pub trait StatementPass {
     ghost use Rattle.std.specs.Prelude.{List, All};
-    ghost use Rattle.sql_tree.specs.declared.nodes.Stmt.{Stmt};
-    ghost use Rattle.sql_tree.specs.Statement.{Tree};
+    ghost use Rattle.lint_ignore.specs.sql_tree.declared.nodes.Stmt.{Stmt};
+    ghost use Rattle.lint_ignore.specs.sql_tree.Statement.{Tree};
     ghost use Rattle.lint_base.specs.declared.rule.Rule.{Rule};
     ghost use Rattle.lint_base.specs.declared.settings.LinterSettings.{LinterSettings};
     ghost use Rattle.lint_base.specs.declared.violation.Violation.{Violation};

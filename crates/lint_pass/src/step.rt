@@ -6,10 +6,9 @@ ghost use Rattle.lint_transaction.specs.Transaction.{stmt_at};
 ghost use Rattle.lint_pass.specs.Cleared.{IsCleared};
 
 use crate::blocks::Block;
-use lint_base::{LinterSettings, Reports, RuleSet};
-use sql_tree::{Parse, Stmt};
+use lint_base::{LinterSettings, NoMemory, Reports, RuleSet};
+use lint_ignore::{Parse, Stmt};
 use std::alloc::Global;
-use text_pos::NoMemory;
 
 /// A pass that takes one statement after another, so that one walk can feed many. It reports on one statement after
 /// another, and then adds its tail.
@@ -18,7 +17,7 @@ use text_pos::NoMemory;
 /// tree, which is at hand in each call.
 pub trait StepPass {
     ghost use Rattle.std.specs.Prelude.{ℕ, Bool, List, All};
-    ghost use Rattle.sql_tree.specs.Statement.{Tree};
+    ghost use Rattle.lint_ignore.specs.sql_tree.Statement.{Tree};
     ghost use Rattle.lint_base.specs.RuleSets.{Rules, has};
     ghost use Rattle.lint_base.specs.declared.rule.Rule.{Rule};
     ghost use Rattle.lint_base.specs.declared.settings.LinterSettings.{LinterSettings};

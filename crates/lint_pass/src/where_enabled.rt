@@ -6,10 +6,9 @@ ghost use Rattle.lint_pass.specs.Enabled.{some_enabled};
 
 use crate::blocks::Block;
 use crate::step::StepPass;
-use lint_base::{LinterSettings, Reports, RuleSet};
-use sql_tree::{Parse, Stmt};
+use lint_base::{LinterSettings, NoMemory, Reports, RuleSet};
+use lint_ignore::{Parse, Stmt};
 use std::alloc::Global;
-use text_pos::NoMemory;
 
 /// A pass that is skipped unless one of its rules is enabled. It reports what the pass reports. A linter with few rules so
 /// passes over a whole [`crate::Pair`] of passes by one test.

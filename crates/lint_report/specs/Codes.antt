@@ -1,9 +1,9 @@
 -- What reports go by, and which texts name it.
 use Rattle.std.specs.Prelude.{ℕ, List, ◌++◌, Option, Some, None, map, option_map}
 use Rattle.hazard_base.specs.Hazards as hazards
-use Rattle.lint_base.specs.RuleNames.{rule_named}
-use Rattle.lint_base.specs.declared.rule.Rule.{Rule}
-use Rattle.lint_base.specs.Rules as rules
+use Rattle.hazard_base.specs.lint_base.RuleNames.{rule_named}
+use Rattle.hazard_base.specs.lint_base.declared.rule.Rule.{Rule}
+use Rattle.hazard_base.specs.lint_base.Rules as rules
 use Rattle.lint_report.specs.declared.code.Code.{Code}
 use Rattle.lint_report.specs.declared.code.Code.TheVariants as code
 

@@ -2,8 +2,7 @@
 ghost use Rattle.std.specs.Prelude.{◌≡◌};
 ghost use Rattle.lint_report.specs.Codes as spec;
 
-use hazard_base::{Hazard, hazard_named};
-use lint_base::Rule;
+use hazard_base::{Hazard, Rule, hazard_named};
 
 /// What a report goes by. No text names both a rule and a hazard.
 #[derive(Clone, Copy, Debug, PartialEq, Eq)]

@@ -10,3 +10,9 @@ mod report;
 pub use code::{Code, code_named};
 pub use fix_class::FixClass;
 pub use report::{Report, ReportFix};
+
+// What crates above reach through this one.
+pub use hazard_base::{
+    Edit, Fix, Hazard, HazardSet, LinterSettings, NoMemory, Rule, RuleSet, Text, TextRange,
+    TextSize, Violation,
+};

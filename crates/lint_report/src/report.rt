@@ -2,8 +2,7 @@
 
 use crate::code::Code;
 use crate::fix_class::FixClass;
-use lint_base::{Fix, Text};
-use text_pos::TextRange;
+use hazard_base::{Fix, Text, TextRange};
 
 /// A report of a part of a text.
 #[derive(Debug, Drop)]

@@ -4,7 +4,7 @@ use Rattle.std.proofs.lemmas.Bool.{eqb-true}
 use Rattle.std.proofs.lemmas.List.{take_more}
 use Rattle.std.specs.Map.{lookup}
 use Rattle.std.specs.Option.{option_map, option_or}
-use Rattle.sql_token.specs.declared.token.Span.{Span}
+use Rattle.sql_tree.specs.sql_token.declared.token.Span.{Span}
 use Rattle.sql_tree.specs.Statement.{Tree}
 use Rattle.lint_transaction.specs.Transaction.{same_path}
 use Rattle.lint_transaction.proofs.Paths.{same_so}

@@ -5,7 +5,7 @@ use Rattle.std.proofs.lemmas.Bool.Decides.{nat_tests}
 use Rattle.std.proofs.lemmas.List.Folds.{list_any-append}
 use Rattle.std.specs.List.{list_any}
 use Rattle.std.specs.Map.{lookup}
-use Rattle.sql_token.specs.declared.token.Span.{Span}
+use Rattle.sql_tree.specs.sql_token.declared.token.Span.{Span}
 use Rattle.sql_tree.specs.Statement.{Tree}
 use Rattle.lint_transaction.specs.SpanKey.{key_of, hash_of}
 use Rattle.lint_transaction.specs.SpanSet.{Spans, PutsSpan, ListsSpan, has_names, is_some_named, is_hashed, is_other, has_span}

@@ -2,9 +2,9 @@
 use Rattle.std.specs.Prelude.{ℕ, Bool, false, ◌&&◌, List, nat_eq, Option, Some, None}
 use Rattle.std.specs.List.{list_any}
 use Rattle.std.specs.Str.{bytes_eq}
-use Rattle.sql_name.specs.Name.{full_name}
-use Rattle.sql_token.specs.declared.token.Span.{Span}
-use Rattle.sql_token.specs.Token.{text_of}
+use Rattle.sql_tree.specs.sql_name.Name.{full_name}
+use Rattle.sql_tree.specs.sql_token.declared.token.Span.{Span}
+use Rattle.sql_tree.specs.sql_token.Token.{text_of}
 use Rattle.sql_tree.specs.Statement.{Tree}
 use Rattle.sql_tree.specs.Range.{token_at}
 

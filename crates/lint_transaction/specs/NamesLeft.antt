@@ -1,8 +1,8 @@
 -- The names of a span that a walk over its tokens has left.
 use Rattle.std.specs.Prelude.{ℕ, List, drop, take}
 use Rattle.std.specs.List.{flat_map}
-use Rattle.sql_name.specs.Name.{cut_name}
-use Rattle.sql_token.specs.Token.{text_of}
+use Rattle.sql_tree.specs.sql_name.Name.{cut_name}
+use Rattle.sql_tree.specs.sql_token.Token.{text_of}
 use Rattle.sql_tree.specs.Path.{name_cuts}
 use Rattle.sql_tree.specs.Range.{token_at}
 use Rattle.sql_tree.specs.Statement.{Tree}

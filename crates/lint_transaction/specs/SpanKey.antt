@@ -2,8 +2,8 @@
 use Rattle.std.specs.Prelude.{ℕ, List, [], ◌∷◌, fold}
 use Rattle.std.specs.Hash.FoldHasher as folding
 use Rattle.std.specs.List.{flat_map}
-use Rattle.sql_name.specs.Hash.{text_writes}
-use Rattle.sql_token.specs.declared.token.Span.{Span}
+use Rattle.sql_tree.specs.sql_name.Hash.{text_writes}
+use Rattle.sql_tree.specs.sql_token.declared.token.Span.{Span}
 use Rattle.sql_tree.specs.Path.{path_cuts}
 use Rattle.sql_tree.specs.Statement.{Tree}
 use Rattle.lint_transaction.specs.Names.{name_at}

@@ -2,7 +2,7 @@
 use Rattle.std.specs.Prelude.{◌≡◌, ℕ, Bool, false, ◌&&◌, ◌||◌, nat_eq, List, [], ◌∷◌, ◌++◌, Option, Some, None, is_none, if◌then◌else◌}
 use Rattle.std.specs.List.{list_any}
 use Rattle.std.specs.Map.{lookup}
-use Rattle.sql_token.specs.declared.token.Span.{Span}
+use Rattle.sql_tree.specs.sql_token.declared.token.Span.{Span}
 use Rattle.sql_tree.specs.Statement.{Tree}
 use Rattle.lint_transaction.specs.SpanKey.{key_of, hash_of}
 use Rattle.lint_transaction.specs.Transaction.{same_path}

@@ -12,11 +12,9 @@ use crate::open::OpenTransaction;
 use crate::span_key::SpanKey;
 use crate::span_set::SpanSet;
 use crate::statement::{created, ends};
-use sql_token::Span;
-use sql_tree::{Parse, Stmt};
+use sql_tree::{NoMemory, Parse, Span, Stmt};
 use std::alloc::Global;
 use std::marker::Model;
-use text_pos::NoMemory;
 
 /// The tables that the open transaction created, as a walk over the statements of one tree knows them. It holds no text:
 /// a pass may keep it in its state.

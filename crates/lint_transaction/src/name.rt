@@ -2,14 +2,12 @@
 
 ghost use Rattle.std.specs.Prelude.{◌≡◌};
 ghost use Rattle.std.specs.Str.{bytes_eq};
-ghost use Rattle.sql_name.specs.Compared.{full_text};
+ghost use Rattle.sql_tree.specs.sql_name.Compared.{full_text};
 ghost use Rattle.lint_transaction.specs.Names as spec;
 ghost use Rattle.lint_transaction.specs.Names.{name_at};
 
 use lint_base::Names;
-use sql_name::FullName;
-use sql_token::Span;
-use sql_tree::Parse;
+use sql_tree::{FullName, Parse, Span};
 
 /// The name that the token of this number gives, to be compared by its full text. Past the last token it is empty.
 pub fn name_at<'t>(p: &Parse<'t>, number: u32) -> FullName<'t>

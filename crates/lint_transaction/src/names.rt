@@ -1,17 +1,15 @@
 //! The names of a span, one after another, without building the path.
 
 ghost use Rattle.std.specs.Prelude.{◌≡◌, ◌+◌, ◌<◌, ◌∷◌, [], length, true, IfSome, IfNone};
-ghost use Rattle.sql_name.specs.Compared.{name_cut};
-ghost use Rattle.sql_token.specs.Terminal.{is_name_kind};
+ghost use Rattle.sql_tree.specs.sql_name.Compared.{name_cut};
+ghost use Rattle.sql_tree.specs.sql_token.Terminal.{is_name_kind};
 ghost use Rattle.sql_tree.specs.Path.{path_cuts, name_cuts};
 ghost use Rattle.sql_tree.specs.Range.{token_at};
 ghost use Rattle.lint_transaction.specs.NamesLeft.{name_given, names_from, names_left};
 ghost use Rattle.lint_transaction.specs.Transaction.{same_path};
 ghost use Rattle.lint_transaction.specs.SpanKey.{hash_of};
 
-use sql_name::Name;
-use sql_token::Span;
-use sql_tree::Parse;
+use sql_tree::{Name, Parse, Span};
 use std::hash::{FoldHasher, Hash, Hasher};
 
 /// The names among the tokens of a span that are still to come.

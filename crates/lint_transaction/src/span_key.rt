@@ -7,8 +7,7 @@ ghost use Rattle.lint_transaction.specs.Transaction.{same_path};
 
 use crate::name::{is_same_name, name_at};
 use crate::names::{hash_path, is_same_path};
-use sql_token::Span;
-use sql_tree::Parse;
+use sql_tree::{Parse, Span};
 use std::hash::{FoldHasher, Hash, Hasher};
 
 /// How many spans a set or a map keeps in a list before it hashes: most transactions name no more tables, and to compare

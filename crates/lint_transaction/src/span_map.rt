@@ -9,12 +9,10 @@ ghost use Rattle.lint_transaction.specs.SpanKey.{key_of, hash_of};
 ghost use Rattle.lint_transaction.specs.SpanMap.{get_span, Lists, Writes};
 
 use crate::span_key::{FEW, SpanKey, hash, is_same};
-use sql_token::Span;
-use sql_tree::Parse;
+use sql_tree::{NoMemory, Parse, Span};
 use std::alloc::Global;
 use std::collections::HashMap;
 use std::marker::Model;
-use text_pos::NoMemory;
 
 /// A span and its value.
 #[derive(Clone, Copy)]

@@ -8,12 +8,10 @@ ghost use Rattle.lint_transaction.specs.SpanSet as spec;
 ghost use Rattle.lint_transaction.specs.SpanSet.{has_span, PutsSpan, ListsSpan};
 
 use crate::span_key::{FEW, SpanKey, hash, is_same};
-use sql_token::Span;
-use sql_tree::Parse;
+use sql_tree::{NoMemory, Parse, Span};
 use std::alloc::Global;
 use std::collections::HashMap;
 use std::marker::Model;
-use text_pos::NoMemory;
 
 /// The greatest capacity of a table whose memory is kept when a set is cleared. Clearing takes time by the capacity, so
 /// one set that grew large must not slow down the small ones after it.

@@ -3,8 +3,7 @@
 ghost use Rattle.std.specs.Prelude.{◌≡◌};
 ghost use Rattle.lint_transaction.specs.Transaction as spec;
 
-use sql_token::Span;
-use sql_tree::{Body, Stmt, StmtKind};
+use sql_tree::{Body, Span, Stmt, StmtKind};
 
 /// Whether the statement begins a transaction.
 pub fn begins(s: &Stmt) -> bool

@@ -10,11 +10,10 @@ ghost use Rattle.lint_transaction.specs.Tracking.{IsTracking, IsAfter, holds};
 use crate::open::OpenTransaction;
 use crate::span_set::KEPT_CAPACITY;
 use crate::statement::{created, ends};
-use sql_tree::{NamePath, Parse, Stmt};
+use sql_tree::{NamePath, NoMemory, Parse, Stmt};
 use std::alloc::Global;
 use std::collections::HashSet;
 use std::marker::Model;
-use text_pos::NoMemory;
 
 /// The tables that the open transaction created, as a walk over the statements of one tree knows them.
 #[derive(Drop)]

@@ -1,7 +1,7 @@
 -- Arrays in expressions, level by level.
 use Rattle.std.proofs.Common.{◌≡◌, ◌∙◌, sym, ap, refl, ℕ, Bool, true, false, ◌||◌, List, [], ◌∷◌, map, Option}
 use Rattle.std.specs.List.{list_any}
-use Rattle.sql_token.specs.declared.token.Span.{Span}
+use Rattle.lint_pass.specs.sql_token.declared.token.Span.{Span}
 use Rattle.sql_tree.specs.declared.nodes.Expr.{Expr, fold-Expr, fold-roll-Expr}
 use Rattle.sql_tree.specs.declared.nodes.Expr.TheVariants as e
 use Rattle.sql_tree.specs.declared.nodes.Expr.TheOpen as layer

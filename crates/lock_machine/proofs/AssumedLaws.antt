@@ -1,8 +1,8 @@
 -- Whether a transaction is assumed to be open before the first statement.
 use Rattle.std.proofs.Common.{◌≡◌, refl, Bool, true, false, ◌&&◌, not}
 use Rattle.sql_tree.specs.Statement.{Tree}
-use Rattle.lint_base.specs.declared.settings.LinterSettings.{LinterSettings}
-use Rattle.lint_ignore.specs.Comment.{has_disable_comment}
+use Rattle.lint_pass.specs.lint_base.declared.settings.LinterSettings.{LinterSettings}
+use Rattle.lint_pass.specs.lint_ignore.Comment.{has_disable_comment}
 use Rattle.lint_pass.specs.Cleared.{IsCleared}
 use Rattle.lock_machine.specs.Works.{is_assumed}
 use Rattle.lock_machine.proofs.BeginLaws.{not_both}

@@ -2,12 +2,12 @@
 use Rattle.std.proofs.Common.{◌≡◌, ◌∙◌, sym, ap, refl, arith, ℕ, zero, suc, Bool, true, false, List, [], ◌∷◌, Option, Some, None, Result, Ok, Err, subst}
 use Rattle.std.specs.Prelude.{slice_index_or, if◌then◌else◌}
 use Rattle.std.specs.Option.{option_and_then}
-use Rattle.sql_keyword.specs.declared.words.TheConstants.Keyword as keyword
-use Rattle.sql_token.specs.declared.token.Span.{Span}
-use Rattle.sql_token.specs.declared.terminal.Terminal.{Terminal}
-use Rattle.sql_token.specs.Depth.{statements, span_of, has_keyword}
-use Rattle.sql_token.specs.Sound.{is_sound}
-use Rattle.sql_token.specs.Terminal.{terminals}
+use Rattle.lint_pass.specs.sql_keyword.declared.words.TheConstants.Keyword as keyword
+use Rattle.lint_pass.specs.sql_token.declared.token.Span.{Span}
+use Rattle.lint_pass.specs.sql_token.declared.terminal.Terminal.{Terminal}
+use Rattle.lint_pass.specs.sql_token.Depth.{statements, span_of, has_keyword}
+use Rattle.lint_pass.specs.sql_token.Sound.{is_sound}
+use Rattle.lint_pass.specs.sql_token.Terminal.{terminals}
 use Rattle.sql_tree.specs.declared.kinds.StmtKind.{StmtKind}
 use Rattle.sql_tree.specs.declared.kinds.StmtKind.TheVariants as stmt
 use Rattle.sql_tree.specs.declared.nodes.Body.{Body}
@@ -15,7 +15,7 @@ use Rattle.sql_tree.specs.declared.nodes.Body.TheVariants as body
 use Rattle.sql_tree.specs.declared.nodes.Stmt.{Stmt}
 use Rattle.sql_tree.specs.Forms.{State}
 use Rattle.sql_tree.specs.Statement.{Tree, IsTree, final_kind, body_shape_of, body_by, kind_and_body, front_by, from_verb, form_from, form_of, without_semicolon, stmt_in, statement, and_then_all, all_statements, read_tokens}
-use Rattle.lint_transaction.specs.Transaction.{is_begin_kind, begins, ends_by, created_by, no_stmt, stmt_at}
+use Rattle.lint_pass.specs.lint_transaction.Transaction.{is_begin_kind, begins, ends_by, created_by, no_stmt, stmt_at}
 use Rattle.lock_machine.specs.Laws.{BeginsAlone}
 
 pub not_both : {A : Type 0} → true ≡ false → A

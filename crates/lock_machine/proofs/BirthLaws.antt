@@ -3,12 +3,12 @@ use Rattle.std.proofs.Common.{◌≡◌, ◌∙◌, sym, ap, refl, arith, ℕ, z
 use Rattle.std.specs.Prelude.{nat_eq, if◌then◌else◌}
 use Rattle.std.proofs.lemmas.Bool.{eq-eqb, ne_eqb}
 use Rattle.sql_tree.specs.Statement.{Tree}
-use Rattle.lint_transaction.specs.Transaction.{begins, ends_by, chains_by, created_by, ends, chains, created, creates, is_path, stmt_at, ends_at, is_open, is_new}
+use Rattle.lint_pass.specs.lint_transaction.Transaction.{begins, ends_by, chains_by, created_by, ends, chains, created, creates, is_path, stmt_at, ends_at, is_open, is_new}
 use Rattle.sql_tree.specs.declared.nodes.Body.{Body}
 use Rattle.sql_tree.specs.declared.nodes.Body.TheVariants as body
 use Rattle.sql_tree.specs.declared.kinds.StmtKind.{StmtKind}
-use Rattle.lint_transaction.proofs.EarlierLaws.{and_true}
-use Rattle.lint_transaction.proofs.TrackingLaws.{is_open-suc, is_new-suc, open_at_start}
+use Rattle.lint_pass.proofs.of_lint_transaction.EarlierLaws.{and_true}
+use Rattle.lint_pass.proofs.of_lint_transaction.TrackingLaws.{is_open-suc, is_new-suc, open_at_start}
 use Rattle.lock_machine.proofs.BeginLaws.{begins_alone, not_both}
 use Rattle.lock_machine.specs.Laws.{count_below, BeginsAlone, BirthsAreNew, BlocksAreOpen, NumbersCount}
 use Rattle.lock_machine.specs.Machine.{before, birth, is_number, is_young, running}

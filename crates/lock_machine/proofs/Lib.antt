@@ -5,3 +5,5 @@ pub mod BeginLaws
 pub mod BirthLaws
 pub mod MachineLaws
 pub mod SteadyLevels
+pub use Rattle.lint_pass.proofs.of_lint_base
+pub use Rattle.lint_pass.proofs.of_lint_transaction

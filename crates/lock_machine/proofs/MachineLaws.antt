@@ -2,11 +2,11 @@
 use Rattle.std.proofs.Common.{◌≡◌, ◌∙◌, sym, ap, refl, subst, arith, ℕ, suc, ◌+◌, Bool, ◌&&◌, ◌||◌, not, List, Option, Some, None}
 use Rattle.std.specs.Prelude.{if◌then◌else◌}
 use Rattle.std.specs.Map.{lookup}
-use Rattle.sql_token.specs.declared.token.Span.{Span}
+use Rattle.lint_pass.specs.sql_token.declared.token.Span.{Span}
 use Rattle.sql_tree.specs.declared.nodes.Stmt.{Stmt}
 use Rattle.sql_tree.specs.Statement.{Tree}
-use Rattle.lint_transaction.specs.SpanMap.{get_span}
-use Rattle.lint_transaction.specs.Transaction.{begins, chains, created, ends, is_path, same_path, stmt_at}
+use Rattle.lint_pass.specs.lint_transaction.SpanMap.{get_span}
+use Rattle.lint_pass.specs.lint_transaction.Transaction.{begins, chains, created, ends, is_path, same_path, stmt_at}
 use Rattle.lock_machine.specs.Machine.{Machine, after, before, births_with, running}
 use Rattle.lock_machine.specs.MachineWalk.{IsMachine, Kept}
 

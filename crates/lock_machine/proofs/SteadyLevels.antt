@@ -3,12 +3,12 @@ use Rattle.std.proofs.Common.{◌≡◌, ◌∙◌, sym, ap, ℕ, Bool, true, fa
 use Rattle.std.specs.Prelude.{codes}
 use Rattle.std.proofs.lemmas.List.Folds.{list_all-map}
 use Rattle.std.specs.List.{list_all}
-use Rattle.sql_token.specs.declared.token.Span.{Span}
+use Rattle.lint_pass.specs.sql_token.declared.token.Span.{Span}
 use Rattle.sql_tree.specs.declared.nodes.Expr.{Expr, fold-Expr, fold-roll-Expr}
 use Rattle.sql_tree.specs.declared.nodes.Expr.TheVariants as e
 use Rattle.sql_tree.specs.declared.nodes.Expr.TheOpen as layer
 use Rattle.sql_tree.specs.Statement.{Tree}
-use Rattle.lint_transaction.specs.Names.{is_listed_call, is_one_name}
+use Rattle.lint_pass.specs.lint_transaction.Names.{is_listed_call, is_one_name}
 use Rattle.lock_machine.specs.Steady.{is_steady, steady_by_parts}
 
 pub literal_level : (names : List (List ℕ)) (tree : Tree) → is_steady names tree e.Literal ≡ true

@@ -1,7 +1,7 @@
 -- What the lock machine's states say of the earlier statements.
 use Rattle.std.specs.Prelude.{◌≡◌, ℕ, zero, suc, ◌+◌, Bool, true, false, ◌||◌, not, List, None, if◌then◌else◌}
 use Rattle.sql_tree.specs.Statement.{Tree, IsTree}
-use Rattle.lint_transaction.specs.Transaction.{begins, created, ends, ends_at, is_new, is_open, stmt_at}
+use Rattle.lint_pass.specs.lint_transaction.Transaction.{begins, created, ends, ends_at, is_new, is_open, stmt_at}
 use Rattle.lock_machine.specs.Machine.{before, is_young}
 
 -- A BEGIN ends nothing and creates nothing.

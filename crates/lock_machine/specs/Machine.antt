@@ -2,11 +2,11 @@
 -- section 3.4, "Transactions", and the pages of BEGIN, COMMIT and ROLLBACK).
 use Rattle.std.specs.Prelude.{ℕ, zero, suc, ◌+◌, Bool, false, ◌&&◌, ◌||◌, not, nat_eq, List, [], ◌∷◌, Option, Some, None, if◌then◌else◌}
 use Rattle.std.specs.Map.{lookup}
-use Rattle.sql_token.specs.declared.token.Span.{Span}
+use Rattle.lint_pass.specs.sql_token.declared.token.Span.{Span}
 use Rattle.sql_tree.specs.declared.nodes.Stmt.{Stmt}
 use Rattle.sql_tree.specs.Statement.{Tree}
 use Rattle.sql_tree.specs.Path.{path_cuts}
-use Rattle.lint_transaction.specs.Transaction.{begins, ends, chains, created, same_path, stmt_at}
+use Rattle.lint_pass.specs.lint_transaction.Transaction.{begins, ends, chains, created, same_path, stmt_at}
 
 -- ---- states
 

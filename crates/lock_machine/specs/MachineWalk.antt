@@ -1,7 +1,7 @@
 -- What a walk over the statements of a tree keeps of the machine's state.
 use Rattle.std.specs.Prelude.{◌≡◌, ℕ, Bool, List}
 use Rattle.sql_tree.specs.Statement.{Tree}
-use Rattle.lint_transaction.specs.SpanMap.{Values, get_span}
+use Rattle.lint_pass.specs.lint_transaction.SpanMap.{Values, get_span}
 use Rattle.lock_machine.specs.Machine.{Machine, birth}
 
 -- the number, the mark, and the births by spans of the text

@@ -3,16 +3,16 @@
 -- ROLLBACK, SET, REINDEX, and section 5.10.3, "The Schema Search Path").
 use Rattle.std.specs.Prelude.{ℕ, ◌+◌, Bool, true, false, ◌&&◌, ◌||◌, not, if◌then◌else◌, List, [], ◌∷◌, drop, take, codes, Option, Some, None}
 use Rattle.std.specs.List.{flat_map, list_any}
-use Rattle.sql_keyword.specs.declared.words.Keyword.{Keyword}
-use Rattle.sql_keyword.specs.declared.words.TheConstants.Keyword as keyword
-use Rattle.sql_keyword.specs.Same.{same_keyword}
-use Rattle.sql_keyword.specs.Find.{keyword_of}
-use Rattle.sql_token.specs.declared.token.Span.{Span}
-use Rattle.sql_token.specs.declared.token.Tok.{Tok}
-use Rattle.sql_token.specs.declared.token.TokKind.{TokKind}
-use Rattle.sql_token.specs.declared.token.TokKind.TheVariants as kinds
-use Rattle.sql_token.specs.Terminal.{is_significant}
-use Rattle.sql_token.specs.Token.{text_of}
+use Rattle.lint_pass.specs.sql_keyword.declared.words.Keyword.{Keyword}
+use Rattle.lint_pass.specs.sql_keyword.declared.words.TheConstants.Keyword as keyword
+use Rattle.lint_pass.specs.sql_keyword.Same.{same_keyword}
+use Rattle.lint_pass.specs.sql_keyword.Find.{keyword_of}
+use Rattle.lint_pass.specs.sql_token.declared.token.Span.{Span}
+use Rattle.lint_pass.specs.sql_token.declared.token.Tok.{Tok}
+use Rattle.lint_pass.specs.sql_token.declared.token.TokKind.{TokKind}
+use Rattle.lint_pass.specs.sql_token.declared.token.TokKind.TheVariants as kinds
+use Rattle.lint_pass.specs.sql_token.Terminal.{is_significant}
+use Rattle.lint_pass.specs.sql_token.Token.{text_of}
 use Rattle.sql_tree.specs.declared.kinds.StmtKind.{StmtKind}
 use Rattle.sql_tree.specs.declared.kinds.StmtKind.TheVariants as stmt
 use Rattle.sql_tree.specs.declared.nodes.Action.{Action}
@@ -24,9 +24,9 @@ use Rattle.sql_tree.specs.declared.nodes.Expr.{Expr, Expr-F, fold-Expr}
 use Rattle.sql_tree.specs.declared.nodes.Expr.TheOpen as layer
 use Rattle.sql_tree.specs.declared.nodes.Stmt.{Stmt}
 use Rattle.sql_tree.specs.Statement.{Tree}
-use Rattle.lint_node.specs.Parts.{new_constraints, table_actions}
-use Rattle.lint_node.specs.Same.{same_constraint, same_kind}
-use Rattle.lint_transaction.specs.Names.{is_one_name}
+use Rattle.lint_pass.specs.lint_node.Parts.{new_constraints, table_actions}
+use Rattle.lint_pass.specs.lint_node.Same.{same_constraint, same_kind}
+use Rattle.lint_pass.specs.lint_transaction.Names.{is_one_name}
 
 -- ---- transactions
 

@@ -3,8 +3,8 @@
 use Rattle.std.specs.Prelude.{ℕ, Bool, true, false, ◌&&◌, ◌||◌, not, List, [], ◌∷◌, ◌++◌, length, Option, Some, None, is_some, is_none, pos, int_lt, slice_index_or, if◌then◌else◌}
 use Rattle.std.specs.List.{flat_map, list_any}
 use Rattle.std.specs.Option.{option_map}
-use Rattle.text_pos.specs.Range.{Range}
-use Rattle.sql_token.specs.declared.token.Span.{Span}
+use Rattle.lint_pass.specs.text_pos.Range.{Range}
+use Rattle.lint_pass.specs.sql_token.declared.token.Span.{Span}
 use Rattle.sql_tree.specs.declared.kinds.ActionKind.{ActionKind}
 use Rattle.sql_tree.specs.declared.kinds.ActionKind.TheVariants as action
 use Rattle.sql_tree.specs.declared.kinds.PieceKind.{PieceKind}
@@ -25,17 +25,17 @@ use Rattle.sql_tree.specs.declared.nodes.Stmt.{Stmt}
 use Rattle.sql_tree.specs.Path.{path_cuts}
 use Rattle.sql_tree.specs.Range.{span_range_of}
 use Rattle.sql_tree.specs.Statement.{Tree}
-use Rattle.lint_base.specs.declared.settings.LinterSettings.{LinterSettings}
-use Rattle.lint_ignore.specs.Comment.{has_disable_comment}
+use Rattle.lint_pass.specs.lint_base.declared.settings.LinterSettings.{LinterSettings}
+use Rattle.lint_pass.specs.lint_ignore.Comment.{has_disable_comment}
 use Rattle.lint_lock.specs.declared.lock.LockKind.{LockKind}
 use Rattle.lint_lock.specs.declared.lock.LockKind.TheVariants.{Share, AccessExclusive}
 use Rattle.lint_lock.specs.Lock.{lock_of_action}
-use Rattle.lint_node.specs.Altered.{altered_path}
-use Rattle.lint_node.specs.Parts.{is_checked, new_constraints, table_actions}
-use Rattle.lint_node.specs.Plain.{is_system}
-use Rattle.lint_node.specs.Same.{same_kind}
-use Rattle.lint_transaction.specs.Earlier.{concat_below}
-use Rattle.lint_transaction.specs.Transaction.{stmt_at}
+use Rattle.lint_pass.specs.lint_node.Altered.{altered_path}
+use Rattle.lint_pass.specs.lint_node.Parts.{is_checked, new_constraints, table_actions}
+use Rattle.lint_pass.specs.lint_node.Plain.{is_system}
+use Rattle.lint_pass.specs.lint_node.Same.{same_kind}
+use Rattle.lint_pass.specs.lint_transaction.Earlier.{concat_below}
+use Rattle.lint_pass.specs.lint_transaction.Transaction.{stmt_at}
 use Rattle.lock_machine.specs.Machine.{Machine, before, is_young}
 use Rattle.lock_machine.specs.Steady.{is_steady}
 use Rattle.lock_machine.specs.declared.work.Work.{Work}

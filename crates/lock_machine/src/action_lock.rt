@@ -8,9 +8,8 @@ ghost use Rattle.lock_machine.specs.Works as spec;
 
 use crate::index_lock::lock_if;
 use crate::steady::is_steady;
-use lint_base::LinterSettings;
 use lint_lock::LockKind;
-use lint_node::{is_checked, new_constraints};
+use lint_pass::{LinterSettings, is_checked, new_constraints};
 use sql_tree::{Action, ActionKind, ConKind, Constraint, Expr, Parse, PieceKind};
 
 /// Whether the version adds no column with a default without a rewrite.

@@ -4,8 +4,7 @@ ghost use Rattle.std.specs.Prelude.{◌≡◌};
 ghost use Rattle.lock_machine.specs.Works as spec;
 
 use lint_lock::LockKind;
-use lint_node::{is_system, same_kind};
-use sql_token::Span;
+use lint_pass::{Span, is_system, same_kind};
 use sql_tree::{Body, ReindexTarget, Stmt, StmtKind};
 
 /// The lock, where there is work.

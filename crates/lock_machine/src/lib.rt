@@ -23,3 +23,6 @@ mod work;
 pub use laws::{births_are_new, numbers_count};
 pub use plain::is_plain;
 pub use work::{Work, lock_work};
+
+// What crates above reach through this one.
+pub use lint_lock::{LockKind, analyze};

@@ -3,20 +3,18 @@
 ghost use Rattle.std.specs.Prelude.{◌≡◌, ◌+◌, ◌-◌, ◌<◌, ◌≤◌, ◌^◌, ◌&&◌, ◌||◌, not, ℕ, List, Some, OnOk, OnErr, if◌then◌else◌};
 ghost use Rattle.sql_tree.specs.Path.{path_cuts};
 ghost use Rattle.sql_tree.specs.Statement.{Tree};
-ghost use Rattle.lint_transaction.specs.SpanMap.{get_span};
-ghost use Rattle.lint_transaction.specs.Transaction as one;
-ghost use Rattle.lint_transaction.specs.Transaction.{is_path};
+ghost use Rattle.lint_pass.specs.lint_transaction.SpanMap.{get_span};
+ghost use Rattle.lint_pass.specs.lint_transaction.Transaction as one;
+ghost use Rattle.lint_pass.specs.lint_transaction.Transaction.{is_path};
 ghost use Rattle.lock_machine.specs.Machine as spec;
 ghost use Rattle.lock_machine.specs.Machine.{after, is_young, start};
 ghost use Rattle.lock_machine.specs.MachineWalk.{IsMachine};
 ghost use Rattle.lock_machine.specs.Works as works;
 
-use lint_transaction::{SpanKey, SpanMap, begins, chains, created, ends};
-use sql_token::Span;
+use lint_pass::{NoMemory, Span, SpanKey, SpanMap, begins, chains, created, ends};
 use sql_tree::{Parse, Stmt};
 use std::alloc::Global;
 use std::marker::Model;
-use text_pos::NoMemory;
 
 /// The number of the last transaction that was begun, whether it is open as a block, and for each table that the text created
 /// the number of the transaction that created it. It holds no text, and finds a table by a hash of its names.
@@ -30,7 +28,7 @@ pub(crate) struct Machine {
 impl Model for Machine {
     ghost use Rattle.std.specs.Prelude.{◌≡◌};
     ghost use Rattle.lock_machine.specs.MachineWalk.{Kept};
-    ghost use Rattle.lint_transaction.specs.declared.span_key.SpanKey.TheVariants as by;
+    ghost use Rattle.lint_pass.specs.lint_transaction.declared.span_key.SpanKey.TheVariants as by;
 
     ghost Value = { Kept };
 

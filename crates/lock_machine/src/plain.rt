@@ -2,13 +2,13 @@
 
 ghost use Rattle.std.specs.Prelude.{◌≡◌};
 ghost use Rattle.std.specs.List.{list_any};
-ghost use Rattle.lint_node.specs.Parts as node;
+ghost use Rattle.lint_pass.specs.lint_node.Parts as node;
 ghost use Rattle.lock_machine.specs.Plain as spec;
 ghost use Rattle.lock_machine.specs.Plain.{plain};
 
 use crate::array::has_array;
 use crate::search_path::{sets_schema, sets_search_path};
-use lint_node::{new_constraints, same_constraint, table_actions};
+use lint_pass::{new_constraints, same_constraint, table_actions};
 use sql_tree::{Action, Body, ConKind, Constraint, Expr, Parse, Stmt, StmtKind};
 
 fn is_unplain_kind(kind: StmtKind) -> bool

@@ -1,15 +1,12 @@
 //! Statements that set the search path, by which a table's name finds its schema.
 
 ghost use Rattle.std.specs.Prelude.{◌≡◌, ◌+◌, ◌<◌, ◌∷◌, [], drop, length, IfSome, IfNone};
-ghost use Rattle.sql_token.specs.Token.{text_of};
+ghost use Rattle.lint_pass.specs.sql_token.Token.{text_of};
 ghost use Rattle.sql_tree.specs.Range.{token_at};
 ghost use Rattle.lock_machine.specs.Plain as spec;
 ghost use Rattle.lock_machine.specs.Plain.{word_by, words_from};
 
-use lint_node::same_kind;
-use lint_transaction::is_one_name;
-use sql_keyword::{Keyword, keyword_of, same_keyword};
-use sql_token::{Span, TokKind};
+use lint_pass::{Keyword, Span, TokKind, is_one_name, keyword_of, same_keyword, same_kind};
 use sql_tree::{Body, Parse, Stmt, StmtKind};
 
 fn is_search_path(p: &Parse<'_>, name: Option<Span>) -> bool

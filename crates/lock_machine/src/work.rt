@@ -2,7 +2,7 @@
 
 ghost use Rattle.std.specs.Prelude.{◌≡◌, ◌+◌, ◌-◌, ◌++◌, ◌<◌, ◌≤◌, ◌^◌, Bool, IfOk, OnOk, length};
 ghost use Rattle.sql_tree.specs.Statement.{IsTree};
-ghost use Rattle.lint_transaction.specs.Transaction.{stmt_at};
+ghost use Rattle.lint_pass.specs.lint_transaction.Transaction.{stmt_at};
 ghost use Rattle.lock_machine.specs.Machine as state;
 ghost use Rattle.lock_machine.specs.Machine.{before};
 ghost use Rattle.lock_machine.specs.MachineWalk.{IsMachine};
@@ -12,14 +12,13 @@ ghost use Rattle.std.specs.Option.{option_map};
 use crate::action_lock::action_lock;
 use crate::index_lock::{index_lock, indexed_table};
 use crate::machine::Machine;
-use lint_base::LinterSettings;
-use lint_ignore::has_disable_assume_in_transaction;
 use lint_lock::LockKind;
-use lint_node::{altered_path, table_actions};
-use sql_token::Span;
+use lint_pass::{
+    LinterSettings, NoMemory, Span, TextRange, altered_path, has_disable_assume_in_transaction,
+    table_actions,
+};
 use sql_tree::{Action, Parse, Stmt};
 use std::alloc::Global;
-use text_pos::{NoMemory, TextRange};
 
 /// Work that a statement does to a table under a lock, which it holds for as long as the table is long. Where the table is old,
 /// who uses it waits for all that time: for writes to it, and under ACCESS EXCLUSIVE for reads as well.

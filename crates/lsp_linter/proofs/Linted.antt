@@ -1,19 +1,19 @@
 -- The reports of a text that has a tree.
 use Rattle.std.proofs.Common.{◌≡◌, ◌∙◌, ℕ, List, ap, refl}
-use Rattle.hazard_base.specs.declared.hazard_set.HazardSet.{HazardSet}
-use Rattle.lint_base.specs.declared.settings.LinterSettings.{LinterSettings}
-use Rattle.lint_base.specs.RuleSets.{Rules}
-use Rattle.lint_report.specs.declared.report.Report as by
-use Rattle.lsp_report.specs.declared.report.Report.{Report}
+use Rattle.text_reports.specs.hazard_base.declared.hazard_set.HazardSet.{HazardSet}
+use Rattle.text_reports.specs.lint_base.declared.settings.LinterSettings.{LinterSettings}
+use Rattle.text_reports.specs.lint_base.RuleSets.{Rules}
+use Rattle.text_reports.specs.lint_report.declared.report.Report as by
+use Rattle.lsp_shown.specs.lsp_session.declared.report.Report.{Report}
 use Rattle.lsp_linter.specs.Shown.{Lints}
 use Rattle.lsp_shown.specs.declared.ignore.Lines.{Lines}
 use Rattle.lsp_shown.specs.Notes.{notes_in}
 use Rattle.lsp_shown.specs.Shown.{shown}
 use Rattle.lsp_shown.specs.Tokens.{long_tokens}
-use Rattle.sql_token.specs.declared.token.Tok.{Tok}
-use Rattle.sql_tree.specs.Statement.{IsTree, Tree}
+use Rattle.text_reports.specs.sql_token.declared.token.Tok.{Tok}
+use Rattle.text_reports.specs.sql_tree.Statement.{IsTree, Tree}
 use Rattle.text_reports.specs.Reports.{all_reports}
-use Rattle.text_utf16.specs.declared.position.Pos.{Pos}
+use Rattle.lsp_shown.specs.text_utf16.declared.position.Pos.{Pos}
 
 -- an index of the text, the lines of its long tokens, and its comments that take a name
 pub shown_same : (index text : List ℕ) (tokens : List Tok) (lines : List Lines) (notes : List Pos) (rs : List by.Report) → index ≡ text → lines ≡ long_tokens index tokens

@@ -3,19 +3,19 @@ use Rattle.std.proofs.Common.{◌≡◌, ℕ, List, Option, None, Some, IfSome, 
 use Rattle.std.proofs.lemmas.List.Elements.{All-weaker}
 use Rattle.std.specs.Str.{IsCharBoundary, IsUtf8}
 use Rattle.law_fault_places.proofs.Places.{open_between, syntax_between}
-use Rattle.lint_base.specs.declared.edit.Edit.{Edit}
-use Rattle.lint_ignore.specs.Places.{IsPlace}
-use Rattle.lint_pass.specs.Laws.{AreEdits}
-use Rattle.lint_report.specs.declared.report.Report.{Report}
-use Rattle.lint_report.specs.declared.report.ReportFix.{ReportFix}
+use Rattle.text_reports.specs.lint_base.declared.edit.Edit.{Edit}
+use Rattle.text_reports.specs.lint_ignore.Places.{IsPlace}
+use Rattle.text_reports.specs.lint_pass.Laws.{AreEdits}
+use Rattle.text_reports.specs.lint_report.declared.report.Report.{Report}
+use Rattle.text_reports.specs.lint_report.declared.report.ReportFix.{ReportFix}
 use Rattle.lsp_shown.specs.Places.{EditIn, FixIn, ReportIn}
 use Rattle.lsp_shown.specs.Tokens.{TokenIn}
-use Rattle.source_file.specs.File.{IsRangeIn}
-use Rattle.sql_token.proofs.Boundaries.{token_between}
-use Rattle.sql_token.specs.declared.token.Tok.{Tok}
-use Rattle.sql_token.specs.Token.{Lexed, OpenAt, Text}
-use Rattle.sql_tree.specs.Statement.{IsSyntaxAt}
-use Rattle.text_pos.specs.Range.{Range}
+use Rattle.lsp_shown.specs.source_file.File.{IsRangeIn}
+use Rattle.text_reports.proofs.of_sql_token.Boundaries.{token_between}
+use Rattle.text_reports.specs.sql_token.declared.token.Tok.{Tok}
+use Rattle.text_reports.specs.sql_token.Token.{Lexed, OpenAt, Text}
+use Rattle.text_reports.specs.sql_tree.Statement.{IsSyntaxAt}
+use Rattle.text_reports.specs.text_pos.Range.{Range}
 use Rattle.text_reports.specs.Placed.{IsReportPlaced}
 
 -- ---- tokens

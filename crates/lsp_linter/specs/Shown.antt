@@ -1,19 +1,19 @@
 -- Which reports a text has for an editor.
 use Rattle.std.specs.Prelude.{◌≡◌, ◌⊎◌, ℕ, List, [], ◌∷◌, Option, Some, None, codes}
-use Rattle.hazard_base.specs.declared.hazard_set.HazardSet.{HazardSet}
-use Rattle.lint_base.specs.RuleSets.{Rules}
-use Rattle.lint_base.specs.declared.settings.LinterSettings.{LinterSettings}
-use Rattle.lsp_report.specs.declared.report.Report.{Report}
+use Rattle.text_reports.specs.hazard_base.declared.hazard_set.HazardSet.{HazardSet}
+use Rattle.text_reports.specs.lint_base.RuleSets.{Rules}
+use Rattle.text_reports.specs.lint_base.declared.settings.LinterSettings.{LinterSettings}
+use Rattle.lsp_shown.specs.lsp_session.declared.report.Report.{Report}
 use Rattle.lsp_shown.specs.Notes.{notes_in}
 use Rattle.lsp_shown.specs.Shown.{refused_at, shown}
 use Rattle.lsp_shown.specs.Tokens.{long_tokens}
-use Rattle.sql_read.specs.Cause.{IsCause, IsTreeOf}
-use Rattle.sql_read.specs.declared.error.LintError.{LintError}
-use Rattle.sql_read.specs.declared.error.LintError.TheVariants.{TooLong, Unterminated, Syntax, NoMemory}
-use Rattle.sql_tree.specs.Statement.{Tree}
+use Rattle.text_reports.specs.sql_read.Cause.{IsCause, IsTreeOf}
+use Rattle.text_reports.specs.sql_read.declared.error.LintError.{LintError}
+use Rattle.text_reports.specs.sql_read.declared.error.LintError.TheVariants.{TooLong, Unterminated, Syntax, NoMemory}
+use Rattle.text_reports.specs.sql_tree.Statement.{Tree}
 use Rattle.text_reports.specs.Reports.{all_reports}
-use Rattle.text_utf16.specs.Position.{position_of}
-use Rattle.text_utf16.specs.declared.position.Pos.{Pos}
+use Rattle.lsp_shown.specs.text_utf16.Position.{position_of}
+use Rattle.lsp_shown.specs.text_utf16.declared.position.Pos.{Pos}
 
 -- a text with a tree, and all that is reported of it, at positions
 pub record Lints (rules : Rules) (hazards : HazardSet) (settings : LinterSettings) (t : List ℕ) (found : List Report) : Type 0 where

@@ -7,3 +7,6 @@ mod linting;
 mod text;
 
 pub use linting::Linting;
+
+// What crates above reach through this one.
+pub use text_reports::{Linter, TextLinter};

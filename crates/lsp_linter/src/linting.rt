@@ -3,10 +3,9 @@ ghost use Rattle.std.specs.Prelude.{◌≡◌};
 ghost use Rattle.lsp_linter.specs.Shown.{Shows};
 
 use crate::text::check_text;
-use lsp_report::{Checker, Report};
+use lsp_shown::{Checker, Report};
 use std::alloc::Global;
-use text_pos::NoMemory;
-use text_reports::TextLinter;
+use text_reports::{NoMemory, TextLinter};
 
 /// A linter that finds the reports of a text. No text changes it.
 #[derive(Drop)]

@@ -6,27 +6,22 @@ ghost use Rattle.lsp_shown.specs.Notes.{notes_in};
 ghost use Rattle.lsp_shown.specs.Places.{ReportIn};
 ghost use Rattle.lsp_shown.specs.Shown.{shown};
 ghost use Rattle.lsp_shown.specs.Tokens.{long_tokens};
-ghost use Rattle.sql_read.specs.Cause.{IsCause};
-ghost use Rattle.sql_token.specs.Token.{Lexed};
+ghost use Rattle.text_reports.specs.sql_read.Cause.{IsCause};
+ghost use Rattle.text_reports.specs.sql_token.Token.{Lexed};
 ghost use Rattle.std.specs.Str.{IsCharBoundary};
-ghost use Rattle.text_utf16.specs.Position.{position_of};
+ghost use Rattle.lsp_shown.specs.text_utf16.Position.{position_of};
 
-use lsp_report::Report;
-use lsp_shown::{long_tokens, notes_in, refused_at, shown};
-use sql_read::{LintError, parse};
-use sql_token::Tok;
-use sql_tree::Parse;
+use lsp_shown::{Pos, PosIndex, Report, long_tokens, notes_in, refused_at, shown};
 use std::alloc::Global;
-use text_pos::{NoMemory, TextSize};
-use text_reports::{TextLinter, find_reports};
-use text_utf16::{Pos, PosIndex};
+use text_reports::sql_read::parse;
+use text_reports::{LintError, NoMemory, Parse, TextLinter, TextSize, Tok, find_reports};
 
 // Reports of a text with these tokens, at positions.
 fn shown_of(
     alloc: Global,
     text: &str,
     tokens: &[Tok],
-    reports: Vec<lint_report::Report>,
+    reports: Vec<text_reports::Report>,
 ) -> Result<Vec<Report>, NoMemory>
     requires short { length text.now < 2 ^ 32 }
     requires tokens { Lexed text.now tokens.now }

@@ -4,3 +4,4 @@ pub mod PartValue
 pub mod Root
 pub mod Method
 pub mod Message
+pub use Rattle.lsp_session.specs as lsp_session

@@ -4,11 +4,11 @@ use Rattle.std.specs.Str.{is_utf8}
 use Rattle.serde_json.specs.Data.{Data, array, boolean, null, number, object, string}
 use Rattle.serde_json.specs.Find.{as_i64, get}
 use Rattle.serde_json.specs.Read.{read}
-use Rattle.lsp_message.specs.declared.message.Id as id
-use Rattle.lsp_message.specs.declared.message.Id.TheVariants.{Number, Text}
-use Rattle.lsp_message.specs.declared.message.Message.{Message}
-use Rattle.lsp_message.specs.declared.message.Message.TheVariants.{Request, Notice, Response, Unreadable}
-use Rattle.lsp_message.specs.declared.reply.Refusal.TheVariants.{BadRequest, NotJson}
+use Rattle.lsp_session.specs.declared.message.Id as id
+use Rattle.lsp_session.specs.declared.message.Id.TheVariants.{Number, Text}
+use Rattle.lsp_session.specs.declared.message.Message.{Message}
+use Rattle.lsp_session.specs.declared.message.Message.TheVariants.{Request, Notice, Response, Unreadable}
+use Rattle.lsp_session.specs.declared.reply.Refusal.TheVariants.{BadRequest, NotJson}
 use Rattle.lsp_read.specs.Method.{call_of, notice_of}
 use Rattle.lsp_read.specs.Params.{text_at}
 

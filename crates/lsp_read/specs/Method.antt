@@ -1,12 +1,12 @@
 -- What the methods of requests and notifications ask for and tell.
 use Rattle.std.specs.Prelude.{ℕ, List, Option, Some, None, codes, bytes_eq, option_and_then, if◌then◌else◌}
 use Rattle.serde_json.specs.Data.{Data}
-use Rattle.lsp_message.specs.declared.message.Call.{Call}
-use Rattle.lsp_message.specs.declared.message.Call.TheVariants.{Initialize, Shutdown, Actions, Hover, Misread, Unknown}
-use Rattle.lsp_message.specs.declared.message.Document.{Document}
-use Rattle.lsp_message.specs.declared.message.Notice.{Notice}
-use Rattle.lsp_message.specs.declared.message.Notice.TheVariants.{Exit, Opened, Changed, Closed, Other}
-use Rattle.text_utf16.specs.declared.position.Pos.{Pos}
+use Rattle.lsp_session.specs.declared.message.Call.{Call}
+use Rattle.lsp_session.specs.declared.message.Call.TheVariants.{Initialize, Shutdown, Actions, Hover, Misread, Unknown}
+use Rattle.lsp_session.specs.declared.message.Document.{Document}
+use Rattle.lsp_session.specs.declared.message.Notice.{Notice}
+use Rattle.lsp_session.specs.declared.message.Notice.TheVariants.{Exit, Opened, Changed, Closed, Other}
+use Rattle.lsp_session.specs.text_utf16.declared.position.Pos.{Pos}
 use Rattle.lsp_read.specs.Params.{Part, changed_in, opened_in, part_in, uri_in}
 use Rattle.lsp_read.specs.Place.{position_at}
 use Rattle.lsp_read.specs.Root.{root_in}

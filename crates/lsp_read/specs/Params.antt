@@ -3,9 +3,9 @@ use Rattle.std.specs.Prelude.{ℕ, ◌-◌, ℤ, List, Option, Some, None, codes
 use Rattle.serde_json.specs.Data.{Data, Items}
 use Rattle.serde_json.specs.Events.{items_len}
 use Rattle.serde_json.specs.Find.{as_array, as_i64, as_number, as_str, get, get_item}
-use Rattle.lsp_message.specs.declared.message.Document.{Document}
+use Rattle.lsp_session.specs.declared.message.Document.{Document}
 use Rattle.lsp_read.specs.Place.{position_at}
-use Rattle.text_utf16.specs.declared.position.Pos.{Pos}
+use Rattle.lsp_session.specs.text_utf16.declared.position.Pos.{Pos}
 
 -- the text that a member is
 unfoldable pub text_at : List ℕ → Data → Option (List ℕ)

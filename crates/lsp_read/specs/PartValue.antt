@@ -1,7 +1,7 @@
 -- What is read of parameters, as definitions see it.
 use Rattle.std.specs.Prelude.{ℕ, List}
-use Rattle.text_utf16.specs.declared.position.Pos.{Pos}
-use Rattle.lsp_message.specs.declared.message.Document.{Document}
+use Rattle.lsp_session.specs.text_utf16.declared.position.Pos.{Pos}
+use Rattle.lsp_session.specs.declared.message.Document.{Document}
 use Rattle.lsp_read.specs.Params.{Part}
 use Rattle.lsp_read.specs.declared.method.PlaceRead.{PlaceRead}
 use Rattle.lsp_read.specs.declared.params.DocumentRead.{DocumentRead}

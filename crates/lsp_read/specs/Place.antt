@@ -2,7 +2,7 @@
 use Rattle.std.specs.Prelude.{ℕ, ◌^◌, List, Option, Some, None, codes, nat_lt, option_and_then, if◌then◌else◌}
 use Rattle.serde_json.specs.Data.{Data}
 use Rattle.serde_json.specs.Find.{as_number, as_u64, get}
-use Rattle.text_utf16.specs.declared.position.Pos.{Pos}
+use Rattle.lsp_session.specs.text_utf16.declared.position.Pos.{Pos}
 
 -- a whole number below 2 ^ 32
 abbrev pub coordinate : Data → Option ℕ

@@ -11,3 +11,6 @@ mod root;
 mod text;
 
 pub use message::read_message;
+
+// What crates above reach through this one.
+pub use lsp_session::{Answer, Checker, Enter, Reply, Report, Session, Stage, Text};

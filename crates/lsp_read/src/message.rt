@@ -9,10 +9,9 @@ ghost use Rattle.lsp_read.specs.Message.{id_of, message_if, message_in, message_
 use crate::method::{call_of, notice_of};
 use crate::params::text_at;
 use crate::text::{text_made, text_of};
-use lsp_message::{Id, Message, Refusal};
+use lsp_session::{Id, Message, NoMemory, Refusal};
 use serde_json::Value;
 use std::alloc::{AllocError, Global};
-use text_pos::NoMemory;
 
 fn id_of(alloc: Global, value: &Value) -> Result<Option<Id>, AllocError>
     ensures { IfOk result (λ id. id ≡ id_of (view value.now)) }

@@ -9,10 +9,9 @@ use crate::params::{DocumentRead, changed_in, opened_in, part_in, uri_in};
 use crate::place::position_at;
 use crate::root::root_of;
 use crate::text::text_made;
-use lsp_message::{Call, Document, Notice};
+use lsp_session::{Call, Document, Notice, Pos};
 use serde_json::Value;
 use std::alloc::{AllocError, Global};
-use text_utf16::Pos;
 
 fn document_made(alloc: Global, read: DocumentRead<'_>) -> Result<Document, AllocError>
     ensures { IfOk result (λ document. document ≡ document_value read.entry) }

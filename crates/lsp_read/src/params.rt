@@ -6,8 +6,8 @@ ghost use Rattle.lsp_read.specs.Params.{changed_in, last_change, opened_in, part
 ghost use Rattle.lsp_read.specs.PartValue.{document_value, part_value};
 
 use crate::place::position_at;
+use lsp_session::Pos;
 use serde_json::Value;
-use text_utf16::Pos;
 
 /// A part of a document.
 #[derive(Clone, Copy)]

@@ -3,8 +3,8 @@ ghost use Rattle.std.specs.Prelude.{◌≡◌};
 ghost use Rattle.serde_json.specs.View.{view};
 ghost use Rattle.lsp_read.specs.Place.{coordinate, coordinate_at, position, position_at};
 
+use lsp_session::Pos;
 use serde_json::Value;
-use text_utf16::Pos;
 
 fn coordinate(value: &Value) -> Option<u32>
     ensures { result ≡ coordinate (view value.now) }

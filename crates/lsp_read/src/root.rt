@@ -5,7 +5,7 @@ ghost use Rattle.lsp_read.specs.Root.{absolute, after, decoded, folder_in, named
 
 use crate::params::text_at;
 use crate::text::{text_made, text_of};
-use lint_base::Text;
+use lsp_session::Text;
 use percent_encoding::percent_decode;
 use serde_json::Value;
 use std::alloc::{AllocError, Global};

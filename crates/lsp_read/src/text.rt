@@ -2,7 +2,7 @@
 ghost use Rattle.std.specs.Prelude.{◌≡◌, is_some, IfOk, IfSome};
 ghost use Rattle.std.specs.Str.{is_utf8};
 
-use lint_base::Text;
+use lsp_session::Text;
 use simdutf8::basic::from_utf8;
 use std::alloc::{AllocError, Global};
 

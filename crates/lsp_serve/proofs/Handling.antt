@@ -1,17 +1,17 @@
 -- A message that a session takes and steps on.
 use Rattle.std.proofs.Common.{◌≡◌, ◌∙◌, ◌⊎◌, ap, inl, inr, refl, subst, sym, ℕ, List, Option, None}
-use Rattle.lsp_message.specs.declared.message.Message.{Message}
-use Rattle.lsp_message.specs.declared.message.Message.TheVariants.{Request, Notice, Response, Unreadable}
-use Rattle.lsp_message.specs.declared.reply.Reply.{Reply}
-use Rattle.lsp_report.specs.declared.report.Report.{Report}
+use Rattle.lsp_read.specs.lsp_session.declared.message.Message.{Message}
+use Rattle.lsp_read.specs.lsp_session.declared.message.Message.TheVariants.{Request, Notice, Response, Unreadable}
+use Rattle.lsp_read.specs.lsp_session.declared.reply.Reply.{Reply}
+use Rattle.lsp_read.specs.lsp_session.declared.report.Report.{Report}
 use Rattle.lsp_serve.specs.Turns.{Handles}
 use Rattle.lsp_serve.proofs.Saying.{says_same}
-use Rattle.lsp_session.specs.Entry.{IsTakenAs}
-use Rattle.lsp_session.specs.Session.{PublishesNow, Says, answered, asked, document_after, document_of, published}
-use Rattle.lsp_session.specs.Stages.{stage_after}
-use Rattle.lsp_session.specs.declared.session.Session.{Session}
-use Rattle.lsp_session.specs.declared.stage.Stage.{Stage}
-use Rattle.lsp_session.specs.declared.stage.Stage.TheVariants.{Fresh, Running, Down, Gone}
+use Rattle.lsp_read.specs.lsp_session.Entry.{IsTakenAs}
+use Rattle.lsp_read.specs.lsp_session.Session.{PublishesNow, Says, answered, asked, document_after, document_of, published}
+use Rattle.lsp_read.specs.lsp_session.Stages.{stage_after}
+use Rattle.lsp_read.specs.lsp_session.declared.session.Session.{Session}
+use Rattle.lsp_read.specs.lsp_session.declared.stage.Stage.{Stage}
+use Rattle.lsp_read.specs.lsp_session.declared.stage.Stage.TheVariants.{Fresh, Running, Down, Gone}
 
 module _ {C : Type 0} (Enters : C → Option (List ℕ) → C → Type 0) (Refuses : C → Option (List ℕ) → List ℕ → C → Type 0) where
   kept_at_work : (stage : Stage) (m t : Message) (old new : C) → IsTakenAs Enters Refuses stage m t old new → (new ≡ old) ⊎ (stage ≡ Fresh)

@@ -1,3 +1,6 @@
+pub mod Back
+pub mod Finding
+pub mod Keeping
 mod Saying
 mod Handling
 mod Turning

@@ -1,24 +1,24 @@
 -- What is said to each message, with other documents of the same texts, by another checker, and with one message more.
 use Rattle.std.proofs.Common.{◌≡◌, ◌≢◌, ◌∙◌, ap, append-nil, flat_map, option_to_list, refl, subst, sym, ℕ, Bool, List, [], ◌∷◌, ◌++◌, Option, Some, None, MatchOption}
 use Rattle.std.proofs.lemmas.Grind.{flat_map-append}
-use Rattle.lsp_message.specs.declared.message.Call.{Call}
-use Rattle.lsp_message.specs.declared.message.Call.TheVariants.{Initialize, ConfigRefused, Shutdown, Actions, Hover, Misread, Unknown}
-use Rattle.lsp_message.specs.declared.message.Document.{Document}
-use Rattle.lsp_message.specs.declared.message.Message.{Message}
-use Rattle.lsp_message.specs.declared.message.Message.TheVariants.{Request, Notice, Response, Unreadable}
-use Rattle.lsp_message.specs.declared.message.Notice as notice
-use Rattle.lsp_message.specs.declared.message.Notice.TheVariants.{Exit, Opened, Changed, Closed, Other}
-use Rattle.lsp_message.specs.declared.reply.Answer as answer
-use Rattle.lsp_message.specs.declared.reply.Answer.TheVariants.{Capabilities, Done, Remedies, Explanation, Refused, Failed}
-use Rattle.lsp_message.specs.declared.reply.Reply.{Reply}
-use Rattle.lsp_message.specs.declared.reply.Reply.TheVariants.{Answer, Reports}
-use Rattle.lsp_report.specs.declared.report.Report.{Report}
+use Rattle.lsp_read.specs.lsp_session.declared.message.Call.{Call}
+use Rattle.lsp_read.specs.lsp_session.declared.message.Call.TheVariants.{Initialize, ConfigRefused, Shutdown, Actions, Hover, Misread, Unknown}
+use Rattle.lsp_read.specs.lsp_session.declared.message.Document.{Document}
+use Rattle.lsp_read.specs.lsp_session.declared.message.Message.{Message}
+use Rattle.lsp_read.specs.lsp_session.declared.message.Message.TheVariants.{Request, Notice, Response, Unreadable}
+use Rattle.lsp_read.specs.lsp_session.declared.message.Notice as notice
+use Rattle.lsp_read.specs.lsp_session.declared.message.Notice.TheVariants.{Exit, Opened, Changed, Closed, Other}
+use Rattle.lsp_read.specs.lsp_session.declared.reply.Answer as answer
+use Rattle.lsp_read.specs.lsp_session.declared.reply.Answer.TheVariants.{Capabilities, Done, Remedies, Explanation, Refused, Failed}
+use Rattle.lsp_read.specs.lsp_session.declared.reply.Reply.{Reply}
+use Rattle.lsp_read.specs.lsp_session.declared.reply.Reply.TheVariants.{Answer, Reports}
+use Rattle.lsp_read.specs.lsp_session.declared.report.Report.{Report}
 use Rattle.lsp_serve.specs.Said.{SaysEach}
-use Rattle.lsp_session.specs.Conversation.{document_behind, stage_behind}
-use Rattle.lsp_session.specs.Session.{AnswerFits, Answers, AreReportsOf, IsPublication, Says, SaysOf, document_after}
-use Rattle.lsp_session.specs.Stages.{refusal_at, stage_after, stage_called}
-use Rattle.lsp_session.specs.declared.stage.Stage.{Stage}
-use Rattle.lsp_session.specs.declared.stage.Stage.TheVariants.{Fresh, Running, Down, Gone}
+use Rattle.lsp_read.specs.lsp_session.Conversation.{document_behind, stage_behind}
+use Rattle.lsp_read.specs.lsp_session.Session.{AnswerFits, Answers, AreReportsOf, IsPublication, Says, SaysOf, document_after}
+use Rattle.lsp_read.specs.lsp_session.Stages.{refusal_at, stage_after, stage_called}
+use Rattle.lsp_read.specs.lsp_session.declared.stage.Stage.{Stage}
+use Rattle.lsp_read.specs.lsp_session.declared.stage.Stage.TheVariants.{Fresh, Running, Down, Gone}
 
 match_other : {A : Type 0} (o : Option A) (P Q : Type 0) (R : A → Type 0) → (P → Q) → MatchOption o P R → MatchOption o Q R
 match_other None P Q R f h = f h

@@ -3,21 +3,21 @@ use Rattle.std.proofs.Common.{◌≡◌, ℕ, List, None, OnOk, Option, Result, 
 use Rattle.std.specs.declared.alloc.Global.{Global}
 use Rattle.std.specs.Io.KnownBytes.{IsAtEnd}
 use Rattle.std.proofs.KnownBytes.{Keeps-refl}
-use Rattle.lsp_frame.specs.Reading.{NextIs, StopFits, TakesMessage, coming}
-use Rattle.lsp_frame.specs.declared.reader.FrameError.{FrameError}
-use Rattle.lsp_frame.specs.declared.reader.FrameError.TheVariants as frame
-use Rattle.lsp_message.specs.declared.message.Message.{Message}
-use Rattle.lsp_message.specs.declared.reply.Reply.{Reply}
+use Rattle.lsp_serve.specs.Reading.{NextIs, StopFits, TakesMessage, coming}
+use Rattle.lsp_serve.specs.declared.reader.FrameError.{FrameError}
+use Rattle.lsp_serve.specs.declared.reader.FrameError.TheVariants as frame
+use Rattle.lsp_read.specs.lsp_session.declared.message.Message.{Message}
+use Rattle.lsp_read.specs.lsp_session.declared.reply.Reply.{Reply}
 use Rattle.lsp_read.specs.Message.{message_of}
-use Rattle.lsp_report.specs.declared.report.Report.{Report}
+use Rattle.lsp_read.specs.lsp_session.declared.report.Report.{Report}
 use Rattle.lsp_serve.specs.declared.end.End.{End}
 use Rattle.lsp_serve.specs.declared.end.End.TheVariants.{Exited, EndOfInput, BadFrame, CutOff, ReadFault, WriteFault, NoMemory}
 use Rattle.lsp_serve.specs.Ends.{end_of}
 use Rattle.lsp_serve.specs.Said.{said_bytes}
 use Rattle.lsp_serve.specs.Served.{BeginsWith, Streams}
 use Rattle.lsp_serve.specs.Turns.{Handles, Responds, StopsResponding, StopsSaying, StopsTurn, TakesTurn}
-use Rattle.lsp_session.specs.declared.session.Session.{Session}
-use Rattle.lsp_session.specs.declared.stage.Stage.{Stage}
+use Rattle.lsp_read.specs.lsp_session.declared.session.Session.{Session}
+use Rattle.lsp_read.specs.lsp_session.declared.stage.Stage.{Stage}
 
 pub on_ok : {T E : Type 0} (r : Result T E) (P Q : Type 0) → (P → Q) → OnOk r P → OnOk r Q
 on_ok (Ok x) P Q f h = f h

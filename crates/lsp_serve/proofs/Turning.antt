@@ -3,10 +3,10 @@ use Rattle.std.proofs.Common.{◌≡◌, ◌∙◌, ◌⊎◌, ◌≤◌, ap, ar
 use Rattle.std.proofs.KnownBytes.{Appends-kept, Appends-nil, Appends-trans}
 use Rattle.std.proofs.lemmas.Grind.{flat_map-append}
 use Rattle.std.specs.Io.KnownBytes.{Appends}
-use Rattle.lsp_message.specs.declared.message.Document.{Document}
-use Rattle.lsp_message.specs.declared.message.Message.{Message}
-use Rattle.lsp_message.specs.declared.reply.Reply.{Reply}
-use Rattle.lsp_report.specs.declared.report.Report.{Report}
+use Rattle.lsp_read.specs.lsp_session.declared.message.Document.{Document}
+use Rattle.lsp_read.specs.lsp_session.declared.message.Message.{Message}
+use Rattle.lsp_read.specs.lsp_session.declared.reply.Reply.{Reply}
+use Rattle.lsp_read.specs.lsp_session.declared.report.Report.{Report}
 use Rattle.lsp_serve.specs.declared.end.End.{End}
 use Rattle.lsp_serve.specs.declared.end.End.TheVariants.{Exited, EndOfInput, BadFrame, CutOff, ReadFault, WriteFault, NoMemory}
 use Rattle.lsp_serve.specs.Ends.{exit_at}
@@ -14,15 +14,15 @@ use Rattle.lsp_serve.specs.Said.{AreSaidTo, AreTaken, IsOpen, IsOpenBefore, Says
 use Rattle.lsp_serve.specs.Served.{AreRead, BeginsWith, Served, Streams}
 use Rattle.lsp_serve.proofs.Saying.{fresh_before, replies_more, says_anew, says_more, says_same}
 use Rattle.lsp_serve.specs.Turns.{Handles, SoFar, StopsTurn, TakesPart, TakesTurn}
-use Rattle.lsp_session.specs.Conversation.{document_behind, last_published, later, stage_behind}
-use Rattle.lsp_session.specs.Session.{PublishesNow, Published, Says, document_after, document_of, published}
-use Rattle.lsp_session.specs.Stages.{stage_after}
-use Rattle.lsp_session.specs.declared.session.Session.{Session}
-use Rattle.lsp_session.specs.declared.stage.Stage.{Stage}
-use Rattle.lsp_session.specs.declared.stage.Stage.TheVariants.{Fresh, Running, Down, Gone}
-use Rattle.lsp_session.proofs.Conversing.{answered-more, document_behind-more, last_published-more, stage_behind-more, published_onward}
-use Rattle.squawk_stream.specs.Parts.{AppendsPart}
-use Rattle.squawk_stream.proofs.PartLaws.{part_after}
+use Rattle.lsp_read.specs.lsp_session.Conversation.{document_behind, last_published, later, stage_behind}
+use Rattle.lsp_read.specs.lsp_session.Session.{PublishesNow, Published, Says, document_after, document_of, published}
+use Rattle.lsp_read.specs.lsp_session.Stages.{stage_after}
+use Rattle.lsp_read.specs.lsp_session.declared.session.Session.{Session}
+use Rattle.lsp_read.specs.lsp_session.declared.stage.Stage.{Stage}
+use Rattle.lsp_read.specs.lsp_session.declared.stage.Stage.TheVariants.{Fresh, Running, Down, Gone}
+use Rattle.lsp_read.proofs.of_lsp_session.Conversing.{answered-more, document_behind-more, last_published-more, stage_behind-more, published_onward}
+use Rattle.devices.specs.Parts.{AppendsPart}
+use Rattle.devices.proofs.PartLaws.{part_after}
 
 -- ---- one message more
 

@@ -1,12 +1,12 @@
 -- The exit status and the line of each end of a server.
 use Rattle.std.specs.Prelude.{ℕ, List, codes, Option, Some, None, true, false}
-use Rattle.lsp_frame.specs.declared.front.Fault.TheVariants.{Header, TooLong}
-use Rattle.lsp_frame.specs.declared.reader.FrameError.{FrameError}
-use Rattle.lsp_frame.specs.declared.reader.FrameError.TheVariants as frame
+use Rattle.lsp_serve.specs.declared.front.Fault.TheVariants.{Header, TooLong}
+use Rattle.lsp_serve.specs.declared.reader.FrameError.{FrameError}
+use Rattle.lsp_serve.specs.declared.reader.FrameError.TheVariants as frame
 use Rattle.lsp_serve.specs.declared.end.End.{End}
 use Rattle.lsp_serve.specs.declared.end.End.TheVariants.{Exited, EndOfInput, BadFrame, CutOff, ReadFault, WriteFault, NoMemory}
-use Rattle.lsp_session.specs.declared.stage.Stage.{Stage}
-use Rattle.lsp_session.specs.declared.stage.Stage.TheVariants.{Fresh, Running, Down, Gone}
+use Rattle.lsp_read.specs.lsp_session.declared.stage.Stage.{Stage}
+use Rattle.lsp_read.specs.lsp_session.declared.stage.Stage.TheVariants.{Fresh, Running, Down, Gone}
 
 -- the exit status of an end
 abbrev pub code_of : End → ℕ

@@ -1,16 +1,16 @@
 -- What is said to messages, and the bytes that are written for it.
 use Rattle.std.specs.Prelude.{◌≡◌, ℕ, List, [], ◌∷◌, Option, Some, None, flat_map, option_to_list, ⊤}
-use Rattle.lsp_message.specs.declared.message.Document.{Document}
-use Rattle.lsp_frame.specs.Frame.{frame}
-use Rattle.lsp_message.specs.declared.message.Message.{Message}
-use Rattle.lsp_message.specs.declared.reply.Reply.{Reply}
-use Rattle.lsp_report.specs.declared.report.Report.{Report}
+use Rattle.lsp_read.specs.lsp_session.declared.message.Document.{Document}
+use Rattle.lsp_serve.specs.Frame.{frame}
+use Rattle.lsp_read.specs.lsp_session.declared.message.Message.{Message}
+use Rattle.lsp_read.specs.lsp_session.declared.reply.Reply.{Reply}
+use Rattle.lsp_read.specs.lsp_session.declared.report.Report.{Report}
 use Rattle.lsp_serve.specs.Ends.{exit_at}
-use Rattle.lsp_session.specs.Conversation.{all_answered, all_asked, document_behind, last_published}
-use Rattle.lsp_session.specs.Session.{PublishesNow, Says, document_after}
-use Rattle.lsp_session.specs.Stages.{stage_after}
-use Rattle.lsp_session.specs.declared.stage.Stage.{Stage}
-use Rattle.lsp_session.specs.declared.stage.Stage.TheVariants.{Fresh}
+use Rattle.lsp_read.specs.lsp_session.Conversation.{all_answered, all_asked, document_behind, last_published}
+use Rattle.lsp_read.specs.lsp_session.Session.{PublishesNow, Says, document_after}
+use Rattle.lsp_read.specs.lsp_session.Stages.{stage_after}
+use Rattle.lsp_read.specs.lsp_session.declared.stage.Stage.{Stage}
+use Rattle.lsp_read.specs.lsp_session.declared.stage.Stage.TheVariants.{Fresh}
 use Rattle.lsp_write.specs.Reply.{reply_text}
 
 -- a reply as it is written: the frame of its JSON

@@ -2,21 +2,21 @@
 use Rattle.std.specs.Prelude.{◌≡◌, ℕ, List, [], ◌∷◌, Err, ⊤}
 use Rattle.std.specs.declared.option.Option.{Option}
 use Rattle.std.specs.Io.KnownBytes.{Appends, Consumes, IsAtEnd}
-use Rattle.lsp_frame.specs.Frame.{front_of}
-use Rattle.lsp_frame.specs.Reading.{TakesMessage, IsCutOff, coming}
-use Rattle.lsp_frame.specs.declared.front.Fault.{Fault}
-use Rattle.lsp_message.specs.declared.message.Message.{Message}
-use Rattle.lsp_message.specs.declared.reply.Reply.{Reply}
+use Rattle.lsp_serve.specs.Frame.{front_of}
+use Rattle.lsp_serve.specs.Reading.{TakesMessage, IsCutOff, coming}
+use Rattle.lsp_serve.specs.declared.front.Fault.{Fault}
+use Rattle.lsp_read.specs.lsp_session.declared.message.Message.{Message}
+use Rattle.lsp_read.specs.lsp_session.declared.reply.Reply.{Reply}
 use Rattle.lsp_read.specs.Message.{message_of}
-use Rattle.lsp_report.specs.declared.report.Report.{Report}
+use Rattle.lsp_read.specs.lsp_session.declared.report.Report.{Report}
 use Rattle.lsp_serve.specs.Said.{AreSaidTo, AreTaken, IsOpen, IsOpenBefore, all_bytes}
 use Rattle.lsp_serve.specs.declared.end.End.{End}
 use Rattle.lsp_serve.specs.declared.end.End.TheVariants.{Exited, EndOfInput, BadFrame, CutOff, ReadFault, WriteFault, NoMemory}
-use Rattle.lsp_session.specs.Conversation.{stage_behind}
-use Rattle.lsp_session.specs.declared.stage.Stage.{Stage}
-use Rattle.lsp_session.specs.declared.stage.Stage.TheVariants.{Fresh, Gone}
-use Rattle.squawk_stream.specs.Faults.{Rose}
-use Rattle.squawk_stream.specs.Parts.{AppendsPart}
+use Rattle.lsp_read.specs.lsp_session.Conversation.{stage_behind}
+use Rattle.lsp_read.specs.lsp_session.declared.stage.Stage.{Stage}
+use Rattle.lsp_read.specs.lsp_session.declared.stage.Stage.TheVariants.{Fresh, Gone}
+use Rattle.devices.specs.Faults.{Rose}
+use Rattle.devices.specs.Parts.{AppendsPart}
 
 -- How often reads and writes failed, and what the sink holds, as far as that is known.
 pub record Streams : Type 0 where

@@ -1,21 +1,21 @@
 -- One turn of a server, and what is known between two turns.
 use Rattle.std.specs.Prelude.{◌≡◌, ◌⊎◌, ◌≤◌, ℕ, List, Option, None}
 use Rattle.std.specs.Io.KnownBytes.{Appends, IsAtEnd, Keeps}
-use Rattle.lsp_message.specs.declared.message.Message.{Message}
-use Rattle.lsp_message.specs.declared.reply.Reply.{Reply}
-use Rattle.lsp_report.specs.declared.report.Report.{Report}
+use Rattle.lsp_read.specs.lsp_session.declared.message.Message.{Message}
+use Rattle.lsp_read.specs.lsp_session.declared.reply.Reply.{Reply}
+use Rattle.lsp_read.specs.lsp_session.declared.report.Report.{Report}
 use Rattle.lsp_serve.specs.Said.{AreSaidTo, AreTaken, IsOpenBefore, all_bytes, said_bytes}
 use Rattle.lsp_serve.specs.Served.{AreRead, BeginsWith, IsNoFrame, IsPartOfFrame, Streams}
 use Rattle.lsp_serve.specs.declared.end.End.{End}
 use Rattle.lsp_serve.specs.declared.end.End.TheVariants.{Exited, EndOfInput, BadFrame, CutOff, ReadFault, WriteFault, NoMemory}
-use Rattle.lsp_session.specs.Conversation.{document_behind, last_published, stage_behind}
-use Rattle.lsp_session.specs.Session.{PublishesNow, Says, answered, asked, document_after, document_of, published}
-use Rattle.lsp_session.specs.Stages.{stage_after}
-use Rattle.lsp_session.specs.declared.session.Session.{Session}
-use Rattle.lsp_session.specs.declared.stage.Stage.{Stage}
-use Rattle.lsp_session.specs.declared.stage.Stage.TheVariants.{Fresh}
-use Rattle.squawk_stream.specs.Faults.{Rose}
-use Rattle.squawk_stream.specs.Parts.{AppendsPart}
+use Rattle.lsp_read.specs.lsp_session.Conversation.{document_behind, last_published, stage_behind}
+use Rattle.lsp_read.specs.lsp_session.Session.{PublishesNow, Says, answered, asked, document_after, document_of, published}
+use Rattle.lsp_read.specs.lsp_session.Stages.{stage_after}
+use Rattle.lsp_read.specs.lsp_session.declared.session.Session.{Session}
+use Rattle.lsp_read.specs.lsp_session.declared.stage.Stage.{Stage}
+use Rattle.lsp_read.specs.lsp_session.declared.stage.Stage.TheVariants.{Fresh}
+use Rattle.devices.specs.Faults.{Rose}
+use Rattle.devices.specs.Parts.{AppendsPart}
 
 -- What a session takes a message for, what it is after it, and what it says to it. Its checker changes only before it has begun, and nothing
 -- is published then.

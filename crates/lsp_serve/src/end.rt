@@ -2,8 +2,8 @@
 ghost use Rattle.std.specs.Prelude.{◌≡◌};
 ghost use Rattle.lsp_serve.specs.Ends.{code_of, end_of, exit_at, line_of};
 
-use lsp_frame::{Fault, FrameError};
-use lsp_session::Stage;
+use crate::{Fault, FrameError};
+use lsp_read::Stage;
 
 /// How a server ends.
 #[derive(Clone, Copy, Debug, PartialEq, Eq)]

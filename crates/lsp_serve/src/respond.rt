@@ -3,19 +3,15 @@ ghost use Rattle.std.specs.Prelude.{◌≡◌, ◌≤◌, IfErr, IfOk, OnOk};
 ghost use Rattle.std.specs.Io.KnownBytes.{Appends};
 ghost use Rattle.lsp_read.specs.Message.{message_of};
 ghost use Rattle.lsp_serve.specs.Said.{said_bytes};
-ghost use Rattle.lsp_session.specs.Entry.{IsTakenAs};
+ghost use Rattle.lsp_read.specs.lsp_session.Entry.{IsTakenAs};
 ghost use Rattle.lsp_serve.specs.Turns.{Handles, Responds, StopsResponding, StopsSaying};
 
 use crate::end::End;
-use lsp_frame::push_frame;
-use lsp_message::Reply;
-use lsp_read::read_message;
-use lsp_report::Checker;
-use lsp_session::{Enter, Session};
+use crate::push_frame;
+use devices::{NoMemory, Sink, write_all};
+use lsp_read::{Checker, Enter, Reply, Session, read_message};
 use lsp_write::write_reply;
-use squawk_stream::{Sink, write_all};
 use std::alloc::Global;
-use text_pos::NoMemory;
 
 // The frame of what is said, if anything is.
 fn said_bytes(alloc: Global, said: &Option<Reply>) -> Result<Vec<u8>, NoMemory>

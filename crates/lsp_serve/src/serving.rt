@@ -1,20 +1,18 @@
 //! The loop.
 ghost use Rattle.std.specs.Prelude.{◌≡◌, ◌≤◌, ℕ, List, None, IfErr, OnOk};
-ghost use Rattle.lsp_frame.specs.Reading.{coming};
+ghost use Rattle.lsp_serve.specs.Reading.{coming};
 ghost use Rattle.lsp_serve.specs.Served.{Served};
 ghost use Rattle.lsp_serve.specs.Turns.{StopsTurn, TakesTurn};
-ghost use Rattle.lsp_session.specs.Entry.{IsTakenAs};
-ghost use Rattle.lsp_session.specs.Session.{document_of};
-ghost use Rattle.lsp_session.specs.declared.stage.Stage.TheVariants.{Fresh};
+ghost use Rattle.lsp_read.specs.lsp_session.Entry.{IsTakenAs};
+ghost use Rattle.lsp_read.specs.lsp_session.Session.{document_of};
+ghost use Rattle.lsp_read.specs.lsp_session.declared.stage.Stage.TheVariants.{Fresh};
 
+use crate::Frames;
 use crate::end::{End, end_of, exit_at};
 use crate::respond::respond;
-use lsp_frame::Frames;
-use lsp_report::Checker;
-use lsp_session::{Enter, Session};
-use squawk_stream::{Sink, Source};
+use devices::{NoMemory, Sink, Source};
+use lsp_read::{Checker, Enter, Session};
 use std::alloc::Global;
-use text_pos::NoMemory;
 
 // Reads the next message, and writes what is said to it.
 fn take_turn<C: Checker + Enter, S: Source, K: Sink>(

@@ -2,11 +2,11 @@
 use Rattle.std.proofs.Common.{◌≡◌, ◌∙◌, ℕ, List, [], ◌∷◌, ◌++◌, Some, None, option_to_list, append_assoc, append-nil, refl, sym, ap, subst}
 use Rattle.std.specs.declared.option.Option.{Option}
 use Rattle.std.proofs.lemmas.Grind.{flat_map-append}
-use Rattle.lsp_message.specs.declared.message.Document.{Document}
-use Rattle.lsp_message.specs.declared.message.Id.{Id}
-use Rattle.lsp_message.specs.declared.message.Message.{Message}
-use Rattle.lsp_message.specs.declared.reply.Reply.{Reply}
-use Rattle.lsp_report.specs.declared.report.Report.{Report}
+use Rattle.lsp_session.specs.declared.message.Document.{Document}
+use Rattle.lsp_session.specs.declared.message.Id.{Id}
+use Rattle.lsp_session.specs.declared.message.Message.{Message}
+use Rattle.lsp_session.specs.declared.reply.Reply.{Reply}
+use Rattle.lsp_session.specs.declared.report.Report.{Report}
 use Rattle.lsp_session.specs.declared.stage.Stage.{Stage}
 use Rattle.lsp_session.specs.Conversation.{all_answered, all_asked, last_published, later, stage_behind, document_behind}
 use Rattle.lsp_session.specs.Session.{answered, asked, document_after, published, Published, PublishesNow}

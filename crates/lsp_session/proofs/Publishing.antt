@@ -7,8 +7,8 @@ use Rattle.std.specs.String.{string_cmp}
 use Rattle.std.specs.declared.alloc.Global.{Global}
 use Rattle.std.proofs.lemmas.Map.Text.{btree_map_updates_text}
 use Rattle.std.specs.declared.option.Option.{Option}
-use Rattle.lsp_message.specs.declared.message.Document.{Document}
-use Rattle.lsp_report.specs.declared.report.Report.{Report}
+use Rattle.lsp_session.specs.declared.message.Document.{Document}
+use Rattle.lsp_session.specs.declared.report.Report.{Report}
 use Rattle.lsp_session.specs.Session.{IsPublishedOf, PublishesNow, Published}
 
 -- the documents of a map in which one was set

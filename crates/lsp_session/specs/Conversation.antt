@@ -1,9 +1,9 @@
 -- Whole conversations.
 use Rattle.std.specs.Prelude.{ℕ, List, [], ◌∷◌, Some, None, Option, flat_map}
-use Rattle.lsp_message.specs.declared.message.Document.{Document}
-use Rattle.lsp_message.specs.declared.message.Id.{Id}
-use Rattle.lsp_message.specs.declared.message.Message.{Message}
-use Rattle.lsp_message.specs.declared.reply.Reply.{Reply}
+use Rattle.lsp_session.specs.declared.message.Document.{Document}
+use Rattle.lsp_session.specs.declared.message.Id.{Id}
+use Rattle.lsp_session.specs.declared.message.Message.{Message}
+use Rattle.lsp_session.specs.declared.reply.Reply.{Reply}
 use Rattle.lsp_session.specs.declared.stage.Stage.{Stage}
 use Rattle.lsp_session.specs.Session.{answered, asked, document_after, published, Published}
 use Rattle.lsp_session.specs.Stages.{stage_after}

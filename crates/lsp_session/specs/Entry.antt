@@ -1,9 +1,9 @@
 -- How a session takes the message by which it begins.
 use Rattle.std.specs.Prelude.{◌≡◌, ℕ, List, Option}
-use Rattle.lsp_message.specs.declared.message.Call.{Call}
-use Rattle.lsp_message.specs.declared.message.Call.TheVariants.{Initialize, ConfigRefused}
-use Rattle.lsp_message.specs.declared.message.Message.{Message}
-use Rattle.lsp_message.specs.declared.message.Message.TheVariants.{Request}
+use Rattle.lsp_session.specs.declared.message.Call.{Call}
+use Rattle.lsp_session.specs.declared.message.Call.TheVariants.{Initialize, ConfigRefused}
+use Rattle.lsp_session.specs.declared.message.Message.{Message}
+use Rattle.lsp_session.specs.declared.message.Message.TheVariants.{Request}
 use Rattle.lsp_session.specs.declared.stage.Stage.{Stage}
 use Rattle.lsp_session.specs.declared.stage.Stage.TheVariants.{Fresh}
 

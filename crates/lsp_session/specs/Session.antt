@@ -1,20 +1,20 @@
 -- What a message does to a session, and what is said to it.
 use Rattle.std.specs.Prelude.{◌≡◌, ℕ, ℤ, List, [], ◌∷◌, Some, None, Option, option_map, option_and_then, bytes_eq, if◌then◌else◌, MatchOption}
 use Rattle.std.specs.BTreeMap.{get_by_text}
-use Rattle.lsp_message.specs.declared.message.Id.{Id}
-use Rattle.lsp_message.specs.declared.message.Id.TheVariants.{Null}
-use Rattle.lsp_message.specs.declared.message.Call.{Call}
-use Rattle.lsp_message.specs.declared.message.Call.TheVariants.{Initialize, ConfigRefused, Actions, Hover}
-use Rattle.lsp_message.specs.declared.message.Document.{Document}
-use Rattle.lsp_message.specs.declared.message.Message.{Message}
-use Rattle.lsp_message.specs.declared.message.Message.TheVariants.{Request, Notice, Response, Unreadable}
-use Rattle.lsp_message.specs.declared.message.Notice as notice
-use Rattle.lsp_message.specs.declared.message.Notice.TheVariants.{Opened, Changed, Closed}
-use Rattle.lsp_message.specs.declared.reply.Answer as answer
-use Rattle.lsp_message.specs.declared.reply.Answer.TheVariants.{Capabilities, Done, Remedies, Explanation, Refused, Failed}
-use Rattle.lsp_message.specs.declared.reply.Reply.{Reply}
-use Rattle.lsp_message.specs.declared.reply.Reply.TheVariants.{Answer, Reports}
-use Rattle.lsp_report.specs.declared.report.Report.{Report}
+use Rattle.lsp_session.specs.declared.message.Id.{Id}
+use Rattle.lsp_session.specs.declared.message.Id.TheVariants.{Null}
+use Rattle.lsp_session.specs.declared.message.Call.{Call}
+use Rattle.lsp_session.specs.declared.message.Call.TheVariants.{Initialize, ConfigRefused, Actions, Hover}
+use Rattle.lsp_session.specs.declared.message.Document.{Document}
+use Rattle.lsp_session.specs.declared.message.Message.{Message}
+use Rattle.lsp_session.specs.declared.message.Message.TheVariants.{Request, Notice, Response, Unreadable}
+use Rattle.lsp_session.specs.declared.message.Notice as notice
+use Rattle.lsp_session.specs.declared.message.Notice.TheVariants.{Opened, Changed, Closed}
+use Rattle.lsp_session.specs.declared.reply.Answer as answer
+use Rattle.lsp_session.specs.declared.reply.Answer.TheVariants.{Capabilities, Done, Remedies, Explanation, Refused, Failed}
+use Rattle.lsp_session.specs.declared.reply.Reply.{Reply}
+use Rattle.lsp_session.specs.declared.reply.Reply.TheVariants.{Answer, Reports}
+use Rattle.lsp_session.specs.declared.report.Report.{Report}
 use Rattle.lsp_session.specs.declared.session.Session.{Session}
 use Rattle.lsp_session.specs.declared.stage.Stage.{Stage}
 use Rattle.lsp_session.specs.declared.stage.Stage.TheVariants.{Running}

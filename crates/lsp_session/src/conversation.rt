@@ -4,10 +4,9 @@ ghost use Rattle.lsp_session.specs.Conversation.{all_answered, all_asked, last_p
 ghost use Rattle.lsp_session.specs.Session.{document_of, PublishesNow};
 
 use crate::session::Session;
-use lsp_message::{Message, Reply};
-use lsp_report::Checker;
+use crate::{Checker, Message, Reply};
+use lint_report::NoMemory;
 use std::alloc::Global;
-use text_pos::NoMemory;
 
 /// Takes messages one after the other, and gives all that is said to them, in order. The error comes when memory runs out.
 pub fn converse<C: Checker>(

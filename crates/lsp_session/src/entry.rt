@@ -1,9 +1,8 @@
 //! How a checker is entered.
 ghost use Rattle.std.specs.Prelude.{ℕ, List, Option, IfOk, MatchOption};
 
-use lint_base::Text;
+use lint_report::{NoMemory, Text};
 use std::alloc::Global;
-use text_pos::NoMemory;
 
 /// A checker that settles what it shows of texts when a session begins, from the root of the workspace.
 pub trait Enter {

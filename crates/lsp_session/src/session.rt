@@ -1,7 +1,7 @@
 //! The session.
 ghost use Rattle.std.specs.Prelude.{◌≡◌, IfOk, OnOk, List, [], ℕ, None, Some};
-ghost use Rattle.lsp_message.specs.declared.message.Message.TheVariants as message;
-ghost use Rattle.lsp_message.specs.declared.message.Notice.TheVariants.{Changed, Closed, Opened};
+ghost use Rattle.lsp_session.specs.declared.message.Message.TheVariants as message;
+ghost use Rattle.lsp_session.specs.declared.message.Notice.TheVariants.{Changed, Closed, Opened};
 ghost use Rattle.lsp_session.specs.declared.stage.Stage.TheVariants.{Fresh};
 ghost use Rattle.lsp_session.specs.Entry.{BeginsAs, IsCallAs, IsTakenAs};
 ghost use Rattle.lsp_session.specs.Session.{answered, asked, document_after, document_by, document_of, published, AnswerFits, AreReportsOf, IsPublication, PublishesNow, Says, SaysOf};
@@ -9,12 +9,10 @@ ghost use Rattle.lsp_session.specs.Stages.{stage_after};
 
 use crate::entry::Enter;
 use crate::stage::{Stage, refusal_at, stage_called, stage_heard};
-use lint_base::Text;
-use lsp_message::{Answer, Call, Document, Id, Message, Notice, Reply};
-use lsp_report::{Checker, Report};
+use crate::{Answer, Call, Checker, Document, Id, Message, Notice, Reply, Report};
+use lint_report::{NoMemory, Text};
 use std::alloc::Global;
 use std::collections::BTreeMap;
-use text_pos::NoMemory;
 
 /// A session of a language server. Its state is how far it is, and the documents that are open.
 #[derive(Drop)]

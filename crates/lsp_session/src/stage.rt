@@ -1,9 +1,9 @@
 //! How far a session is.
 ghost use Rattle.std.specs.Prelude.{◌≡◌};
-ghost use Rattle.lsp_message.specs.declared.message.Message.TheVariants as message;
+ghost use Rattle.lsp_session.specs.declared.message.Message.TheVariants as message;
 ghost use Rattle.lsp_session.specs.Stages.{refusal_at, stage_after, stage_called, stage_left};
 
-use lsp_message::{Call, Notice, Refusal};
+use crate::{Call, Notice, Refusal};
 
 /// How far a session is.
 #[derive(Clone, Copy, Debug, PartialEq, Eq)]

@@ -1,13 +1,13 @@
 -- A report at positions, part by part.
 use Rattle.std.proofs.Common.{◌≡◌, ◌∙◌, ℕ, List, Option, Some, ap}
-use Rattle.lint_report.specs.declared.report.Report as found
-use Rattle.lsp_report.specs.declared.report.Report.{Report}
-use Rattle.lsp_report.specs.Remedy.{RemedyValue}
+use Rattle.lsp_session.specs.lint_report.declared.report.Report as found
+use Rattle.lsp_session.specs.declared.report.Report.{Report}
+use Rattle.lsp_session.specs.Remedy.{RemedyValue}
 use Rattle.lsp_shown.specs.declared.ignore.Lines.{Lines}
 use Rattle.lsp_shown.specs.Ignore.{ignore_if}
 use Rattle.lsp_shown.specs.Shown.{remedy_if, report_of}
-use Rattle.text_utf16.specs.Position.{position_of}
-use Rattle.text_utf16.specs.declared.position.Pos.{Pos}
+use Rattle.lsp_session.specs.text_utf16.Position.{position_of}
+use Rattle.lsp_session.specs.text_utf16.declared.position.Pos.{Pos}
 
 abbrev made : found.Report → Pos → Pos → Option RemedyValue → Option RemedyValue → Report
 made r start end fix ignore =

@@ -1,14 +1,14 @@
 -- Comments that tell the linter to leave a report.
 use Rattle.std.specs.Prelude.{ℕ, ◌-◌, ◌==◌, Bool, true, false, not, ◌&&◌, nat_le, nat_lt, List, [], ◌∷◌, ◌++◌, Option, Some, None, codes, if◌then◌else◌}
 use Rattle.std.specs.List.{find, list_any}
-use Rattle.lint_base.specs.declared.rule.Rule.{Rule}
-use Rattle.lint_base.specs.declared.rule.Rule.TheVariants.{UnusedIgnore}
-use Rattle.lint_report.specs.Codes.{name_of}
-use Rattle.lint_report.specs.declared.code.Code.{Code}
-use Rattle.lint_report.specs.declared.code.Code.TheVariants as by
-use Rattle.lsp_report.specs.Remedy.{RemedyValue}
+use Rattle.lsp_session.specs.lint_base.declared.rule.Rule.{Rule}
+use Rattle.lsp_session.specs.lint_base.declared.rule.Rule.TheVariants.{UnusedIgnore}
+use Rattle.lsp_session.specs.lint_report.Codes.{name_of}
+use Rattle.lsp_session.specs.lint_report.declared.code.Code.{Code}
+use Rattle.lsp_session.specs.lint_report.declared.code.Code.TheVariants as by
+use Rattle.lsp_session.specs.Remedy.{RemedyValue}
 use Rattle.lsp_shown.specs.declared.ignore.Lines.{Lines}
-use Rattle.text_utf16.specs.declared.position.Pos.{Pos}
+use Rattle.lsp_session.specs.text_utf16.declared.position.Pos.{Pos}
 
 -- the line begins inside of a token that goes over these lines
 abbrev pub goes_over : ℕ → Lines → Bool

@@ -4,8 +4,8 @@ use Rattle.std.specs.List.{starts_with}
 use Rattle.sql_token.specs.declared.token.Tok.{Tok}
 use Rattle.sql_token.specs.declared.token.TokKind.{TokKind}
 use Rattle.sql_token.specs.declared.token.TokKind.TheVariants.{Blank, LineComment}
-use Rattle.text_utf16.specs.Position.{position_of}
-use Rattle.text_utf16.specs.declared.position.Pos.{Pos}
+use Rattle.lsp_session.specs.text_utf16.Position.{position_of}
+use Rattle.lsp_session.specs.text_utf16.declared.position.Pos.{Pos}
 
 abbrev pub is_line_comment : TokKind → Bool
 is_line_comment LineComment = true

@@ -1,9 +1,9 @@
 -- Reports that are at places of a text, with the edits of their fixes.
 use Rattle.std.specs.Prelude.{ℕ, List, All, IfSome}
-use Rattle.lint_base.specs.declared.edit.Edit.{Edit}
-use Rattle.lint_base.specs.Fixes.{FixValue}
-use Rattle.lint_report.specs.declared.report.Report.{Report}
-use Rattle.lint_report.specs.declared.report.ReportFix.{ReportFix}
+use Rattle.lsp_session.specs.lint_base.declared.edit.Edit.{Edit}
+use Rattle.lsp_session.specs.lint_base.Fixes.{FixValue}
+use Rattle.lsp_session.specs.lint_report.declared.report.Report.{Report}
+use Rattle.lsp_session.specs.lint_report.declared.report.ReportFix.{ReportFix}
 use Rattle.source_file.specs.File.{IsRangeIn}
 
 -- an edit is at a place of the text

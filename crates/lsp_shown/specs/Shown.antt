@@ -1,18 +1,18 @@
 -- What an editor shows of reports, and of a text that is refused.
 use Rattle.std.specs.Prelude.{ℕ, Bool, true, false, List, Option, Some, None, map}
-use Rattle.lint_base.specs.declared.edit.Edit.{Edit}
-use Rattle.lint_base.specs.Fixes.{FixValue}
-use Rattle.lint_report.specs.declared.fix_class.FixClass.{FixClass}
-use Rattle.lint_report.specs.declared.fix_class.FixClass.TheVariants.{Safe, Unsafe, Template}
-use Rattle.lint_report.specs.declared.report.Report as found
-use Rattle.lint_report.specs.declared.report.ReportFix.{ReportFix}
-use Rattle.lsp_report.specs.declared.report.Change.{Change}
-use Rattle.lsp_report.specs.declared.report.Report.{Report}
-use Rattle.lsp_report.specs.Remedy.{RemedyValue}
+use Rattle.lsp_session.specs.lint_base.declared.edit.Edit.{Edit}
+use Rattle.lsp_session.specs.lint_base.Fixes.{FixValue}
+use Rattle.lsp_session.specs.lint_report.declared.fix_class.FixClass.{FixClass}
+use Rattle.lsp_session.specs.lint_report.declared.fix_class.FixClass.TheVariants.{Safe, Unsafe, Template}
+use Rattle.lsp_session.specs.lint_report.declared.report.Report as found
+use Rattle.lsp_session.specs.lint_report.declared.report.ReportFix.{ReportFix}
+use Rattle.lsp_session.specs.declared.report.Change.{Change}
+use Rattle.lsp_session.specs.declared.report.Report.{Report}
+use Rattle.lsp_session.specs.Remedy.{RemedyValue}
 use Rattle.lsp_shown.specs.declared.ignore.Lines.{Lines}
 use Rattle.lsp_shown.specs.Ignore.{ignore_if}
-use Rattle.text_utf16.specs.Position.{position_of}
-use Rattle.text_utf16.specs.declared.position.Pos.{Pos}
+use Rattle.lsp_session.specs.text_utf16.Position.{position_of}
+use Rattle.lsp_session.specs.text_utf16.declared.position.Pos.{Pos}
 
 -- an edit at positions
 abbrev pub change_of : List ℕ → Edit → Change

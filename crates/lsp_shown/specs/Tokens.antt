@@ -5,7 +5,7 @@ use Rattle.lsp_shown.specs.declared.ignore.Lines.{Lines}
 use Rattle.sql_token.specs.declared.token.Tok.{Tok}
 use Rattle.sql_token.specs.declared.token.TokKind.{TokKind}
 use Rattle.sql_token.specs.declared.token.TokKind.TheVariants.{BlockComment, Quoted, Str, UName, Dollar}
-use Rattle.text_utf16.specs.Position.{position_of}
+use Rattle.lsp_session.specs.text_utf16.Position.{position_of}
 
 -- The token begins and ends between two characters.
 pub record TokenIn (text : List ℕ) (token : Tok) : Type 0 where

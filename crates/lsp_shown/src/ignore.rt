@@ -1,15 +1,11 @@
 //! Comments that tell the linter to leave a report.
 ghost use Rattle.std.specs.Prelude.{◌≡◌, ◌++◌, IfOk, codes, string_bytes};
 ghost use Rattle.std.specs.List.{find, list_any};
-ghost use Rattle.lint_report.specs.Codes.{name_of};
+ghost use Rattle.lsp_session.specs.lint_report.Codes.{name_of};
 ghost use Rattle.lsp_shown.specs.Ignore as spec;
 
-use lint_base::{Rule, Text};
-use lint_report::Code;
-use lsp_report::{Change, Remedy};
+use lsp_session::{Change, Code, NoMemory, Pos, Remedy, Rule, Text};
 use std::alloc::{AllocError, Global};
-use text_pos::NoMemory;
-use text_utf16::Pos;
 
 /// The first line and the last one of a token that goes over several.
 #[derive(Clone, Copy, Debug, PartialEq, Eq)]

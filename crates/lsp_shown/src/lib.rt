@@ -15,3 +15,6 @@ pub use notes::notes_in;
 pub use refused::refused_at;
 pub use report::shown;
 pub use tokens::long_tokens;
+
+// What crates above reach through this one.
+pub use lsp_session::{Checker, Pos, PosIndex, Report};

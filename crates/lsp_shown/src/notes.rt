@@ -5,10 +5,9 @@ ghost use Rattle.std.specs.Str.{IsCharBoundary};
 ghost use Rattle.lsp_shown.specs.Notes as spec;
 ghost use Rattle.lsp_shown.specs.Tokens.{TokenIn};
 
+use lsp_session::{NoMemory, Pos, PosIndex, TextSize};
 use sql_token::{Tok, TokKind};
 use std::alloc::Global;
-use text_pos::{NoMemory, TextSize};
-use text_utf16::{Pos, PosIndex};
 
 // Whether a token is the first one on its line, by the one before it.
 fn begins_line(index: &PosIndex<'_>, before: &Option<Tok>, token: &Tok) -> bool

@@ -2,9 +2,7 @@
 ghost use Rattle.std.specs.Prelude.{◌≡◌};
 ghost use Rattle.lsp_shown.specs.Shown as spec;
 
-use lint_base::Text;
-use lsp_report::Report;
-use text_utf16::Pos;
+use lsp_session::{Pos, Report, Text};
 
 /// The one report of a text that is refused, with the reason, at the place of the fault. It takes no memory.
 pub fn refused_at(message: &'static str, at: Pos) -> Report

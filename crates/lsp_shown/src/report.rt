@@ -4,12 +4,10 @@ ghost use Rattle.lsp_shown.specs.Places.{EditIn, EditsIn, FixIn, ReportIn};
 ghost use Rattle.lsp_shown.specs.Shown as spec;
 
 use crate::ignore::{Lines, ignore_if};
-use lint_base::{Edit, Fix};
-use lint_report::{FixClass, ReportFix};
-use lsp_report::{Change, Remedy, Report};
+use lsp_session::{
+    Change, Edit, Fix, FixClass, NoMemory, Pos, PosIndex, Remedy, Report, ReportFix,
+};
 use std::alloc::Global;
-use text_pos::NoMemory;
-use text_utf16::{Pos, PosIndex};
 
 fn change_of(index: &PosIndex<'_>, edit: Edit) -> Change
     requires { EditIn index.now edit }
@@ -89,7 +87,7 @@ fn report_of(
     index: &PosIndex<'_>,
     tokens: &[Lines],
     notes: &[Pos],
-    report: lint_report::Report,
+    report: lsp_session::lint_report::Report,
 ) -> Result<Report, NoMemory>
     requires { ReportIn index.now report }
     ensures { IfOk result (λ made. made ≡ spec.report_of index.now tokens.now notes.now report) }
@@ -114,7 +112,7 @@ pub fn shown(
     index: &PosIndex<'_>,
     tokens: &[Lines],
     notes: &[Pos],
-    reports: Vec<lint_report::Report>,
+    reports: Vec<lsp_session::lint_report::Report>,
 ) -> Result<Vec<Report>, NoMemory>
     requires { All (ReportIn index.now) reports.items }
     ensures { IfOk result (λ made. made.items ≡ spec.shown index.now tokens.now notes.now reports.items) }

@@ -4,10 +4,9 @@ ghost use Rattle.lsp_shown.specs.Tokens as spec;
 ghost use Rattle.lsp_shown.specs.Tokens.{TokenIn};
 
 use crate::ignore::Lines;
+use lsp_session::{NoMemory, PosIndex, TextSize};
 use sql_token::{Tok, TokKind};
 use std::alloc::Global;
-use text_pos::{NoMemory, TextSize};
-use text_utf16::PosIndex;
 
 // Whether a token of this kind may have a line feed inside, and no comment can be put there.
 fn is_closed(kind: TokKind) -> bool

@@ -3,7 +3,7 @@ use Rattle.std.proofs.Common.{◌≡◌, ℕ, ℤ, List, Option, None, Some, cod
 use Rattle.serde_json.specs.Data.{Data, member, no_members, object, string}
 use Rattle.diag_json.specs.Json.{list_json, member_if}
 use Rattle.diag_json.specs.Putting.{put_if}
-use Rattle.lsp_report.specs.declared.report.Report.{Report}
+use Rattle.lsp_session.specs.declared.report.Report.{Report}
 use Rattle.lsp_write.specs.Diagnostic.{diagnostic_json, integer_json, published_params}
 
 by : (diagnostics uri : Data) (version : Option Data)

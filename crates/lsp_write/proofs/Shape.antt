@@ -3,19 +3,19 @@ use Rattle.std.proofs.Common.{◌≡◌, ◌≤◌, ℕ, ℤ, false, List, [], �
 use Rattle.serde_json.specs.Data.{Data, depth}
 use Rattle.serde_json.specs.View.{items_of}
 use Rattle.serde_json.specs.Written.{has_float}
-use Rattle.text_utf16.specs.declared.position.Pos.{Pos}
+use Rattle.diag_json.specs.text_utf16.declared.position.Pos.{Pos}
 use Rattle.diag_json.specs.Json.{position_json, range_json}
-use Rattle.lint_report.specs.declared.code.Code.{Code}
-use Rattle.lint_report.specs.declared.code.Code.TheVariants as by
-use Rattle.lsp_message.specs.declared.message.Id.{Id}
-use Rattle.lsp_message.specs.declared.message.Id.TheVariants.{Null, Number, Text}
-use Rattle.lsp_message.specs.declared.reply.Answer as answer
-use Rattle.lsp_message.specs.declared.reply.Answer.TheVariants.{Capabilities, Done, Remedies, Explanation, Refused, Failed}
-use Rattle.lsp_message.specs.declared.reply.Reply.{Reply}
-use Rattle.lsp_message.specs.declared.reply.Reply.TheVariants.{Answer, Reports}
-use Rattle.lsp_report.specs.declared.report.Change.{Change}
-use Rattle.lsp_report.specs.declared.report.Report.{Report}
-use Rattle.lsp_report.specs.Remedy.{RemedyValue}
+use Rattle.lsp_session.specs.lint_report.declared.code.Code.{Code}
+use Rattle.lsp_session.specs.lint_report.declared.code.Code.TheVariants as by
+use Rattle.lsp_session.specs.declared.message.Id.{Id}
+use Rattle.lsp_session.specs.declared.message.Id.TheVariants.{Null, Number, Text}
+use Rattle.lsp_session.specs.declared.reply.Answer as answer
+use Rattle.lsp_session.specs.declared.reply.Answer.TheVariants.{Capabilities, Done, Remedies, Explanation, Refused, Failed}
+use Rattle.lsp_session.specs.declared.reply.Reply.{Reply}
+use Rattle.lsp_session.specs.declared.reply.Reply.TheVariants.{Answer, Reports}
+use Rattle.lsp_session.specs.declared.report.Change.{Change}
+use Rattle.lsp_session.specs.declared.report.Report.{Report}
+use Rattle.lsp_session.specs.Remedy.{RemedyValue}
 use Rattle.lsp_write.proofs.Fits.{Fits, ItemsFit, MembersFit, both, ends, in_array, in_list, in_object, integer, leaf, null_fits, one_item, next, then_if, truth, whole}
 use Rattle.lsp_write.specs.Action.{action_if, action_json, actions_of, change_json, edit_json, meets}
 use Rattle.lsp_write.specs.Diagnostic.{diagnostic_by, diagnostic_json, from_message, integer_json, published_json, published_params, unlinked}

@@ -1,13 +1,13 @@
 -- Remedies as code actions of the protocol.
 use Rattle.std.specs.Prelude.{ℕ, Bool, ◌&&◌, ◌||◌, nat_eq, nat_le, nat_lt, List, [], ◌++◌, Option, codes, flat_map, if◌then◌else◌, option_map, option_to_list, unwrap_or}
 use Rattle.diag_json.specs.Json.{list_json, range_json}
-use Rattle.lsp_report.specs.declared.report.Change.{Change}
-use Rattle.lsp_report.specs.declared.report.Report.{Report}
-use Rattle.lsp_report.specs.Remedy.{RemedyValue}
+use Rattle.lsp_session.specs.declared.report.Change.{Change}
+use Rattle.lsp_session.specs.declared.report.Report.{Report}
+use Rattle.lsp_session.specs.Remedy.{RemedyValue}
 use Rattle.lsp_write.specs.Diagnostic.{diagnostic_json}
 use Rattle.serde_json.specs.Data.{Data, array, boolean, item, member, no_items, no_members, object, string}
 use Rattle.serde_json.specs.View.{items_of}
-use Rattle.text_utf16.specs.declared.position.Pos.{Pos}
+use Rattle.diag_json.specs.text_utf16.declared.position.Pos.{Pos}
 
 abbrev pub is_at_or_before : Pos → Pos → Bool
 is_at_or_before a b = nat_lt a.line b.line || (nat_eq a.line b.line && nat_le a.col b.col)

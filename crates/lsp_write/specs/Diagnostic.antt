@@ -1,12 +1,12 @@
 -- Reports as diagnostics of the protocol.
 use Rattle.std.specs.Prelude.{ℕ, ℤ, List, ◌++◌, Option, Some, None, codes, option_map}
 use Rattle.diag_json.specs.Json.{list_json, member_if, range_json, whole_json}
-use Rattle.lint_base.specs.declared.rule.Rule.{Rule}
-use Rattle.lint_base.specs.Rules as rules
-use Rattle.lint_report.specs.Codes.{name_of}
-use Rattle.lint_report.specs.declared.code.Code.{Code}
-use Rattle.lint_report.specs.declared.code.Code.TheVariants as by
-use Rattle.lsp_report.specs.declared.report.Report.{Report}
+use Rattle.diag_json.specs.lint_base.declared.rule.Rule.{Rule}
+use Rattle.diag_json.specs.lint_base.Rules as rules
+use Rattle.lsp_session.specs.lint_report.Codes.{name_of}
+use Rattle.lsp_session.specs.lint_report.declared.code.Code.{Code}
+use Rattle.lsp_session.specs.lint_report.declared.code.Code.TheVariants as by
+use Rattle.lsp_session.specs.declared.report.Report.{Report}
 use Rattle.serde_json.specs.Data.{Data, Members, member, no_members, number, object, string}
 use Rattle.serde_json.specs.Find.{of_integer}
 

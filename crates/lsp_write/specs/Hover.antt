@@ -1,14 +1,14 @@
 -- What is to be known of reports, as hovers of the protocol.
 use Rattle.std.specs.Prelude.{ℕ, List, [], ◌∷◌, ◌++◌, Option, Some, None, codes, flat_map, if◌then◌else◌}
-use Rattle.lint_report.specs.declared.code.Code.{Code}
-use Rattle.lint_report.specs.declared.code.Code.TheVariants as by
-use Rattle.lsp_report.specs.declared.report.Report.{Report}
+use Rattle.lsp_session.specs.lint_report.declared.code.Code.{Code}
+use Rattle.lsp_session.specs.lint_report.declared.code.Code.TheVariants as by
+use Rattle.lsp_session.specs.declared.report.Report.{Report}
 use Rattle.lsp_write.specs.Action.{meets}
 use Rattle.lsp_write.specs.Diagnostic.{address_of, code_of}
 use Rattle.lsp_write.specs.Fence.{block}
 use Rattle.rule_pages.specs.Pages as pages
 use Rattle.serde_json.specs.Data.{Data, member, no_members, null, object, string}
-use Rattle.text_utf16.specs.declared.position.Pos.{Pos}
+use Rattle.diag_json.specs.text_utf16.declared.position.Pos.{Pos}
 
 -- a line that begins with a head
 abbrev pub line : List ℕ → List ℕ → List ℕ

@@ -1,7 +1,7 @@
 -- Replies as JSON.
 use Rattle.std.specs.Prelude.{ℕ, List}
-use Rattle.lsp_message.specs.declared.reply.Reply.{Reply}
-use Rattle.lsp_message.specs.declared.reply.Reply.TheVariants.{Answer, Reports}
+use Rattle.lsp_session.specs.declared.reply.Reply.{Reply}
+use Rattle.lsp_session.specs.declared.reply.Reply.TheVariants.{Answer, Reports}
 use Rattle.lsp_write.specs.Diagnostic.{published_json}
 use Rattle.lsp_write.specs.Response.{response_json}
 use Rattle.serde_json.specs.Data.{Data}

@@ -1,12 +1,12 @@
 -- Answers as responses of JSON-RPC.
 use Rattle.std.specs.Prelude.{ℕ, ℤ, negsuc, ◌-◌, List, codes, true}
 use Rattle.diag_json.specs.Json.{whole_json}
-use Rattle.lsp_message.specs.declared.message.Id.{Id}
-use Rattle.lsp_message.specs.declared.message.Id.TheVariants.{Null, Number, Text}
-use Rattle.lsp_message.specs.declared.reply.Answer.{Answer}
-use Rattle.lsp_message.specs.declared.reply.Answer.TheVariants.{Capabilities, Done, Remedies, Explanation, Refused, Failed}
-use Rattle.lsp_message.specs.declared.reply.Refusal.{Refusal}
-use Rattle.lsp_message.specs.declared.reply.Refusal.TheVariants.{BadParams, BadRequest, NoMethod, NotInitialized, NotJson}
+use Rattle.lsp_session.specs.declared.message.Id.{Id}
+use Rattle.lsp_session.specs.declared.message.Id.TheVariants.{Null, Number, Text}
+use Rattle.lsp_session.specs.declared.reply.Answer.{Answer}
+use Rattle.lsp_session.specs.declared.reply.Answer.TheVariants.{Capabilities, Done, Remedies, Explanation, Refused, Failed}
+use Rattle.lsp_session.specs.declared.reply.Refusal.{Refusal}
+use Rattle.lsp_session.specs.declared.reply.Refusal.TheVariants.{BadParams, BadRequest, NoMethod, NotInitialized, NotJson}
 use Rattle.lsp_write.specs.Action.{actions_json}
 use Rattle.lsp_write.specs.Diagnostic.{integer_json}
 use Rattle.lsp_write.specs.Hover.{hover_json}

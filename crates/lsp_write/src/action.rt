@@ -5,10 +5,10 @@ ghost use Rattle.lsp_write.specs.Action.{action_if, action_json, actions_json, a
 
 use crate::diagnostic::diagnostic_value;
 use crate::place::{meets, range_value};
-use lsp_report::{Change, Remedy, Report};
+use diag_json::Pos;
+use lsp_session::{Change, Remedy, Report};
 use serde_json::{Value, json};
 use std::alloc::{AllocError, Global};
-use text_utf16::Pos;
 
 #[tactic(auto, unfolding(crate::specs::Action::change_json))]
 fn change_value(alloc: Global, change: &Change) -> Result<Value, AllocError>

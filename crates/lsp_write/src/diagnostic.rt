@@ -7,9 +7,8 @@ ghost use Rattle.serde_json.specs.View.{items_of, items_view, members_view, view
 ghost use Rattle.lsp_write.specs.Diagnostic.{address_of, code_of, diagnostic_by, diagnostic_json, integer_json, linked, published_json, published_params, unlinked, unversioned};
 
 use crate::place::range_value;
-use lint_base::Rule;
-use lint_report::Code;
-use lsp_report::Report;
+use diag_json::Rule;
+use lsp_session::{Code, Report};
 use serde_json::{Map, Value, json};
 use std::alloc::{AllocError, Global};
 

@@ -8,13 +8,11 @@ ghost use Rattle.lsp_write.specs.Hover.{explanation, explanations, hover_json, h
 use crate::diagnostic::{address_of, code_of};
 use crate::fence::push_block;
 use crate::place::meets;
-use lint_base::Text;
-use lint_report::Code;
-use lsp_report::Report;
+use diag_json::{Pos, Text};
+use lsp_session::{Code, Report};
 use rule_pages::code_page;
 use serde_json::{Value, json};
 use std::alloc::{AllocError, Global};
-use text_utf16::Pos;
 
 fn push_line(out: &mut String, head: &str, part: &str) -> Result<(), AllocError>
     ensures { OnOk result (string_bytes out.new ≡ string_bytes out.old ++ line head.now part.now) }

@@ -4,10 +4,10 @@ ghost use Rattle.diag_json.specs.Json.{position_json, range_json};
 ghost use Rattle.serde_json.specs.View.{view};
 ghost use Rattle.lsp_write.specs.Action.{is_at_or_before, meets};
 
-use lsp_report::Report;
+use diag_json::Pos;
+use lsp_session::Report;
 use serde_json::{Value, json};
 use std::alloc::{AllocError, Global};
-use text_utf16::Pos;
 
 #[tactic(auto, unfolding(diag_json::specs::Json::position_json))]
 fn position_value(alloc: Global, pos: Pos) -> Result<Value, AllocError>

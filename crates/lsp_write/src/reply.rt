@@ -6,10 +6,10 @@ ghost use Rattle.lsp_write.specs.Reply.{reply_json, reply_text};
 
 use crate::diagnostic::published;
 use crate::response::response_value;
-use lsp_message::Reply;
+use diag_json::NoMemory;
+use lsp_session::Reply;
 use serde_json::Value;
 use std::alloc::{AllocError, Global};
-use text_pos::NoMemory;
 
 fn reply_value(alloc: Global, reply: &Reply) -> Result<Value, AllocError>
     ensures { IfOk result (λ v. view v ≡ reply_json reply.now) }

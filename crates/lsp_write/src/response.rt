@@ -5,7 +5,7 @@ ghost use Rattle.lsp_write.specs.Response.{capabilities, capabilities_json, erro
 
 use crate::action::actions;
 use crate::hover::hover_value;
-use lsp_message::{Answer, Id, Refusal};
+use lsp_session::{Answer, Id, Refusal};
 use serde_json::{Value, json};
 use std::alloc::{AllocError, Global};
 

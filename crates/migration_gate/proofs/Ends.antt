@@ -1,11 +1,11 @@
 -- Where nothing fails, a bundle is judged.
 use Rattle.std.proofs.Common.{◌≡◌, ◌<◌, ◌^◌, ℕ, List, Option, Some, None, IfSome, length}
 use Rattle.std.specs.Str.{IsUtf8}
-use Rattle.squawk_stream.specs.Faults.{Rose}
+use Rattle.squawk_run.specs.devices.Faults.{Rose}
 use Rattle.squawk_run.specs.declared.stop.Stop.TheVariants as stop
 use Rattle.squawk_run.specs.Ends.{Refused, Stopped, IsDone, ReadFor, SinkCause, SourceCause, WordsFor}
 use Rattle.squawk_run.proofs.Runs.{done_by}
-use Rattle.gate_bundle.proofs.Bundles.{never_both}
+use Rattle.migration_gate.proofs.Bundles.{never_both}
 use Rattle.migration_gate.specs.declared.status.GateStatus.{GateStatus}
 use Rattle.migration_gate.specs.declared.status.GateStatus.TheVariants.{NotUtf8, BadBundle}
 use Rattle.migration_gate.specs.Outcome.{HasBundle, JudgedFor}

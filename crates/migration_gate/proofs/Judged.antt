@@ -3,16 +3,16 @@ use Rattle.std.proofs.Common.{◌≡◌, ◌<◌, ◌^◌, ap, refl, subst, sym,
 use Rattle.std.specs.Prelude.{All}
 use Rattle.std.specs.Str.{IsUtf8}
 use Rattle.std.proofs.lemmas.List.Elements.{All-cons, All-head, All-nil, All-tail}
-use Rattle.sql_token.specs.Token.{Text}
+use Rattle.squawk_linter.specs.sql_token.Token.{Text}
 use Rattle.squawk_linter.specs.declared.linter.Linter.{Linter}
-use Rattle.gate_bundle.specs.declared.file.GateFile.{GateFile}
-use Rattle.gate_bundle.specs.Bundle.{Entry, IsBundle, entries_of, entry_of}
-use Rattle.gate_machine.specs.declared.verdict.Verdict.{Verdict}
-use Rattle.gate_machine.specs.declared.verdict.Verdict.TheVariants as verdict
-use Rattle.gate_machine.specs.Verdicts.{names_of, shown, texts_of}
-use Rattle.gate_print.specs.PrintedVerdict.{printed_verdict}
-use Rattle.gate_verdict.specs.Laws.{AcceptsClean}
-use Rattle.gate_verdict.specs.Verdicts.{IsVerdict}
+use Rattle.migration_gate.specs.declared.file.GateFile.{GateFile}
+use Rattle.migration_gate.specs.Bundle.{Entry, IsBundle, entries_of, entry_of}
+use Rattle.migration_gate.specs.declared.verdict.Verdict.{Verdict}
+use Rattle.migration_gate.specs.declared.verdict.Verdict.TheVariants as verdict
+use Rattle.migration_gate.specs.Verdict.{names_of, shown, texts_of}
+use Rattle.migration_gate.specs.PrintedVerdict.{printed_verdict}
+use Rattle.migration_gate.specs.Laws.{AcceptsClean}
+use Rattle.migration_gate.specs.Verdicts.{IsVerdict}
 use Rattle.squawk_run.proofs.Runs.{where_same}
 use Rattle.migration_gate.specs.Config.{linter_of}
 use Rattle.migration_gate.specs.declared.status.GateStatus.{GateStatus}

@@ -1,3 +1,21 @@
+pub mod Bundle
+pub mod BundleLaws
+pub mod Run
+pub mod MachineLaws
+pub mod Verdict
+pub mod PrintedVerdict
+pub mod PrintedLaws
+pub mod Passing
+pub mod Verdicts
+pub mod Judged
+pub mod Laws
+pub mod GateWords
 pub mod Config
 pub mod Statuses
 pub mod Outcome
+pub use Rattle.squawk_linter.specs.law_clean
+pub use Rattle.squawk_linter.specs.lint_transaction
+pub use Rattle.squawk_linter.specs.sql_read
+pub use Rattle.squawk_linter.specs.sql_token
+pub use Rattle.squawk_linter.specs.sql_tree
+pub use Rattle.squawk_linter.specs as squawk_linter

@@ -2,16 +2,16 @@
 use Rattle.std.specs.Prelude.{◌≡◌, ℕ, ◌^◌, ◌<◌, List, length, map, Option, Some, Ok, Err, ⊤}
 use Rattle.std.specs.Str.{IsUtf8}
 use Rattle.std.specs.Io.KnownBytes.{Appends}
-use Rattle.squawk_stream.specs.Parts.{AppendsPart}
-use Rattle.sql_token.specs.Token.{Text}
+use Rattle.squawk_run.specs.devices.Parts.{AppendsPart}
+use Rattle.squawk_linter.specs.sql_token.Token.{Text}
 use Rattle.squawk_linter.specs.declared.linter.Linter.{Linter}
-use Rattle.gate_bundle.specs.Bundle.{Entry, IsBadAt, IsBundle}
-use Rattle.gate_machine.specs.declared.verdict.GateWork.{GateWork}
-use Rattle.gate_machine.specs.declared.verdict.Why.{Why}
-use Rattle.gate_machine.specs.Verdicts.{Shown}
-use Rattle.gate_verdict.specs.Laws.{AreClean}
-use Rattle.gate_verdict.specs.Verdicts.{IsVerdict}
-use Rattle.gate_print.specs.PrintedVerdict.{name_at, printed_accepted, printed_rejected, printed_verdict}
+use Rattle.migration_gate.specs.Bundle.{Entry, IsBadAt, IsBundle}
+use Rattle.migration_gate.specs.declared.verdict.GateWork.{GateWork}
+use Rattle.migration_gate.specs.declared.verdict.Why.{Why}
+use Rattle.migration_gate.specs.Verdict.{Shown}
+use Rattle.migration_gate.specs.Laws.{AreClean}
+use Rattle.migration_gate.specs.Verdicts.{IsVerdict}
+use Rattle.migration_gate.specs.PrintedVerdict.{name_at, printed_accepted, printed_rejected, printed_verdict}
 use Rattle.migration_gate.specs.Config.{linter_of}
 use Rattle.migration_gate.specs.declared.status.GateStatus.{GateStatus}
 use Rattle.migration_gate.specs.declared.status.GateStatus.TheVariants.{Accepted, Rejected, NotUtf8, BadBundle, WriteFault, NoMemory}

@@ -2,9 +2,9 @@
 ghost use Rattle.std.specs.Prelude.{◌≡◌, ◌<◌, ◌^◌, length, IfSome};
 ghost use Rattle.std.specs.Str.{IsUtf8};
 ghost use Rattle.std.specs.Io.KnownBytes.{Appends};
-ghost use Rattle.squawk_stream.specs.Faults.{Rose};
-ghost use Rattle.squawk_stream.specs.Parts.{AppendsPart};
-ghost use Rattle.gate_words.specs.GateWords.{AreTaken};
+ghost use Rattle.squawk_run.specs.devices.Faults.{Rose};
+ghost use Rattle.squawk_run.specs.devices.Parts.{AppendsPart};
+ghost use Rattle.migration_gate.specs.GateWords.{AreTaken};
 ghost use Rattle.squawk_run.specs.Ends.{IsDone, KeptFor, ReadFor, SinkCause, SourceCause, WordsFor};
 ghost use Rattle.migration_gate.specs.Outcome.{HasBundle, JudgedFor};
 ghost use Rattle.migration_gate.specs.Statuses.{end_of, line_of};
@@ -12,11 +12,9 @@ ghost use Rattle.migration_gate.specs.Statuses.{end_of, line_of};
 use crate::config::linter_of;
 use crate::judge::judge_input;
 use crate::status::{GateStatus, say};
-use squawk_run::read_input;
-use squawk_stream::{Sink, Source};
-use squawk_words::Words;
+use squawk_linter::NoMemory;
+use squawk_run::{Sink, Source, Words, read_input};
 use std::alloc::Global;
-use text_pos::NoMemory;
 
 /// All of a run but the line on the error sink.
 fn work<S: Source, K: Sink>(alloc: Global, words: &Words, src: &mut S, out: &mut K) -> GateStatus

@@ -1,14 +1,13 @@
 //! The linter that words name.
 ghost use Rattle.std.specs.Prelude.{◌≡◌, ◌↔◌, IfOk, IfSome, IsSome};
-ghost use Rattle.law_clean.specs.Clean.{HasDefaults};
-ghost use Rattle.gate_words.specs.GateWords.{AreTaken};
+ghost use Rattle.squawk_linter.specs.law_clean.Clean.{HasDefaults};
+ghost use Rattle.migration_gate.specs.GateWords.{AreTaken};
 ghost use Rattle.migration_gate.specs.Config.{linter_by, linter_of};
 
-use gate_words::read_gate_choices;
-use squawk_linter::Linter;
-use squawk_words::{Choices, Words};
+use crate::read_gate_choices;
+use squawk_linter::{Linter, NoMemory};
+use squawk_run::{Choices, Words};
 use std::alloc::Global;
-use text_pos::NoMemory;
 
 fn linter_by(choices: Choices) -> Linter
     ensures { result ≡ linter_by choices }

@@ -1,22 +1,17 @@
 //! From the bytes of an input to the written verdict.
 ghost use Rattle.std.specs.Prelude.{◌≡◌, ◌<◌, ◌^◌, All, length};
-ghost use Rattle.law_clean.specs.Clean.{HasDefaults};
-ghost use Rattle.gate_machine.specs.Verdicts.{names_of, shown, texts_of};
-ghost use Rattle.gate_print.specs.PrintedVerdict.{printed_verdict};
+ghost use Rattle.squawk_linter.specs.law_clean.Clean.{HasDefaults};
+ghost use Rattle.migration_gate.specs.Verdict.{names_of, shown, texts_of};
+ghost use Rattle.migration_gate.specs.PrintedVerdict.{printed_verdict};
 ghost use Rattle.squawk_run.specs.Ends.{KeptFor, SinkCause};
 ghost use Rattle.migration_gate.specs.Outcome.{JudgedAs, ShownAs, WroteAs, status_of};
 ghost use Rattle.migration_gate.specs.Statuses.{end_of};
 
 use crate::status::GateStatus;
-use gate_bundle::{BundleError, GateFile, read_bundle};
-use gate_machine::Verdict;
-use gate_print::print_verdict;
-use gate_verdict::gate;
-use squawk_linter::Linter;
-use squawk_run::text_in;
-use squawk_stream::{Failed, Sink, write_all};
+use crate::{BundleError, GateFile, Verdict, gate, print_verdict, read_bundle};
+use squawk_linter::{Linter, NoMemory};
+use squawk_run::{Failed, Sink, text_in, write_all};
 use std::alloc::Global;
-use text_pos::NoMemory;
 
 fn status_of(verdict: &Verdict) -> GateStatus
     ensures { result ≡ status_of (shown verdict.now) }

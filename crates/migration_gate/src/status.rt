@@ -1,12 +1,11 @@
 //! How a run ends.
 ghost use Rattle.std.specs.Prelude.{◌≡◌};
 ghost use Rattle.std.specs.Io.KnownBytes.{Appends};
-ghost use Rattle.squawk_stream.specs.Faults.{Rose};
-ghost use Rattle.squawk_stream.specs.Parts.{AppendsPart};
+ghost use Rattle.squawk_run.specs.devices.Faults.{Rose};
+ghost use Rattle.squawk_run.specs.devices.Parts.{AppendsPart};
 ghost use Rattle.migration_gate.specs.Statuses.{code_of, line_of};
 
-use squawk_run::{Stop, say_line, say_line_at, say_stop};
-use squawk_stream::Sink;
+use squawk_run::{Sink, Stop, say_line, say_line_at, say_stop};
 
 /// How a run ends.
 #[derive(Clone, Copy, Debug, PartialEq, Eq)]

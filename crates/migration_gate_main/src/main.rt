@@ -1,8 +1,7 @@
 //! The gate as a program: it takes the words after its name, reads a bundle of migration files from standard input, and writes the verdict.
 #![tactic(auto)]
 
-use migration_gate::{GateStatus, StdSink, StdSource, Words, gate_run, say};
-use squawk_run::take_words;
+use migration_gate::{GateStatus, StdSink, StdSource, Words, gate_run, say, take_words};
 use std::process::ExitCode;
 
 fn main(rt: HostRuntime) -> ExitCode {

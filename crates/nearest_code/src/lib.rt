@@ -7,3 +7,6 @@ mod all;
 mod nearest;
 
 pub use nearest::{near_code, nearest_code};
+
+// What crates above reach through this one.
+pub use lint_report::{Code, code_named};

@@ -6,3 +6,6 @@
 mod other;
 
 pub use other::OtherFix;
+
+// What crates above reach through this one.
+pub use lint_base::{Edit, Fix, LinterSettings, Names, Text, Violation};

@@ -1,7 +1,6 @@
 //! A fix beside another one.
 
-use lint_base::Rule;
-use text_pos::TextSize;
+use lint_base::{Rule, TextSize};
 
 /// A fix that is not made, since another one changes the same bytes of a text and comes first.
 #[derive(Clone, Copy, Debug, PartialEq, Eq)]

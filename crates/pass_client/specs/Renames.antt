@@ -1,8 +1,8 @@
 -- Which renamed and moved objects are reported, and with which words.
 use Rattle.std.specs.Prelude.{ℕ, List, [], ◌∷◌, ◌++◌, codes}
-use Rattle.sql_tree.specs.declared.kinds.ActionKind.TheVariants as action
-use Rattle.sql_tree.specs.declared.kinds.StmtKind.{StmtKind}
-use Rattle.sql_tree.specs.declared.kinds.StmtKind.TheVariants as stmt
+use Rattle.lint_pass.specs.sql_tree.declared.kinds.ActionKind.TheVariants as action
+use Rattle.lint_pass.specs.sql_tree.declared.kinds.StmtKind.{StmtKind}
+use Rattle.lint_pass.specs.sql_tree.declared.kinds.StmtKind.TheVariants as stmt
 use Rattle.lint_pass.specs.declared.bans.Spot.TheVariants as spot
 use Rattle.lint_pass.specs.Bans.{BanRow}
 use Rattle.lint_pass.specs.Rows.{at, at_actions, breaks}

@@ -1,12 +1,12 @@
 -- What is reported of changes of who may do what, and of how the server behaves.
 use Rattle.std.specs.Prelude.{List, [], ◌∷◌, ◌++◌, codes}
-use Rattle.lint_base.specs.declared.rule.Rule.TheVariants as rule
-use Rattle.lint_base.specs.RuleSets.{Rules, rules_in}
-use Rattle.sql_tree.specs.declared.kinds.ActionKind.{ActionKind}
-use Rattle.sql_tree.specs.declared.kinds.ActionKind.TheVariants as action
-use Rattle.sql_tree.specs.declared.kinds.PieceKind.TheVariants as piece
-use Rattle.sql_tree.specs.declared.kinds.StmtKind.{StmtKind}
-use Rattle.sql_tree.specs.declared.kinds.StmtKind.TheVariants as stmt
+use Rattle.lint_pass.specs.lint_base.declared.rule.Rule.TheVariants as rule
+use Rattle.lint_pass.specs.lint_base.RuleSets.{Rules, rules_in}
+use Rattle.lint_pass.specs.sql_tree.declared.kinds.ActionKind.{ActionKind}
+use Rattle.lint_pass.specs.sql_tree.declared.kinds.ActionKind.TheVariants as action
+use Rattle.lint_pass.specs.sql_tree.declared.kinds.PieceKind.TheVariants as piece
+use Rattle.lint_pass.specs.sql_tree.declared.kinds.StmtKind.{StmtKind}
+use Rattle.lint_pass.specs.sql_tree.declared.kinds.StmtKind.TheVariants as stmt
 use Rattle.lint_pass.specs.declared.bans.Spot.TheVariants as spot
 use Rattle.lint_pass.specs.Ruled.{RuledRow}
 use Rattle.lint_pass.specs.Rows.{changes, changes_access}

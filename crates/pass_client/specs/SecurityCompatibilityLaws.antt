@@ -1,7 +1,7 @@
 -- The rows of changes of who may do what are of the pass's own rules.
 use Rattle.std.specs.Prelude.{◌≡◌, true, refl}
-use Rattle.lint_base.specs.Rules.{number_of}
-use Rattle.lint_base.specs.RuleSets.{has, with_rule}
+use Rattle.lint_pass.specs.lint_base.Rules.{number_of}
+use Rattle.lint_pass.specs.lint_base.RuleSets.{has, with_rule}
 use Rattle.lint_pass.specs.Ruled.{owns}
 use Rattle.pass_client.specs.SecurityCompatibility.{security_rules, rows_of_security_compatibility}
 

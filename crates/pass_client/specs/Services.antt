@@ -1,8 +1,8 @@
 -- Which changes of what acts, is replicated, may be done or is replaced are reported, and with which words.
 use Rattle.std.specs.Prelude.{List, [], ◌∷◌, ◌++◌, codes}
-use Rattle.sql_tree.specs.declared.kinds.ActionKind.{ActionKind}
-use Rattle.sql_tree.specs.declared.kinds.ActionKind.TheVariants as action
-use Rattle.sql_tree.specs.declared.kinds.StmtKind.TheVariants as stmt
+use Rattle.lint_pass.specs.sql_tree.declared.kinds.ActionKind.{ActionKind}
+use Rattle.lint_pass.specs.sql_tree.declared.kinds.ActionKind.TheVariants as action
+use Rattle.lint_pass.specs.sql_tree.declared.kinds.StmtKind.TheVariants as stmt
 use Rattle.lint_pass.specs.declared.bans.Spot.TheVariants as spot
 use Rattle.lint_pass.specs.Bans.{BanRow}
 use Rattle.lint_pass.specs.Rows.{at, at_replacing, breaks, changes_silently, tables}

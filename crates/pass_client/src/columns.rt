@@ -3,9 +3,7 @@
 ghost use Rattle.std.specs.Prelude.{◌≡◌, map};
 ghost use Rattle.lint_pass.specs.Bans.{lent};
 
-use lint_base::Rule;
-use lint_pass::{BanPass, BanRows, Spot};
-use sql_tree::{ActionKind, ConKind, PieceKind, StmtKind};
+use lint_pass::{ActionKind, BanPass, BanRows, ConKind, PieceKind, Rule, Spot, StmtKind};
 
 /// Reports each column of a table that becomes an identity column, ceases to be one, or is set to GENERATED ALWAYS. SET GENERATED
 /// BY DEFAULT is not reported.
@@ -35,7 +33,7 @@ const BAN_ALTER_IDENTITY: [(Spot, &str, &str); 3] = [
 ];
 
 impl BanPass for BanAlterIdentity {
-    ghost use Rattle.lint_base.specs.declared.rule.Rule.TheVariants as rule;
+    ghost use Rattle.lint_pass.specs.lint_base.declared.rule.Rule.TheVariants as rule;
     ghost use Rattle.pass_client.specs.Columns.{rows_of_ban_alter_identity};
 
     ghost code = { λ _. rule.BanAlterIdentity };
@@ -73,7 +71,7 @@ const BAN_ALTER_GENERATED_EXPRESSION: [(Spot, &str, &str); 2] = [
 ];
 
 impl BanPass for BanAlterGeneratedExpression {
-    ghost use Rattle.lint_base.specs.declared.rule.Rule.TheVariants as rule;
+    ghost use Rattle.lint_pass.specs.lint_base.declared.rule.Rule.TheVariants as rule;
     ghost use Rattle.pass_client.specs.Columns.{rows_of_ban_alter_generated_expression};
 
     ghost code = { λ _. rule.BanAlterGeneratedExpression };
@@ -121,7 +119,7 @@ const BAN_SET_DEFAULT: [(Spot, &str, &str); 4] = [
 ];
 
 impl BanPass for BanSetDefault {
-    ghost use Rattle.lint_base.specs.declared.rule.Rule.TheVariants as rule;
+    ghost use Rattle.lint_pass.specs.lint_base.declared.rule.Rule.TheVariants as rule;
     ghost use Rattle.pass_client.specs.Columns.{rows_of_ban_set_default};
 
     ghost code = { λ _. rule.BanSetDefault };

@@ -1,17 +1,16 @@
 //! Constraints of domains.
 
 ghost use Rattle.std.specs.Prelude.{◌≡◌, ◌++◌, OnOk, OnErr};
-ghost use Rattle.lint_base.specs.Grown.{GrownBy};
+ghost use Rattle.lint_pass.specs.lint_base.Grown.{GrownBy};
 ghost use Rattle.lint_pass.specs.Those.{that, those};
 ghost use Rattle.pass_client.specs.DomainConstraints as spec;
 ghost use Rattle.pass_client.specs.DomainConstraints.{added_report, adds_constraint, created};
 
-use lint_base::{LinterSettings, Reports, Rule, Text, Violation};
-use lint_node::{actions_of, same_action, same_kind};
-use lint_pass::StatementPass;
-use sql_tree::{Action, ActionKind, Body, Constraint, Parse, Stmt, StmtKind};
+use lint_pass::{
+    Action, ActionKind, Body, Constraint, LinterSettings, NoMemory, Parse, Reports, Rule,
+    StatementPass, Stmt, StmtKind, Text, Violation, actions_of, same_action, same_kind,
+};
 use std::alloc::Global;
-use text_pos::NoMemory;
 
 const MESSAGE: &str = "domains with constraints have poor support for online migrations";
 
@@ -97,7 +96,7 @@ fn report_added(p: &Parse<'_>, actions: &[Action], out: &mut Reports) -> Result<
 }
 
 impl StatementPass for BanCreateDomainWithConstraint {
-    ghost use Rattle.lint_base.specs.declared.rule.Rule.TheVariants as rule;
+    ghost use Rattle.lint_pass.specs.lint_base.declared.rule.Rule.TheVariants as rule;
     ghost use Rattle.pass_client.specs.DomainConstraints.{reports_of_ban_create_domain_with_constraint};
     ghost use Rattle.pass_client.specs.DomainConstraintsLaws.{created_coded, created_placed};
 
@@ -129,7 +128,7 @@ impl StatementPass for BanCreateDomainWithConstraint {
 }
 
 impl StatementPass for BanAlterDomainWithAddConstraint {
-    ghost use Rattle.lint_base.specs.declared.rule.Rule.TheVariants as rule;
+    ghost use Rattle.lint_pass.specs.lint_base.declared.rule.Rule.TheVariants as rule;
     ghost use Rattle.pass_client.specs.DomainConstraints.{reports_of_ban_alter_domain_with_add_constraint};
     ghost use Rattle.pass_client.specs.DomainConstraintsLaws.{added_coded, added_placed};
 

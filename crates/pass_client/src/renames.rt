@@ -3,9 +3,7 @@
 ghost use Rattle.std.specs.Prelude.{◌≡◌, map};
 ghost use Rattle.lint_pass.specs.Bans.{lent};
 
-use lint_base::Rule;
-use lint_pass::{BanPass, BanRows, Spot};
-use sql_tree::{ActionKind, StmtKind};
+use lint_pass::{ActionKind, BanPass, BanRows, Rule, Spot, StmtKind};
 
 /// Reports each column of a table, a foreign table or a view, and each attribute of a composite type, that is renamed.
 ///
@@ -44,7 +42,7 @@ const RENAMING_COLUMN: [(Spot, &str, &str); 5] = [
 ];
 
 impl BanPass for RenamingColumn {
-    ghost use Rattle.lint_base.specs.declared.rule.Rule.TheVariants as rule;
+    ghost use Rattle.lint_pass.specs.lint_base.declared.rule.Rule.TheVariants as rule;
     ghost use Rattle.pass_client.specs.Renames.{rows_of_renaming_column};
 
     ghost code = { λ _. rule.RenamingColumn };
@@ -75,7 +73,7 @@ const RENAMING_TABLE: [(Spot, &str, &str); 1] = [(
 )];
 
 impl BanPass for RenamingTable {
-    ghost use Rattle.lint_base.specs.declared.rule.Rule.TheVariants as rule;
+    ghost use Rattle.lint_pass.specs.lint_base.declared.rule.Rule.TheVariants as rule;
     ghost use Rattle.pass_client.specs.Renames.{rows_of_renaming_table};
 
     ghost code = { λ _. rule.RenamingTable };
@@ -210,7 +208,7 @@ const RENAMING_OBJECT: [(Spot, &str, &str); 21] = [
 ];
 
 impl BanPass for RenamingObject {
-    ghost use Rattle.lint_base.specs.declared.rule.Rule.TheVariants as rule;
+    ghost use Rattle.lint_pass.specs.lint_base.declared.rule.Rule.TheVariants as rule;
     ghost use Rattle.pass_client.specs.Renames.{rows_of_renaming_object};
 
     ghost code = { λ _. rule.RenamingObject };
@@ -299,7 +297,7 @@ const BAN_SET_SCHEMA: [(Spot, &str, &str); 12] = [
 ];
 
 impl BanPass for BanSetSchema {
-    ghost use Rattle.lint_base.specs.declared.rule.Rule.TheVariants as rule;
+    ghost use Rattle.lint_pass.specs.lint_base.declared.rule.Rule.TheVariants as rule;
     ghost use Rattle.pass_client.specs.Renames.{rows_of_ban_set_schema};
 
     ghost code = { λ _. rule.BanSetSchema };

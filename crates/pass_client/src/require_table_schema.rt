@@ -2,18 +2,16 @@
 
 ghost use Rattle.std.specs.Prelude.{◌≡◌, ◌++◌, ◌∷◌, [], OnOk, OnErr};
 ghost use Rattle.std.specs.Option.{option_to_list};
-ghost use Rattle.lint_base.specs.Grown.{GrownBy};
+ghost use Rattle.lint_pass.specs.lint_base.Grown.{GrownBy};
 ghost use Rattle.lint_pass.specs.Those.{that, those};
 ghost use Rattle.pass_client.specs.RequireTableSchema as spec;
 ghost use Rattle.pass_client.specs.RequireTableSchema.{altered_by, reports_of_require_table_schema, created_by, dropped_by, is_bare};
 
-use lint_base::{LinterSettings, Reports, Rule, Text, Violation};
-use lint_node::same_kind;
-use lint_pass::StatementPass;
-use sql_token::Span;
-use sql_tree::{Body, Parse, Stmt, StmtKind};
+use lint_pass::{
+    Body, LinterSettings, NoMemory, Parse, Reports, Rule, Span, StatementPass, Stmt, StmtKind,
+    Text, Violation, same_kind,
+};
 use std::alloc::Global;
-use text_pos::NoMemory;
 
 const MESSAGE: &str = "table name is not schema-qualified";
 
@@ -108,7 +106,7 @@ fn report_dropped(p: &Parse<'_>, s: &Stmt, out: &mut Reports) -> Result<(), NoMe
 }
 
 impl StatementPass for RequireTableSchema {
-    ghost use Rattle.lint_base.specs.declared.rule.Rule.TheVariants as rule;
+    ghost use Rattle.lint_pass.specs.lint_base.declared.rule.Rule.TheVariants as rule;
     ghost use Rattle.pass_client.specs.RequireTableSchema.{reports_of_require_table_schema};
     ghost use Rattle.pass_client.specs.RequireTableSchemaLaws.{bare_coded, bare_placed};
 

@@ -4,11 +4,11 @@ ghost use Rattle.std.specs.Prelude.{◌≡◌, ◌++◌, OnOk, OnErr, map};
 ghost use Rattle.lint_pass.specs.Ruled.{lent_ruled};
 ghost use Rattle.pass_client.specs.SecurityCompatibility.{rows_of_security_compatibility, security_rules};
 
-use lint_base::{LinterSettings, Reports, Rule, RuleSet};
-use lint_pass::{Block, RuledRows, Spot, StepPass, report_ruled};
-use sql_tree::{ActionKind, Parse, PieceKind, Stmt, StmtKind};
+use lint_pass::{
+    ActionKind, Block, LinterSettings, NoMemory, Parse, PieceKind, Reports, Rule, RuleSet,
+    RuledRows, Spot, StepPass, Stmt, StmtKind, report_ruled,
+};
 use std::alloc::Global;
-use text_pos::NoMemory;
 
 /// Reports changes of policies, roles, options, row security, extensions and the server's configuration, by ten rules.
 ///

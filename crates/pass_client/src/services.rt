@@ -3,9 +3,7 @@
 ghost use Rattle.std.specs.Prelude.{◌≡◌, map};
 ghost use Rattle.lint_pass.specs.Bans.{lent};
 
-use lint_base::Rule;
-use lint_pass::{BanPass, BanRows, Spot};
-use sql_tree::{ActionKind, StmtKind};
+use lint_pass::{ActionKind, BanPass, BanRows, Rule, Spot, StmtKind};
 
 /// Reports each trigger and each rule of a table that is enabled or disabled, and each change of its row security but ENABLE ROW LEVEL
 /// SECURITY, which has a rule of its own.
@@ -76,7 +74,7 @@ const BAN_DISABLE_TRIGGER: [(Spot, &str, &str); 11] = [
 ];
 
 impl BanPass for BanDisableTrigger {
-    ghost use Rattle.lint_base.specs.declared.rule.Rule.TheVariants as rule;
+    ghost use Rattle.lint_pass.specs.lint_base.declared.rule.Rule.TheVariants as rule;
     ghost use Rattle.pass_client.specs.Services.{rows_of_ban_disable_trigger};
 
     ghost code = { λ _. rule.BanDisableTrigger };
@@ -124,7 +122,7 @@ const BAN_REPLICA_IDENTITY: [(Spot, &str, &str); 4] = [
 ];
 
 impl BanPass for BanReplicaIdentity {
-    ghost use Rattle.lint_base.specs.declared.rule.Rule.TheVariants as rule;
+    ghost use Rattle.lint_pass.specs.lint_base.declared.rule.Rule.TheVariants as rule;
     ghost use Rattle.pass_client.specs.Services.{rows_of_ban_replica_identity};
 
     ghost code = { λ _. rule.BanReplicaIdentity };
@@ -197,7 +195,7 @@ const BAN_REVOKE: [(Spot, &str, &str); 8] = [
 ];
 
 impl BanPass for BanRevoke {
-    ghost use Rattle.lint_base.specs.declared.rule.Rule.TheVariants as rule;
+    ghost use Rattle.lint_pass.specs.lint_base.declared.rule.Rule.TheVariants as rule;
     ghost use Rattle.pass_client.specs.Services.{rows_of_ban_revoke};
 
     ghost code = { λ _. rule.BanRevoke };
@@ -255,7 +253,7 @@ const BAN_REPLACE_VIEW_FUNCTION: [(Spot, &str, &str); 6] = [
 ];
 
 impl BanPass for BanReplaceViewFunction {
-    ghost use Rattle.lint_base.specs.declared.rule.Rule.TheVariants as rule;
+    ghost use Rattle.lint_pass.specs.lint_base.declared.rule.Rule.TheVariants as rule;
     ghost use Rattle.pass_client.specs.Services.{rows_of_ban_replace_view_function};
 
     ghost code = { λ _. rule.BanReplaceViewFunction };

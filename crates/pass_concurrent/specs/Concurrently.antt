@@ -1,11 +1,11 @@
 -- Reports whose fix adds CONCURRENTLY.
 use Rattle.std.specs.Prelude.{ℕ, List, Some, None, codes}
-use Rattle.text_pos.specs.Range.{Range}
-use Rattle.sql_tree.specs.Range.{span_range_of}
-use Rattle.sql_tree.specs.Statement.{Tree}
-use Rattle.lint_base.specs.declared.rule.Rule.{Rule}
-use Rattle.lint_base.specs.declared.violation.Violation.{Violation}
-use Rattle.lint_base.specs.Fixes.{FixValue}
+use Rattle.lint_pass.specs.text_pos.Range.{Range}
+use Rattle.lint_pass.specs.sql_tree.Range.{span_range_of}
+use Rattle.lint_pass.specs.sql_tree.Statement.{Tree}
+use Rattle.lint_pass.specs.lint_base.declared.rule.Rule.{Rule}
+use Rattle.lint_pass.specs.lint_base.declared.violation.Violation.{Violation}
+use Rattle.lint_pass.specs.lint_base.Fixes.{FixValue}
 use Rattle.lint_pass.specs.Fixes.{insertion_fix}
 
 -- the word after this token

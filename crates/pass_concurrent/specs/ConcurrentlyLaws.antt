@@ -1,6 +1,6 @@
 -- The edit that adds CONCURRENTLY is in the text.
 use Rattle.std.specs.Prelude.{ℕ, codes}
-use Rattle.sql_tree.specs.Statement.{Tree}
+use Rattle.lint_pass.specs.sql_tree.Statement.{Tree}
 use Rattle.lint_pass.specs.FixLaws.{after_token}
 use Rattle.lint_pass.specs.Laws.{AreEdits, IsRead}
 use Rattle.pass_concurrent.specs.Concurrently.{concurrently_after}

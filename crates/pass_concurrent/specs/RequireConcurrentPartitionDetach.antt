@@ -1,15 +1,15 @@
 -- What is reported of partitions that are detached: each DETACH PARTITION with neither CONCURRENTLY nor FINALIZE (PostgreSQL
 -- manual, ALTER TABLE, "DETACH PARTITION").
 use Rattle.std.specs.Prelude.{ℕ, List, Option, Some, None, codes}
-use Rattle.sql_token.specs.declared.token.Span.{Span}
-use Rattle.sql_tree.specs.declared.nodes.Action.{Action}
-use Rattle.sql_tree.specs.declared.nodes.Stmt.{Stmt}
-use Rattle.sql_tree.specs.Range.{span_range_of}
-use Rattle.sql_tree.specs.Statement.{Tree}
-use Rattle.lint_base.specs.declared.rule.Rule.TheVariants as rule
-use Rattle.lint_base.specs.declared.violation.Violation.{Violation}
-use Rattle.lint_node.specs.Parts.{table_actions}
-use Rattle.lint_node.specs.Plain.{is_plain_detach}
+use Rattle.lint_pass.specs.sql_token.declared.token.Span.{Span}
+use Rattle.lint_pass.specs.sql_tree.declared.nodes.Action.{Action}
+use Rattle.lint_pass.specs.sql_tree.declared.nodes.Stmt.{Stmt}
+use Rattle.lint_pass.specs.sql_tree.Range.{span_range_of}
+use Rattle.lint_pass.specs.sql_tree.Statement.{Tree}
+use Rattle.lint_pass.specs.lint_base.declared.rule.Rule.TheVariants as rule
+use Rattle.lint_pass.specs.lint_base.declared.violation.Violation.{Violation}
+use Rattle.lint_pass.specs.lint_node.Parts.{table_actions}
+use Rattle.lint_pass.specs.lint_node.Plain.{is_plain_detach}
 use Rattle.lint_pass.specs.Those.{those}
 use Rattle.pass_concurrent.specs.Concurrently.{plain_report}
 

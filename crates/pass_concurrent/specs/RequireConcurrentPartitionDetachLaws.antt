@@ -1,11 +1,11 @@
 -- Each report of a partition that is detached is of its rule, and is in the text.
 use Rattle.std.specs.Prelude.{All, refl}
-use Rattle.sql_tree.specs.declared.nodes.Action.{Action}
-use Rattle.sql_tree.specs.declared.nodes.Stmt.{Stmt}
-use Rattle.sql_tree.specs.Statement.{Tree}
-use Rattle.lint_base.specs.declared.rule.Rule.TheVariants as rule
-use Rattle.lint_node.specs.Parts.{table_actions}
-use Rattle.lint_node.specs.Plain.{is_plain_detach}
+use Rattle.lint_pass.specs.sql_tree.declared.nodes.Action.{Action}
+use Rattle.lint_pass.specs.sql_tree.declared.nodes.Stmt.{Stmt}
+use Rattle.lint_pass.specs.sql_tree.Statement.{Tree}
+use Rattle.lint_pass.specs.lint_base.declared.rule.Rule.TheVariants as rule
+use Rattle.lint_pass.specs.lint_node.Parts.{table_actions}
+use Rattle.lint_pass.specs.lint_node.Plain.{is_plain_detach}
 use Rattle.lint_pass.specs.Laws.{HasCode, IsRead, IsPlacedIn}
 use Rattle.lint_pass.specs.PlaceLaws.{span_place}
 use Rattle.lint_pass.specs.ThoseLaws.{those_all}

@@ -1,13 +1,13 @@
 -- What is reported of indexes that are rebuilt: each REINDEX that is not concurrent, but of SYSTEM (PostgreSQL manual, REINDEX).
 use Rattle.std.specs.Prelude.{ℕ, List, [], ◌∷◌, codes}
-use Rattle.sql_tree.specs.declared.nodes.Body.{Body}
-use Rattle.sql_tree.specs.declared.nodes.Body.TheVariants as body
-use Rattle.sql_tree.specs.declared.nodes.Stmt.{Stmt}
-use Rattle.sql_tree.specs.Range.{stmt_range_of}
-use Rattle.sql_tree.specs.Statement.{Tree}
-use Rattle.lint_base.specs.declared.rule.Rule.TheVariants as rule
-use Rattle.lint_base.specs.declared.violation.Violation.{Violation}
-use Rattle.lint_node.specs.Plain.{is_plain_reindex}
+use Rattle.lint_pass.specs.sql_tree.declared.nodes.Body.{Body}
+use Rattle.lint_pass.specs.sql_tree.declared.nodes.Body.TheVariants as body
+use Rattle.lint_pass.specs.sql_tree.declared.nodes.Stmt.{Stmt}
+use Rattle.lint_pass.specs.sql_tree.Range.{stmt_range_of}
+use Rattle.lint_pass.specs.sql_tree.Statement.{Tree}
+use Rattle.lint_pass.specs.lint_base.declared.rule.Rule.TheVariants as rule
+use Rattle.lint_pass.specs.lint_base.declared.violation.Violation.{Violation}
+use Rattle.lint_pass.specs.lint_node.Plain.{is_plain_reindex}
 use Rattle.lint_pass.specs.Those.{those}
 use Rattle.pass_concurrent.specs.Concurrently.{plain_report}
 

@@ -3,11 +3,8 @@
 ghost use Rattle.std.specs.Prelude.{◌≡◌, IfOk};
 ghost use Rattle.pass_concurrent.specs.Concurrently as spec;
 
-use lint_base::{Fix, Rule, Text, Violation};
-use lint_pass::insertion_fix;
-use sql_tree::Parse;
+use lint_pass::{Fix, NoMemory, Parse, Rule, Text, TextRange, Violation, insertion_fix};
 use std::alloc::Global;
-use text_pos::{NoMemory, TextRange};
 
 const TITLE: &str = "Add `concurrently`";
 

@@ -1,17 +1,16 @@
 //! Index builds that block writes.
 
 ghost use Rattle.std.specs.Prelude.{◌≡◌, ◌++◌, ◌∷◌, [], ℕ, Bool, OnOk, OnErr, IfOk};
-ghost use Rattle.lint_base.specs.declared.settings.LinterSettings.{LinterSettings};
-ghost use Rattle.lint_transaction.specs.Created.{IsKnown};
+ghost use Rattle.lint_pass.specs.lint_base.declared.settings.LinterSettings.{LinterSettings};
+ghost use Rattle.lint_pass.specs.lint_transaction.Created.{IsKnown};
 ghost use Rattle.pass_concurrent.specs.RequireConcurrentIndexCreation.{report, reports_on};
 
 use crate::concurrently::plain_report;
-use lint_base::{LinterSettings, Reports, Rule, Text, Violation};
-use lint_pass::{Block, RulePass};
-use lint_transaction::CreatedTables;
-use sql_tree::{Body, Parse, Stmt};
+use lint_pass::{
+    Block, Body, CreatedTables, LinterSettings, NoMemory, Parse, Reports, Rule, RulePass, Stmt,
+    Text, Violation,
+};
 use std::alloc::Global;
-use text_pos::NoMemory;
 
 const MESSAGE: &str =
     "during normal index creation, table updates are blocked, but reads are still allowed";
@@ -76,9 +75,9 @@ fn report_build(
 
 impl RulePass for RequireConcurrentIndexCreation {
     ghost use Rattle.std.specs.Prelude.{false};
-    ghost use Rattle.lint_base.specs.declared.rule.Rule.TheVariants as rule;
-    ghost use Rattle.lint_transaction.specs.Created.{IsKnown};
-    ghost use Rattle.lint_transaction.specs.Transaction.{stmt_at};
+    ghost use Rattle.lint_pass.specs.lint_base.declared.rule.Rule.TheVariants as rule;
+    ghost use Rattle.lint_pass.specs.lint_transaction.Created.{IsKnown};
+    ghost use Rattle.lint_pass.specs.lint_transaction.Transaction.{stmt_at};
     ghost use Rattle.pass_concurrent.specs.RequireConcurrentIndexCreation.{reports_on};
     ghost use Rattle.pass_concurrent.specs.BuildLaws.{builds_coded, builds_placed};
 

@@ -5,12 +5,11 @@ ghost use Rattle.pass_concurrent.specs.RequireConcurrentIndexDeletion as spec;
 ghost use Rattle.pass_concurrent.specs.RequireConcurrentIndexDeletion.{reports_of_require_concurrent_index_deletion};
 
 use crate::concurrently::plain_report;
-use lint_base::{LinterSettings, Reports, Rule, Text, Violation};
-use lint_node::is_plain_drop;
-use lint_pass::StatementPass;
-use sql_tree::{Body, Parse, Stmt};
+use lint_pass::{
+    Body, LinterSettings, NoMemory, Parse, Reports, Rule, StatementPass, Stmt, Text, Violation,
+    is_plain_drop,
+};
 use std::alloc::Global;
-use text_pos::NoMemory;
 
 const MESSAGE: &str =
     "a normal `drop index` acquires an `access exclusive` lock on the table, blocking other accesses until the index drop can complete";
@@ -61,7 +60,7 @@ fn report_drop(alloc: Global, p: &Parse<'_>, s: &Stmt, out: &mut Reports) -> Res
 }
 
 impl StatementPass for RequireConcurrentIndexDeletion {
-    ghost use Rattle.lint_base.specs.declared.rule.Rule.TheVariants as rule;
+    ghost use Rattle.lint_pass.specs.lint_base.declared.rule.Rule.TheVariants as rule;
     ghost use Rattle.pass_concurrent.specs.RequireConcurrentIndexDeletion.{reports_of_require_concurrent_index_deletion};
     ghost use Rattle.pass_concurrent.specs.RequireConcurrentIndexDeletionLaws.{deletions_coded, deletions_placed};
 

@@ -1,19 +1,17 @@
 //! Partitions that are detached under a lock that blocks reads.
 
 ghost use Rattle.std.specs.Prelude.{◌≡◌, ◌++◌, OnOk, OnErr, IfOk};
-ghost use Rattle.lint_base.specs.Grown.{GrownBy};
-ghost use Rattle.lint_node.specs.Plain as plain;
+ghost use Rattle.lint_pass.specs.lint_base.Grown.{GrownBy};
+ghost use Rattle.lint_pass.specs.lint_node.Plain as plain;
 ghost use Rattle.lint_pass.specs.Those.{that, those};
 ghost use Rattle.pass_concurrent.specs.RequireConcurrentPartitionDetach as spec;
 
 use crate::concurrently::plain_report;
-use lint_base::{LinterSettings, Reports, Rule, Text, Violation};
-use lint_node::{is_plain_detach, table_actions};
-use lint_pass::StatementPass;
-use sql_token::Span;
-use sql_tree::{Action, Parse, Stmt};
+use lint_pass::{
+    Action, LinterSettings, NoMemory, Parse, Reports, Rule, Span, StatementPass, Stmt, Text,
+    Violation, is_plain_detach, table_actions,
+};
 use std::alloc::Global;
-use text_pos::NoMemory;
 
 const MESSAGE: &str =
     "detaching a partition requires an `access exclusive` lock, which prevents reads and writes to the table";
@@ -85,7 +83,7 @@ fn report_actions(
 }
 
 impl StatementPass for RequireConcurrentPartitionDetach {
-    ghost use Rattle.lint_base.specs.declared.rule.Rule.TheVariants as rule;
+    ghost use Rattle.lint_pass.specs.lint_base.declared.rule.Rule.TheVariants as rule;
     ghost use Rattle.pass_concurrent.specs.RequireConcurrentPartitionDetach.{reports_of_require_concurrent_partition_detach};
     ghost use Rattle.pass_concurrent.specs.RequireConcurrentPartitionDetachLaws.{detachments_coded, detachments_placed};
 

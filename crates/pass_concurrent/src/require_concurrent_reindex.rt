@@ -5,12 +5,11 @@ ghost use Rattle.pass_concurrent.specs.RequireConcurrentReindex as spec;
 ghost use Rattle.pass_concurrent.specs.RequireConcurrentReindex.{reports_of_require_concurrent_reindex};
 
 use crate::concurrently::plain_report;
-use lint_base::{LinterSettings, Reports, Rule, Text, Violation};
-use lint_node::is_plain_reindex;
-use lint_pass::StatementPass;
-use sql_tree::{Body, Parse, Stmt};
+use lint_pass::{
+    Body, LinterSettings, NoMemory, Parse, Reports, Rule, StatementPass, Stmt, Text, Violation,
+    is_plain_reindex,
+};
 use std::alloc::Global;
-use text_pos::NoMemory;
 
 const MESSAGE: &str = "reindexing a table or index without `concurrently` blocks reads and writes";
 
@@ -60,7 +59,7 @@ fn report_rebuild(alloc: Global, p: &Parse<'_>, s: &Stmt, out: &mut Reports) -> 
 }
 
 impl StatementPass for RequireConcurrentReindex {
-    ghost use Rattle.lint_base.specs.declared.rule.Rule.TheVariants as rule;
+    ghost use Rattle.lint_pass.specs.lint_base.declared.rule.Rule.TheVariants as rule;
     ghost use Rattle.pass_concurrent.specs.RequireConcurrentReindex.{reports_of_require_concurrent_reindex};
     ghost use Rattle.pass_concurrent.specs.RequireConcurrentReindexLaws.{rebuilds_coded, rebuilds_placed};
 

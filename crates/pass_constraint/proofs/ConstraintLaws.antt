@@ -11,20 +11,20 @@ use Rattle.sql_tree.specs.declared.nodes.Stmt.{Stmt}
 use Rattle.sql_tree.specs.declared.kinds.StmtKind.TheVariants as stmt
 use Rattle.sql_tree.specs.Nodes.{actions_in}
 use Rattle.sql_tree.specs.Statement.{Tree}
-use Rattle.lint_node.specs.Altered.{path_in}
-use Rattle.lint_node.specs.Parts.{added_constraint, is_checked, table_actions}
-use Rattle.lint_node.specs.Same.{same_kind}
-use Rattle.lint_transaction.specs.SpanSet.{Spans}
-use Rattle.lint_transaction.specs.Transaction.{begins, ends, chains, ends_by, is_new_table, stmt_at, ends_at}
-use Rattle.lint_transaction.specs.declared.span_key.SpanKey.TheVariants as by
-use Rattle.lint_transaction.proofs.EarlierLaws.{since-suc}
-use Rattle.lint_transaction.proofs.TrackingLaws.{open_next_stmt}
-use Rattle.lint_base.specs.declared.settings.LinterSettings.{LinterSettings}
-use Rattle.lint_base.specs.declared.violation.Violation.{Violation}
-use Rattle.lint_base.specs.Grown.{GrownBy}
-use Rattle.lint_base.specs.GrownLaws.{grown_by_all, grown_by_none}
-use Rattle.lint_transaction.specs.Earlier.{concat_below}
-use Rattle.lint_transaction.proofs.Paths.{or_true}
+use Rattle.lint_pass.specs.lint_node.Altered.{path_in}
+use Rattle.lint_pass.specs.lint_node.Parts.{added_constraint, is_checked, table_actions}
+use Rattle.lint_pass.specs.lint_node.Same.{same_kind}
+use Rattle.lint_pass.specs.lint_transaction.SpanSet.{Spans}
+use Rattle.lint_pass.specs.lint_transaction.Transaction.{begins, ends, chains, ends_by, is_new_table, stmt_at, ends_at}
+use Rattle.lint_pass.specs.lint_transaction.declared.span_key.SpanKey.TheVariants as by
+use Rattle.lint_pass.proofs.of_lint_transaction.EarlierLaws.{since-suc}
+use Rattle.lint_pass.proofs.of_lint_transaction.TrackingLaws.{open_next_stmt}
+use Rattle.lint_pass.specs.lint_base.declared.settings.LinterSettings.{LinterSettings}
+use Rattle.lint_pass.specs.lint_base.declared.violation.Violation.{Violation}
+use Rattle.lint_pass.specs.lint_base.Grown.{GrownBy}
+use Rattle.lint_pass.specs.lint_base.GrownLaws.{grown_by_all, grown_by_none}
+use Rattle.lint_pass.specs.lint_transaction.Earlier.{concat_below}
+use Rattle.lint_pass.proofs.of_lint_transaction.Paths.{or_true}
 use Rattle.lint_pass.specs.Pieces.{grown_piece, grown_in_piece}
 use Rattle.pass_constraint.specs.ConstraintMissingNotValid.{adds_not_valid, adds_at, addition, additions_of, validation, validation_at, validations, validations_in}
 use Rattle.pass_constraint.specs.ConstraintWalk.{has_name, IsWatching}

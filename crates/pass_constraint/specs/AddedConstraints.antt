@@ -11,14 +11,14 @@ use Rattle.sql_tree.specs.declared.nodes.Stmt.{Stmt}
 use Rattle.sql_tree.specs.Nodes.{actions_in}
 use Rattle.sql_tree.specs.Range.{span_range_of}
 use Rattle.sql_tree.specs.Statement.{Tree}
-use Rattle.lint_base.specs.declared.rule.Rule.{Rule}
-use Rattle.lint_base.specs.declared.rule.Rule.TheVariants as rule
-use Rattle.lint_base.specs.declared.settings.LinterSettings.{LinterSettings}
-use Rattle.lint_base.specs.declared.violation.Violation.{Violation}
-use Rattle.lint_node.specs.Altered.{path_in}
-use Rattle.lint_node.specs.Parts.{added_constraint, new_constraints}
-use Rattle.lint_node.specs.Same.{same_constraint, same_kind}
-use Rattle.lint_transaction.specs.Transaction.{is_new_table}
+use Rattle.lint_pass.specs.lint_base.declared.rule.Rule.{Rule}
+use Rattle.lint_pass.specs.lint_base.declared.rule.Rule.TheVariants as rule
+use Rattle.lint_pass.specs.lint_base.declared.settings.LinterSettings.{LinterSettings}
+use Rattle.lint_pass.specs.lint_base.declared.violation.Violation.{Violation}
+use Rattle.lint_pass.specs.lint_node.Altered.{path_in}
+use Rattle.lint_pass.specs.lint_node.Parts.{added_constraint, new_constraints}
+use Rattle.lint_pass.specs.lint_node.Same.{same_constraint, same_kind}
+use Rattle.lint_pass.specs.lint_transaction.Transaction.{is_new_table}
 use Rattle.lint_pass.specs.Those.{those}
 use Rattle.pass_constraint.specs.declared.constraint_rows.ConstraintRow.{ConstraintRow}
 use Rattle.pass_constraint.specs.declared.constraint_rows.Excuse.{Excuse}

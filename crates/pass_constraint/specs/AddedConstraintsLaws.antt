@@ -8,17 +8,17 @@ use Rattle.sql_tree.specs.declared.nodes.Constraint.{Constraint}
 use Rattle.sql_tree.specs.declared.nodes.Stmt.{Stmt}
 use Rattle.sql_tree.specs.Nodes.{actions_in}
 use Rattle.sql_tree.specs.Statement.{Tree}
-use Rattle.lint_base.specs.declared.settings.LinterSettings.{LinterSettings}
-use Rattle.lint_base.specs.declared.violation.Violation.{Violation}
-use Rattle.lint_node.specs.Altered.{path_in}
-use Rattle.lint_node.specs.Parts.{new_constraints}
-use Rattle.lint_node.specs.Same.{same_kind}
+use Rattle.lint_pass.specs.lint_base.declared.settings.LinterSettings.{LinterSettings}
+use Rattle.lint_pass.specs.lint_base.declared.violation.Violation.{Violation}
+use Rattle.lint_pass.specs.lint_node.Altered.{path_in}
+use Rattle.lint_pass.specs.lint_node.Parts.{new_constraints}
+use Rattle.lint_pass.specs.lint_node.Same.{same_kind}
 use Rattle.lint_pass.specs.Laws.{HasCode, IsRead, IsPlacedIn}
 use Rattle.lint_pass.specs.PlaceLaws.{span_place}
 use Rattle.lint_pass.specs.RuleLaws.{flat_all, where_all}
 use Rattle.lint_pass.specs.ThoseLaws.{those_all}
 use Rattle.pass_constraint.specs.AddedConstraints.{Row, is_of_table, is_of_column, report, added, on_table, on_column, on_action, added_by}
-use Rattle.lint_transaction.specs.Transaction.{is_new_table}
+use Rattle.lint_pass.specs.lint_transaction.Transaction.{is_new_table}
 
 report_coded : (row : Row) (tree : Tree) (c : Constraint) → HasCode row.code (report row tree c)
 unfolding report

@@ -10,10 +10,10 @@ use Rattle.sql_tree.specs.declared.nodes.Stmt.{Stmt}
 use Rattle.sql_tree.specs.Nodes.{actions_in}
 use Rattle.sql_tree.specs.Range.{span_range_of}
 use Rattle.sql_tree.specs.Statement.{Tree}
-use Rattle.lint_base.specs.declared.rule.Rule.TheVariants as rule
-use Rattle.lint_base.specs.declared.violation.Violation.{Violation}
-use Rattle.lint_node.specs.Parts.{new_constraints}
-use Rattle.lint_node.specs.Same.{same_constraint, same_kind}
+use Rattle.lint_pass.specs.lint_base.declared.rule.Rule.TheVariants as rule
+use Rattle.lint_pass.specs.lint_base.declared.violation.Violation.{Violation}
+use Rattle.lint_pass.specs.lint_node.Parts.{new_constraints}
+use Rattle.lint_pass.specs.lint_node.Same.{same_constraint, same_kind}
 use Rattle.lint_pass.specs.Those.{those}
 
 abbrev pub has : ConKind → List Constraint → Bool

@@ -3,24 +3,24 @@
 -- constraints that are added so that the table is scanned.
 use Rattle.std.specs.Prelude.{ℕ, Bool, true, false, ◌&&◌, ◌||◌, not, List, [], ◌∷◌, ◌++◌, length, take, slice_get, codes, if◌then◌else◌, Option, Some, None}
 use Rattle.std.specs.List.{flat_map, list_any}
-use Rattle.sql_token.specs.declared.token.Span.{Span}
+use Rattle.lint_pass.specs.sql_token.declared.token.Span.{Span}
 use Rattle.sql_tree.specs.declared.kinds.ActionKind.TheVariants as action
 use Rattle.sql_tree.specs.declared.nodes.Action.{Action}
 use Rattle.sql_tree.specs.declared.nodes.Constraint.{Constraint}
 use Rattle.sql_tree.specs.declared.nodes.Stmt.{Stmt}
 use Rattle.sql_tree.specs.Range.{span_range_of}
 use Rattle.sql_tree.specs.Statement.{Tree}
-use Rattle.lint_base.specs.declared.rule.Rule.TheVariants as rule
-use Rattle.lint_base.specs.declared.settings.LinterSettings.{LinterSettings}
-use Rattle.lint_base.specs.declared.violation.Violation.{Violation}
-use Rattle.lint_base.specs.RuleSets.{Rules}
-use Rattle.lint_node.specs.Altered.{path_in}
-use Rattle.lint_node.specs.Parts.{added_constraint, is_checked, table_actions}
-use Rattle.lint_node.specs.Same.{same_action}
-use Rattle.lint_transaction.specs.Earlier.{since, concat_below}
+use Rattle.lint_pass.specs.lint_base.declared.rule.Rule.TheVariants as rule
+use Rattle.lint_pass.specs.lint_base.declared.settings.LinterSettings.{LinterSettings}
+use Rattle.lint_pass.specs.lint_base.declared.violation.Violation.{Violation}
+use Rattle.lint_pass.specs.lint_base.RuleSets.{Rules}
+use Rattle.lint_pass.specs.lint_node.Altered.{path_in}
+use Rattle.lint_pass.specs.lint_node.Parts.{added_constraint, is_checked, table_actions}
+use Rattle.lint_pass.specs.lint_node.Same.{same_action}
+use Rattle.lint_pass.specs.lint_transaction.Earlier.{since, concat_below}
 use Rattle.lint_pass.specs.RuleTables.{table_of}
-use Rattle.lint_transaction.specs.Names.{is_name, name_at}
-use Rattle.lint_transaction.specs.Transaction.{stmt_at, ends_at, is_open, is_new_table}
+use Rattle.lint_pass.specs.lint_transaction.Names.{is_name, name_at}
+use Rattle.lint_pass.specs.lint_transaction.Transaction.{stmt_at, ends_at, is_open, is_new_table}
 
 -- ---- actions
 

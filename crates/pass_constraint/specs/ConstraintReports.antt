@@ -5,12 +5,12 @@ use Rattle.std.specs.List.{flat_map, list_any}
 use Rattle.sql_tree.specs.declared.nodes.Action.{Action}
 use Rattle.sql_tree.specs.declared.nodes.Stmt.{Stmt}
 use Rattle.sql_tree.specs.Statement.{Tree}
-use Rattle.lint_base.specs.declared.rule.Rule.TheVariants as rule
-use Rattle.lint_base.specs.declared.settings.LinterSettings.{LinterSettings}
-use Rattle.lint_base.specs.declared.violation.Violation.{Violation}
-use Rattle.lint_node.specs.Altered.{path_in}
-use Rattle.lint_node.specs.Parts.{added_constraint, is_checked, table_actions}
-use Rattle.lint_transaction.specs.Transaction.{is_new_table, is_open, stmt_at}
+use Rattle.lint_pass.specs.lint_base.declared.rule.Rule.TheVariants as rule
+use Rattle.lint_pass.specs.lint_base.declared.settings.LinterSettings.{LinterSettings}
+use Rattle.lint_pass.specs.lint_base.declared.violation.Violation.{Violation}
+use Rattle.lint_pass.specs.lint_node.Altered.{path_in}
+use Rattle.lint_pass.specs.lint_node.Parts.{added_constraint, is_checked, table_actions}
+use Rattle.lint_pass.specs.lint_transaction.Transaction.{is_new_table, is_open, stmt_at}
 use Rattle.lint_pass.specs.Laws.{HasCode, IsRead, IsPlacedIn}
 use Rattle.lint_pass.specs.PlaceLaws.{span_place}
 use Rattle.lint_pass.specs.RuleLaws.{flat_all, one_all, pieces_all, unless_all, where_all}

@@ -1,9 +1,9 @@
 -- What a walk over the statements knows of the constraints that the open transaction added as not valid.
 use Rattle.std.specs.Prelude.{◌≡◌, ℕ, Bool, List, [], ◌∷◌}
 use Rattle.sql_tree.specs.Statement.{Tree}
-use Rattle.lint_transaction.specs.SpanSet.{Spans, has_span}
-use Rattle.lint_transaction.specs.Transaction.{is_open}
-use Rattle.lint_transaction.specs.declared.span_key.SpanKey.TheVariants as by
+use Rattle.lint_pass.specs.lint_transaction.SpanSet.{Spans, has_span}
+use Rattle.lint_pass.specs.lint_transaction.Transaction.{is_open}
+use Rattle.lint_pass.specs.lint_transaction.declared.span_key.SpanKey.TheVariants as by
 use Rattle.pass_constraint.specs.ConstraintMissingNotValid.{is_added}
 
 -- a constraint of this name is in the set

@@ -5,7 +5,7 @@ use Rattle.std.specs.List.{list_all}
 use Rattle.sql_tree.specs.declared.nodes.Expr.{Expr, Expr-F, fold-Expr}
 use Rattle.sql_tree.specs.declared.nodes.Expr.TheOpen as layer
 use Rattle.sql_tree.specs.Statement.{Tree}
-use Rattle.lint_transaction.specs.Names.{is_listed_call, is_one_name}
+use Rattle.lint_pass.specs.lint_transaction.Names.{is_listed_call, is_one_name}
 
 -- one level of an expression, by the answers for its parts
 abbrev pub of_parts : List (List ℕ) → Tree → Expr-F Bool → Bool

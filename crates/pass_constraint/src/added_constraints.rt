@@ -5,12 +5,9 @@ ghost use Rattle.pass_constraint.specs.AddedConstraints as spec;
 ghost use Rattle.pass_constraint.specs.AddedConstraints.{lent};
 
 use crate::constraint_rows::{ConstraintRow, Excuse, report_statement};
-use lint_base::{LinterSettings, Reports, Rule};
-use lint_pass::{Block, RulePass};
-use lint_transaction::CreatedTables;
+use lint_pass::{Block, CreatedTables, LinterSettings, NoMemory, Reports, Rule, RulePass};
 use sql_tree::{ConKind, Parse, Stmt};
 use std::alloc::Global;
-use text_pos::NoMemory;
 
 /// Reports each FOREIGN KEY that an ALTER TABLE adds without NOT VALID, except on a table that the same open transaction created; and
 /// each REFERENCES of a column that it adds.
@@ -93,9 +90,9 @@ fn uniques() -> &'static ConstraintRow
 
 impl RulePass for AddingForeignKeyConstraint {
     ghost use Rattle.std.specs.Prelude.{false};
-    ghost use Rattle.lint_base.specs.declared.rule.Rule.TheVariants as rule;
-    ghost use Rattle.lint_transaction.specs.Created.{IsKnown};
-    ghost use Rattle.lint_transaction.specs.Transaction.{stmt_at};
+    ghost use Rattle.lint_pass.specs.lint_base.declared.rule.Rule.TheVariants as rule;
+    ghost use Rattle.lint_pass.specs.lint_transaction.Created.{IsKnown};
+    ghost use Rattle.lint_pass.specs.lint_transaction.Transaction.{stmt_at};
     ghost use Rattle.pass_constraint.specs.AddedConstraints as spec;
     ghost use Rattle.pass_constraint.specs.AddedConstraints.{added_by};
     ghost use Rattle.pass_constraint.specs.AddedConstraintsLaws.{added_coded, added_placed};
@@ -144,9 +141,9 @@ impl RulePass for AddingForeignKeyConstraint {
 
 impl RulePass for AddingPrimaryKeyConstraint {
     ghost use Rattle.std.specs.Prelude.{false};
-    ghost use Rattle.lint_base.specs.declared.rule.Rule.TheVariants as rule;
-    ghost use Rattle.lint_transaction.specs.Created.{IsKnown};
-    ghost use Rattle.lint_transaction.specs.Transaction.{stmt_at};
+    ghost use Rattle.lint_pass.specs.lint_base.declared.rule.Rule.TheVariants as rule;
+    ghost use Rattle.lint_pass.specs.lint_transaction.Created.{IsKnown};
+    ghost use Rattle.lint_pass.specs.lint_transaction.Transaction.{stmt_at};
     ghost use Rattle.pass_constraint.specs.AddedConstraints as spec;
     ghost use Rattle.pass_constraint.specs.AddedConstraints.{added_by};
     ghost use Rattle.pass_constraint.specs.AddedConstraintsLaws.{added_coded, added_placed};
@@ -195,9 +192,9 @@ impl RulePass for AddingPrimaryKeyConstraint {
 
 impl RulePass for DisallowUniqueConstraint {
     ghost use Rattle.std.specs.Prelude.{false};
-    ghost use Rattle.lint_base.specs.declared.rule.Rule.TheVariants as rule;
-    ghost use Rattle.lint_transaction.specs.Created.{IsKnown};
-    ghost use Rattle.lint_transaction.specs.Transaction.{stmt_at};
+    ghost use Rattle.lint_pass.specs.lint_base.declared.rule.Rule.TheVariants as rule;
+    ghost use Rattle.lint_pass.specs.lint_transaction.Created.{IsKnown};
+    ghost use Rattle.lint_pass.specs.lint_transaction.Transaction.{stmt_at};
     ghost use Rattle.pass_constraint.specs.AddedConstraints as spec;
     ghost use Rattle.pass_constraint.specs.AddedConstraints.{added_by};
     ghost use Rattle.pass_constraint.specs.AddedConstraintsLaws.{added_coded, added_placed};

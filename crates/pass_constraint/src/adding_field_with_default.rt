@@ -2,18 +2,17 @@
 
 ghost use Rattle.std.specs.Prelude.{◌≡◌, ◌++◌, OnOk, OnErr};
 ghost use Rattle.std.specs.List.{flat_map};
-ghost use Rattle.lint_base.specs.Grown.{GrownBy};
+ghost use Rattle.lint_pass.specs.lint_base.Grown.{GrownBy};
 ghost use Rattle.pass_constraint.specs.AddingFieldWithDefault as spec;
 ghost use Rattle.pass_constraint.specs.AddingFieldWithDefault.{on_action, on_constraint, on_default};
 
 use crate::volatility::is_non_volatile_or_const;
-use lint_base::{LinterSettings, Reports, Rule, Text, Violation};
-use lint_node::{actions_of, new_constraints, same_constraint, same_kind};
-use lint_pass::StatementPass;
-use sql_token::Span;
+use lint_pass::{
+    LinterSettings, NoMemory, Reports, Rule, Span, StatementPass, Text, Violation, actions_of,
+    new_constraints, same_constraint, same_kind,
+};
 use sql_tree::{Action, ConKind, Constraint, Expr, Parse, Stmt, StmtKind};
 use std::alloc::Global;
-use text_pos::NoMemory;
 
 const DEFAULT_MESSAGE: &str =
     "adding a column with a volatile default rewrites the table under an `access exclusive` lock";
@@ -183,7 +182,7 @@ fn report_actions(
 }
 
 impl StatementPass for AddingFieldWithDefault {
-    ghost use Rattle.lint_base.specs.declared.rule.Rule.TheVariants as rule;
+    ghost use Rattle.lint_pass.specs.lint_base.declared.rule.Rule.TheVariants as rule;
     ghost use Rattle.pass_constraint.specs.AddingFieldWithDefault.{reports_of_adding_field_with_default};
     ghost use Rattle.pass_constraint.specs.AddingFieldWithDefaultLaws.{fields_coded, fields_placed};
 

@@ -1,17 +1,17 @@
 //! Columns that each insert must give a value.
 
 ghost use Rattle.std.specs.Prelude.{◌≡◌, ◌++◌, OnOk, OnErr};
-ghost use Rattle.lint_base.specs.Grown.{GrownBy};
+ghost use Rattle.lint_pass.specs.lint_base.Grown.{GrownBy};
 ghost use Rattle.lint_pass.specs.Those.{that, those};
 ghost use Rattle.pass_constraint.specs.AddingRequiredField as spec;
 ghost use Rattle.pass_constraint.specs.AddingRequiredField.{is_required};
 
-use lint_base::{LinterSettings, Reports, Rule, Text, Violation};
-use lint_node::{actions_of, new_constraints, same_constraint, same_kind};
-use lint_pass::StatementPass;
+use lint_pass::{
+    LinterSettings, NoMemory, Reports, Rule, StatementPass, Text, Violation, actions_of,
+    new_constraints, same_constraint, same_kind,
+};
 use sql_tree::{Action, ConKind, Constraint, Parse, Stmt, StmtKind};
 use std::alloc::Global;
-use text_pos::NoMemory;
 
 const MESSAGE: &str =
     "adding a new column that is `not null` and has no default value to an existing table effectively makes it required";
@@ -82,7 +82,7 @@ fn report_actions(p: &Parse<'_>, actions: &[Action], out: &mut Reports) -> Resul
 }
 
 impl StatementPass for AddingRequiredField {
-    ghost use Rattle.lint_base.specs.declared.rule.Rule.TheVariants as rule;
+    ghost use Rattle.lint_pass.specs.lint_base.declared.rule.Rule.TheVariants as rule;
     ghost use Rattle.pass_constraint.specs.AddingRequiredField.{reports_of_adding_required_field};
     ghost use Rattle.pass_constraint.specs.AddingRequiredFieldLaws.{required_coded, required_placed};
 

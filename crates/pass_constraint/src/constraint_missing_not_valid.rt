@@ -3,24 +3,23 @@
 ghost use Rattle.std.specs.Prelude.{◌≡◌, ◌++◌, ◌∷◌, [], ◌&&◌, ◌||◌, not, ℕ, Bool, List, Some, OnOk, OnErr, if◌then◌else◌};
 ghost use Rattle.std.specs.List.{flat_map, list_any};
 ghost use Rattle.sql_tree.specs.Statement.{Tree};
-ghost use Rattle.lint_base.specs.Grown.{GrownBy};
-ghost use Rattle.lint_base.specs.declared.settings.LinterSettings.{LinterSettings};
-ghost use Rattle.lint_node.specs.Parts.{added_constraint, is_checked, table_actions};
-ghost use Rattle.lint_transaction.specs.Created.{IsKnown};
-ghost use Rattle.lint_transaction.specs.Transaction as track;
-ghost use Rattle.lint_transaction.specs.declared.span_key.SpanKey.TheVariants as by;
+ghost use Rattle.lint_pass.specs.lint_base.Grown.{GrownBy};
+ghost use Rattle.lint_pass.specs.lint_base.declared.settings.LinterSettings.{LinterSettings};
+ghost use Rattle.lint_pass.specs.lint_node.Parts.{added_constraint, is_checked, table_actions};
+ghost use Rattle.lint_pass.specs.lint_transaction.Created.{IsKnown};
+ghost use Rattle.lint_pass.specs.lint_transaction.Transaction as track;
+ghost use Rattle.lint_pass.specs.lint_transaction.declared.span_key.SpanKey.TheVariants as by;
 ghost use Rattle.pass_constraint.specs.ConstraintMissingNotValid as spec;
 ghost use Rattle.pass_constraint.specs.ConstraintMissingNotValid.{adds_not_valid, addition, additions_of, report_on, validation, validations};
 ghost use Rattle.pass_constraint.specs.ConstraintWalk.{has_name};
 
-use lint_base::{LinterSettings, Reports, Rule, RuleSet, Text, Violation};
-use lint_node::{added_constraint, is_checked, path_in, same_action, table_actions};
-use lint_pass::{Block, Pair, RulePass, StepPass};
-use lint_transaction::{CreatedTables, OpenTransaction, SpanKey, SpanSet, ends};
-use sql_token::Span;
+use lint_pass::{
+    Block, CreatedTables, LinterSettings, NoMemory, OpenTransaction, Pair, Reports, Rule, RulePass,
+    RuleSet, Span, SpanKey, SpanSet, StepPass, Text, Violation, added_constraint, ends, is_checked,
+    path_in, same_action, table_actions,
+};
 use sql_tree::{Action, ActionKind, Parse, Stmt};
 use std::alloc::Global;
-use text_pos::NoMemory;
 
 const VALIDATED_MESSAGE: &str =
     "using `not valid` and `validate constraint` in the same transaction will block all reads while the constraint is validated";
@@ -245,7 +244,7 @@ fn forget_at_end(names: &mut SpanSet, s: &Stmt)
 
 impl RulePass for Validations {
     ghost use Rattle.std.specs.Prelude.{false};
-    ghost use Rattle.lint_base.specs.declared.rule.Rule.TheVariants as rule;
+    ghost use Rattle.lint_pass.specs.lint_base.declared.rule.Rule.TheVariants as rule;
     ghost use Rattle.pass_constraint.specs.ConstraintMissingNotValid.{validations_in};
     ghost use Rattle.pass_constraint.specs.ConstraintReports.{validations_coded, validations_placed};
     ghost use Rattle.pass_constraint.specs.ConstraintWalk.{IsWatching};
@@ -346,9 +345,9 @@ fn has_addition(actions: &[Action]) -> bool
 
 impl RulePass for Additions {
     ghost use Rattle.std.specs.Prelude.{false};
-    ghost use Rattle.lint_base.specs.declared.rule.Rule.TheVariants as rule;
-    ghost use Rattle.lint_transaction.specs.Created.{IsKnown};
-    ghost use Rattle.lint_transaction.specs.Transaction.{stmt_at};
+    ghost use Rattle.lint_pass.specs.lint_base.declared.rule.Rule.TheVariants as rule;
+    ghost use Rattle.lint_pass.specs.lint_transaction.Created.{IsKnown};
+    ghost use Rattle.lint_pass.specs.lint_transaction.Transaction.{stmt_at};
     ghost use Rattle.pass_constraint.specs.ConstraintMissingNotValid.{additions_of};
     ghost use Rattle.pass_constraint.specs.ConstraintReports.{additions_coded, additions_placed};
 

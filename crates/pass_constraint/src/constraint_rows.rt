@@ -2,20 +2,18 @@
 
 ghost use Rattle.std.specs.Prelude.{◌≡◌, ◌++◌, ℕ, OnOk, OnErr};
 ghost use Rattle.std.specs.List.{flat_map};
-ghost use Rattle.lint_base.specs.Grown.{GrownBy};
-ghost use Rattle.lint_base.specs.declared.settings.LinterSettings.{LinterSettings};
-ghost use Rattle.lint_transaction.specs.Created.{IsKnown};
+ghost use Rattle.lint_pass.specs.lint_base.Grown.{GrownBy};
+ghost use Rattle.lint_pass.specs.lint_base.declared.settings.LinterSettings.{LinterSettings};
+ghost use Rattle.lint_pass.specs.lint_transaction.Created.{IsKnown};
 ghost use Rattle.lint_pass.specs.Those.{that};
 ghost use Rattle.pass_constraint.specs.AddedConstraints as spec;
 ghost use Rattle.pass_constraint.specs.AddedConstraints.{added, added_by, is_of_column, is_of_table, lent, on_action, on_column, on_table};
 
-use lint_base::{LinterSettings, Reports, Rule, Text, Violation};
-use lint_node::{
-    actions_of, added_constraint, new_constraints, path_in, same_constraint, same_kind,
+use lint_pass::{
+    CreatedTables, LinterSettings, NoMemory, Reports, Rule, Text, Violation, actions_of,
+    added_constraint, new_constraints, path_in, same_constraint, same_kind,
 };
-use lint_transaction::CreatedTables;
 use sql_tree::{Action, ConKind, Constraint, Parse, Stmt, StmtKind};
-use text_pos::NoMemory;
 
 /// What excuses a constraint that is added to a table.
 #[derive(Clone, Copy)]

@@ -4,8 +4,7 @@ ghost use Rattle.std.specs.Prelude.{◌≡◌};
 ghost use Rattle.std.specs.List.{list_all};
 ghost use Rattle.pass_constraint.specs.Volatility as spec;
 
-use lint_base::Names;
-use lint_transaction::{is_listed_call, is_one_name};
+use lint_pass::{Names, is_listed_call, is_one_name};
 use sql_tree::{Expr, Parse};
 
 /// Whether an expression is a literal, an array, `current_timestamp`, a call without arguments of one of these functions, or made of

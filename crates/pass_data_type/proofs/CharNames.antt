@@ -3,7 +3,7 @@ use Rattle.std.proofs.Common.{◌≡◌, ◌∙◌, sym, ap, refl, ℕ, false, L
 use Rattle.std.proofs.lemmas.Str.Ascii.{lowercase-lowercase}
 use Rattle.std.specs.Char.{to_ascii_lowercase}
 use Rattle.std.specs.Prelude.{if◌then◌else◌}
-use Rattle.sql_name.specs.Name.{full_name, unquoted}
+use Rattle.lint_pass.specs.sql_name.Name.{full_name, unquoted}
 use Rattle.std.specs.Prelude.{drop}
 use Rattle.pass_data_type.specs.BanCharField.{is_quoted}
 

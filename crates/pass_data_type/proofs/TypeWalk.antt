@@ -3,15 +3,15 @@ use Rattle.std.proofs.Common.{◌≡◌, ◌∙◌, sym, ap, refl, Bool, true, f
 use Rattle.std.proofs.lemmas.Grind.{flat_map-append}
 use Rattle.std.proofs.lemmas.List.{append-nil}
 use Rattle.std.specs.List.{flat_map}
-use Rattle.sql_tree.specs.declared.kinds.StmtKind.TheVariants as stmt
-use Rattle.sql_tree.specs.declared.nodes.Action.{Action}
-use Rattle.sql_tree.specs.declared.nodes.ColType.{ColType}
-use Rattle.sql_tree.specs.declared.nodes.Elem.{Elem}
-use Rattle.sql_tree.specs.declared.nodes.Stmt.{Stmt}
-use Rattle.lint_base.specs.Grown.{GrownBy}
-use Rattle.lint_node.specs.ColumnTypes.{action_types, column_types, element_types}
-use Rattle.lint_node.specs.Parts.{elements_of}
-use Rattle.lint_node.specs.Same.{same_kind}
+use Rattle.lint_pass.specs.sql_tree.declared.kinds.StmtKind.TheVariants as stmt
+use Rattle.lint_pass.specs.sql_tree.declared.nodes.Action.{Action}
+use Rattle.lint_pass.specs.sql_tree.declared.nodes.ColType.{ColType}
+use Rattle.lint_pass.specs.sql_tree.declared.nodes.Elem.{Elem}
+use Rattle.lint_pass.specs.sql_tree.declared.nodes.Stmt.{Stmt}
+use Rattle.lint_pass.specs.lint_base.Grown.{GrownBy}
+use Rattle.lint_pass.specs.lint_node.ColumnTypes.{action_types, column_types, element_types}
+use Rattle.lint_pass.specs.lint_node.Parts.{elements_of}
+use Rattle.lint_pass.specs.lint_node.Same.{same_kind}
 use Rattle.pass_data_type.specs.TypedKinds.{types_columns}
 
 -- the reports of what the walk has passed are a prefix of all

@@ -1,17 +1,17 @@
 -- Which columns are reported as texts that are padded with blanks (PostgreSQL manual, section 8.3).
 use Rattle.std.specs.Prelude.{ℕ, Bool, ◌&&◌, ◌||◌, ◌==◌, List, slice_index, Some, None, codes, if◌then◌else◌}
 use Rattle.std.specs.Str.{str_eq_ignore_ascii_case}
-use Rattle.sql_name.specs.Name.{quote}
-use Rattle.sql_tree.specs.declared.nodes.ColType.{ColType}
-use Rattle.sql_tree.specs.declared.nodes.Stmt.{Stmt}
-use Rattle.sql_tree.specs.declared.nodes.TyKind.TheVariants as type
-use Rattle.sql_tree.specs.Range.{span_range_of}
-use Rattle.sql_tree.specs.Statement.{Tree}
-use Rattle.lint_base.specs.declared.rule.Rule.TheVariants as rule
-use Rattle.lint_base.specs.declared.violation.Violation.{Violation}
-use Rattle.lint_base.specs.Fixes.{FixValue}
-use Rattle.lint_node.specs.ColumnTypes.{column_types, has_arguments, is_of_kind}
-use Rattle.lint_transaction.specs.Names.{name_at}
+use Rattle.lint_pass.specs.sql_name.Name.{quote}
+use Rattle.lint_pass.specs.sql_tree.declared.nodes.ColType.{ColType}
+use Rattle.lint_pass.specs.sql_tree.declared.nodes.Stmt.{Stmt}
+use Rattle.lint_pass.specs.sql_tree.declared.nodes.TyKind.TheVariants as type
+use Rattle.lint_pass.specs.sql_tree.Range.{span_range_of}
+use Rattle.lint_pass.specs.sql_tree.Statement.{Tree}
+use Rattle.lint_pass.specs.lint_base.declared.rule.Rule.TheVariants as rule
+use Rattle.lint_pass.specs.lint_base.declared.violation.Violation.{Violation}
+use Rattle.lint_pass.specs.lint_base.Fixes.{FixValue}
+use Rattle.lint_pass.specs.lint_node.ColumnTypes.{column_types, has_arguments, is_of_kind}
+use Rattle.lint_pass.specs.lint_transaction.Names.{name_at}
 use Rattle.lint_pass.specs.Fixes.{replacement_fix}
 use Rattle.lint_pass.specs.Those.{those}
 

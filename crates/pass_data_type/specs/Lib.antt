@@ -13,3 +13,13 @@ pub mod RequireEnumValueOrderingLaws
 pub mod TypeNames
 pub mod WiderIntegers
 pub mod WiderIntegersLaws
+pub use Rattle.lint_pass.specs.lint_base
+pub use Rattle.lint_pass.specs.lint_ignore
+pub use Rattle.lint_pass.specs.lint_node
+pub use Rattle.lint_pass.specs as lint_pass
+pub use Rattle.lint_pass.specs.lint_transaction
+pub use Rattle.lint_pass.specs.sql_keyword
+pub use Rattle.lint_pass.specs.sql_name
+pub use Rattle.lint_pass.specs.sql_token
+pub use Rattle.lint_pass.specs.sql_tree
+pub use Rattle.lint_pass.specs.text_pos

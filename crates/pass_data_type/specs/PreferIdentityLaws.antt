@@ -1,11 +1,11 @@
 -- Each report of a serial type is of its rule, and is in the text.
 use Rattle.std.specs.Prelude.{All, refl}
 use Rattle.std.specs.Option.{unwrap_or}
-use Rattle.sql_tree.specs.declared.nodes.ColType.{ColType}
-use Rattle.sql_tree.specs.declared.nodes.Stmt.{Stmt}
-use Rattle.sql_tree.specs.Statement.{Tree}
-use Rattle.lint_base.specs.declared.rule.Rule.TheVariants as rule
-use Rattle.lint_node.specs.ColumnTypes.{column_types}
+use Rattle.lint_pass.specs.sql_tree.declared.nodes.ColType.{ColType}
+use Rattle.lint_pass.specs.sql_tree.declared.nodes.Stmt.{Stmt}
+use Rattle.lint_pass.specs.sql_tree.Statement.{Tree}
+use Rattle.lint_pass.specs.lint_base.declared.rule.Rule.TheVariants as rule
+use Rattle.lint_pass.specs.lint_node.ColumnTypes.{column_types}
 use Rattle.lint_pass.specs.FixLaws.{over_tokens}
 use Rattle.lint_pass.specs.Laws.{HasCode, IsRead, IsPlacedIn}
 use Rattle.lint_pass.specs.PlaceLaws.{span_place}

@@ -1,13 +1,13 @@
 -- Which columns are reported as texts with a greatest length (PostgreSQL manual, section 8.3).
 use Rattle.std.specs.Prelude.{Bool, ◌&&◌, ◌||◌, List, Some, None, codes}
-use Rattle.sql_tree.specs.declared.nodes.ColType.{ColType}
-use Rattle.sql_tree.specs.declared.nodes.Stmt.{Stmt}
-use Rattle.sql_tree.specs.declared.nodes.TyKind.TheVariants as type
-use Rattle.sql_tree.specs.Range.{span_range_of}
-use Rattle.sql_tree.specs.Statement.{Tree}
-use Rattle.lint_base.specs.declared.rule.Rule.TheVariants as rule
-use Rattle.lint_base.specs.declared.violation.Violation.{Violation}
-use Rattle.lint_node.specs.ColumnTypes.{column_types, has_arguments, is_of_kind}
+use Rattle.lint_pass.specs.sql_tree.declared.nodes.ColType.{ColType}
+use Rattle.lint_pass.specs.sql_tree.declared.nodes.Stmt.{Stmt}
+use Rattle.lint_pass.specs.sql_tree.declared.nodes.TyKind.TheVariants as type
+use Rattle.lint_pass.specs.sql_tree.Range.{span_range_of}
+use Rattle.lint_pass.specs.sql_tree.Statement.{Tree}
+use Rattle.lint_pass.specs.lint_base.declared.rule.Rule.TheVariants as rule
+use Rattle.lint_pass.specs.lint_base.declared.violation.Violation.{Violation}
+use Rattle.lint_pass.specs.lint_node.ColumnTypes.{column_types, has_arguments, is_of_kind}
 use Rattle.lint_pass.specs.Fixes.{replacement_fix}
 use Rattle.lint_pass.specs.Those.{those}
 use Rattle.pass_data_type.specs.TypeNames.{is_named}

@@ -1,13 +1,13 @@
 -- Which columns are reported as reports_of_prefer_timestamp_tz without a time zone (PostgreSQL manual, section 8.5).
 use Rattle.std.specs.Prelude.{Bool, ◌&&◌, ◌||◌, List, Option, Some, None, codes, if◌then◌else◌}
-use Rattle.sql_tree.specs.declared.nodes.ColType.{ColType}
-use Rattle.sql_tree.specs.declared.nodes.Stmt.{Stmt}
-use Rattle.sql_tree.specs.Range.{span_range_of}
-use Rattle.sql_tree.specs.Statement.{Tree}
-use Rattle.lint_base.specs.declared.rule.Rule.TheVariants as rule
-use Rattle.lint_base.specs.declared.violation.Violation.{Violation}
-use Rattle.lint_base.specs.Fixes.{FixValue}
-use Rattle.lint_node.specs.ColumnTypes.{column_types, has_arguments, is_without_zone}
+use Rattle.lint_pass.specs.sql_tree.declared.nodes.ColType.{ColType}
+use Rattle.lint_pass.specs.sql_tree.declared.nodes.Stmt.{Stmt}
+use Rattle.lint_pass.specs.sql_tree.Range.{span_range_of}
+use Rattle.lint_pass.specs.sql_tree.Statement.{Tree}
+use Rattle.lint_pass.specs.lint_base.declared.rule.Rule.TheVariants as rule
+use Rattle.lint_pass.specs.lint_base.declared.violation.Violation.{Violation}
+use Rattle.lint_pass.specs.lint_base.Fixes.{FixValue}
+use Rattle.lint_pass.specs.lint_node.ColumnTypes.{column_types, has_arguments, is_without_zone}
 use Rattle.lint_pass.specs.Fixes.{replacement_fix}
 use Rattle.lint_pass.specs.Those.{those}
 use Rattle.pass_data_type.specs.TypeNames.{is_named}

@@ -1,12 +1,12 @@
 -- Each report of a timestamp without a time zone is of its rule, and is in the text.
 use Rattle.std.specs.Prelude.{Bool, true, false, All, IfSome, Some, None, codes, refl, if◌then◌else◌}
-use Rattle.sql_tree.specs.declared.nodes.ColType.{ColType}
-use Rattle.sql_tree.specs.declared.nodes.Stmt.{Stmt}
-use Rattle.sql_tree.specs.Range.{span_range_of}
-use Rattle.sql_tree.specs.Statement.{Tree}
-use Rattle.lint_base.specs.declared.rule.Rule.TheVariants as rule
-use Rattle.lint_base.specs.Fixes.{FixValue}
-use Rattle.lint_node.specs.ColumnTypes.{column_types, is_without_zone}
+use Rattle.lint_pass.specs.sql_tree.declared.nodes.ColType.{ColType}
+use Rattle.lint_pass.specs.sql_tree.declared.nodes.Stmt.{Stmt}
+use Rattle.lint_pass.specs.sql_tree.Range.{span_range_of}
+use Rattle.lint_pass.specs.sql_tree.Statement.{Tree}
+use Rattle.lint_pass.specs.lint_base.declared.rule.Rule.TheVariants as rule
+use Rattle.lint_pass.specs.lint_base.Fixes.{FixValue}
+use Rattle.lint_pass.specs.lint_node.ColumnTypes.{column_types, is_without_zone}
 use Rattle.lint_pass.specs.Fixes.{replacement_fix}
 use Rattle.lint_pass.specs.FixLaws.{over_tokens}
 use Rattle.lint_pass.specs.Laws.{AreEdits, HasCode, IsRead, IsPlacedIn}

@@ -1,14 +1,14 @@
 -- Each report of a new value of an enum is of its rule, and is in the text.
 use Rattle.std.specs.Prelude.{ℕ, All, Option, IfSome, Some, None, codes, refl}
 use Rattle.std.specs.Option.{option_map}
-use Rattle.sql_tree.specs.declared.kinds.StmtKind.TheVariants as stmt
-use Rattle.sql_tree.specs.declared.nodes.Action.{Action}
-use Rattle.sql_tree.specs.declared.nodes.Stmt.{Stmt}
-use Rattle.sql_tree.specs.Nodes.{actions_in}
-use Rattle.sql_tree.specs.Statement.{Tree}
-use Rattle.lint_base.specs.declared.rule.Rule.TheVariants as rule
-use Rattle.lint_base.specs.declared.violation.Violation.{Violation}
-use Rattle.lint_node.specs.Same.{same_kind}
+use Rattle.lint_pass.specs.sql_tree.declared.kinds.StmtKind.TheVariants as stmt
+use Rattle.lint_pass.specs.sql_tree.declared.nodes.Action.{Action}
+use Rattle.lint_pass.specs.sql_tree.declared.nodes.Stmt.{Stmt}
+use Rattle.lint_pass.specs.sql_tree.Nodes.{actions_in}
+use Rattle.lint_pass.specs.sql_tree.Statement.{Tree}
+use Rattle.lint_pass.specs.lint_base.declared.rule.Rule.TheVariants as rule
+use Rattle.lint_pass.specs.lint_base.declared.violation.Violation.{Violation}
+use Rattle.lint_pass.specs.lint_node.Same.{same_kind}
 use Rattle.lint_pass.specs.FixLaws.{after_token}
 use Rattle.lint_pass.specs.Laws.{AreEdits, HasCode, IsRead, IsPlacedIn}
 use Rattle.lint_pass.specs.PlaceLaws.{span_place}

@@ -3,11 +3,11 @@ use Rattle.std.specs.Prelude.{ℕ, Bool, ◌&&◌, List, Option, None, if◌then
 use Rattle.std.specs.List.{find}
 use Rattle.std.specs.Option.{option_map}
 use Rattle.std.specs.Str.{bytes_eq}
-use Rattle.sql_tree.specs.declared.nodes.ColType.{ColType}
-use Rattle.sql_tree.specs.declared.nodes.TyKind.TheVariants as type
-use Rattle.sql_tree.specs.Statement.{Tree}
-use Rattle.lint_node.specs.ColumnTypes.{is_of_kind}
-use Rattle.lint_transaction.specs.Names.{name_at}
+use Rattle.lint_pass.specs.sql_tree.declared.nodes.ColType.{ColType}
+use Rattle.lint_pass.specs.sql_tree.declared.nodes.TyKind.TheVariants as type
+use Rattle.lint_pass.specs.sql_tree.Statement.{Tree}
+use Rattle.lint_pass.specs.lint_node.ColumnTypes.{is_of_kind}
+use Rattle.lint_pass.specs.lint_transaction.Names.{name_at}
 
 -- the last name is this word
 abbrev pub is_named : Tree → List ℕ → ColType → Bool

@@ -1,19 +1,16 @@
 //! Texts that are padded with blanks.
 
 ghost use Rattle.std.specs.Prelude.{◌≡◌, IfOk, OnOk, OnErr, false};
-ghost use Rattle.sql_name.specs.Compared.{full_name_text, full_text};
+ghost use Rattle.lint_pass.specs.sql_name.Compared.{full_name_text, full_text};
 ghost use Rattle.pass_data_type.specs.BanCharField as spec;
 
 use crate::type_name::is_word;
 use crate::type_rule::{TypeRule, report_types};
-use lint_base::{Fix, LinterSettings, Reports, Rule, Text, Violation};
-use lint_node::{has_arguments, is_of_kind};
-use lint_pass::{StatementPass, replacement_fix};
-use lint_transaction::name_at;
-use sql_name::FullName;
-use sql_tree::{ColType, Parse, Stmt, TyKind};
+use lint_pass::{
+    ColType, Fix, FullName, LinterSettings, NoMemory, Parse, Reports, Rule, StatementPass, Stmt,
+    Text, TyKind, Violation, has_arguments, is_of_kind, name_at, replacement_fix,
+};
 use std::alloc::Global;
-use text_pos::NoMemory;
 
 const MESSAGE: &str =
     "using `character` is likely a mistake and should almost always be replaced by `text` or `varchar`";
@@ -141,7 +138,7 @@ impl TypeRule for BanCharField {
 }
 
 impl StatementPass for BanCharField {
-    ghost use Rattle.lint_base.specs.declared.rule.Rule.TheVariants as rule;
+    ghost use Rattle.lint_pass.specs.lint_base.declared.rule.Rule.TheVariants as rule;
     ghost use Rattle.pass_data_type.specs.BanCharField.{reports_of_ban_char_field};
     ghost use Rattle.pass_data_type.specs.BanCharFieldLaws.{chars_coded, chars_placed};
 

@@ -3,9 +3,7 @@
 ghost use Rattle.std.specs.Prelude.{◌≡◌, map};
 ghost use Rattle.lint_pass.specs.Bans.{lent};
 
-use lint_base::Rule;
-use lint_pass::{BanPass, BanRows, Spot};
-use sql_tree::{PieceKind, StmtKind};
+use lint_pass::{BanPass, BanRows, PieceKind, Rule, Spot, StmtKind};
 
 /// Reports each change of the type of a column or of an attribute of a composite type.
 ///
@@ -35,7 +33,7 @@ const CHANGING_COLUMN_TYPE: [(Spot, &str, &str); 3] = [
 ];
 
 impl BanPass for ChangingColumnType {
-    ghost use Rattle.lint_base.specs.declared.rule.Rule.TheVariants as rule;
+    ghost use Rattle.lint_pass.specs.lint_base.declared.rule.Rule.TheVariants as rule;
     ghost use Rattle.pass_data_type.specs.ChangingColumnType.{rows_of_changing_column_type};
 
     ghost code = { λ _. rule.ChangingColumnType };

@@ -1,21 +1,18 @@
 //! Serial columns.
 
 ghost use Rattle.std.specs.Prelude.{◌≡◌, IfOk};
-ghost use Rattle.sql_name.specs.Compared.{full_text};
+ghost use Rattle.lint_pass.specs.sql_name.Compared.{full_text};
 ghost use Rattle.pass_data_type.specs.PreferIdentity as spec;
 ghost use Rattle.pass_data_type.specs.PreferIdentity.{serial_rows};
 ghost use Rattle.pass_data_type.specs.TypeNames.{row_for, row_of};
 
 use crate::type_name::is_word;
 use crate::type_rule::{TypeRule, report_types};
-use lint_base::{LinterSettings, Reports, Rule, Text, Violation};
-use lint_node::is_of_kind;
-use lint_pass::{StatementPass, replacement_fix};
-use lint_transaction::name_at;
-use sql_name::FullName;
-use sql_tree::{ColType, Parse, Stmt, TyKind};
+use lint_pass::{
+    ColType, FullName, LinterSettings, NoMemory, Parse, Reports, Rule, StatementPass, Stmt, Text,
+    TyKind, Violation, is_of_kind, name_at, replacement_fix,
+};
 use std::alloc::Global;
-use text_pos::NoMemory;
 
 const MESSAGE: &str = "serial types make schema, dependency, and permission management difficult";
 
@@ -131,7 +128,7 @@ impl TypeRule for PreferIdentity {
 }
 
 impl StatementPass for PreferIdentity {
-    ghost use Rattle.lint_base.specs.declared.rule.Rule.TheVariants as rule;
+    ghost use Rattle.lint_pass.specs.lint_base.declared.rule.Rule.TheVariants as rule;
     ghost use Rattle.pass_data_type.specs.PreferIdentity.{reports_of_prefer_identity};
     ghost use Rattle.pass_data_type.specs.PreferIdentityLaws.{serials_coded, serials_placed};
 

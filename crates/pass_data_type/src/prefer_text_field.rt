@@ -5,12 +5,11 @@ ghost use Rattle.pass_data_type.specs.PreferTextField as spec;
 
 use crate::type_name::is_named;
 use crate::type_rule::{TypeRule, report_types};
-use lint_base::{LinterSettings, Reports, Rule, Text, Violation};
-use lint_node::{has_arguments, is_of_kind};
-use lint_pass::{StatementPass, replacement_fix};
-use sql_tree::{ColType, Parse, Stmt, TyKind};
+use lint_pass::{
+    ColType, LinterSettings, NoMemory, Parse, Reports, Rule, StatementPass, Stmt, Text, TyKind,
+    Violation, has_arguments, is_of_kind, replacement_fix,
+};
 use std::alloc::Global;
-use text_pos::NoMemory;
 
 const MESSAGE: &str =
     "changing the size of a `varchar` field requires an `access exclusive` lock, that will prevent all reads and writes to the table";
@@ -76,7 +75,7 @@ impl TypeRule for PreferTextField {
 }
 
 impl StatementPass for PreferTextField {
-    ghost use Rattle.lint_base.specs.declared.rule.Rule.TheVariants as rule;
+    ghost use Rattle.lint_pass.specs.lint_base.declared.rule.Rule.TheVariants as rule;
     ghost use Rattle.pass_data_type.specs.PreferTextField.{reports_of_prefer_text_field};
     ghost use Rattle.pass_data_type.specs.PreferTextFieldLaws.{varchars_coded, varchars_placed};
 

@@ -5,12 +5,11 @@ ghost use Rattle.pass_data_type.specs.PreferTimestamptz as spec;
 
 use crate::type_name::is_named;
 use crate::type_rule::{TypeRule, report_types};
-use lint_base::{Fix, LinterSettings, Reports, Rule, Text, Violation};
-use lint_node::{has_arguments, is_without_zone};
-use lint_pass::{StatementPass, replacement_fix};
-use sql_tree::{ColType, Parse, Stmt};
+use lint_pass::{
+    ColType, Fix, LinterSettings, NoMemory, Parse, Reports, Rule, StatementPass, Stmt, Text,
+    Violation, has_arguments, is_without_zone, replacement_fix,
+};
 use std::alloc::Global;
-use text_pos::NoMemory;
 
 const MESSAGE: &str = "`timestamp` drops the UTC offset when storing a datetime";
 
@@ -92,7 +91,7 @@ impl TypeRule for PreferTimestamptz {
 }
 
 impl StatementPass for PreferTimestamptz {
-    ghost use Rattle.lint_base.specs.declared.rule.Rule.TheVariants as rule;
+    ghost use Rattle.lint_pass.specs.lint_base.declared.rule.Rule.TheVariants as rule;
     ghost use Rattle.pass_data_type.specs.PreferTimestamptz.{reports_of_prefer_timestamp_tz};
     ghost use Rattle.pass_data_type.specs.PreferTimestamptzLaws.{timestamps_coded, timestamps_placed};
 

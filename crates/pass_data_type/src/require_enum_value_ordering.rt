@@ -1,17 +1,16 @@
 //! New values of enums without a place.
 
 ghost use Rattle.std.specs.Prelude.{◌≡◌, ◌++◌, IfOk, OnOk, OnErr};
-ghost use Rattle.lint_base.specs.Grown.{GrownBy};
+ghost use Rattle.lint_pass.specs.lint_base.Grown.{GrownBy};
 ghost use Rattle.lint_pass.specs.Those.{that, those};
 ghost use Rattle.pass_data_type.specs.RequireEnumValueOrdering as spec;
 ghost use Rattle.pass_data_type.specs.RequireEnumValueOrdering.{adds_last};
 
-use lint_base::{Fix, LinterSettings, Reports, Rule, Text, Violation};
-use lint_node::{actions_of, same_action, same_kind};
-use lint_pass::{StatementPass, insertion_fix};
-use sql_tree::{Action, ActionKind, Parse, Stmt, StmtKind};
+use lint_pass::{
+    Action, ActionKind, Fix, LinterSettings, NoMemory, Parse, Reports, Rule, StatementPass, Stmt,
+    StmtKind, Text, Violation, actions_of, insertion_fix, same_action, same_kind,
+};
 use std::alloc::Global;
-use text_pos::NoMemory;
 
 const MESSAGE: &str =
     "`add value` without `before` or `after` appends the value to the end of the enum, which may result in unexpected ordering";
@@ -96,7 +95,7 @@ fn report_added(
 }
 
 impl StatementPass for RequireEnumValueOrdering {
-    ghost use Rattle.lint_base.specs.declared.rule.Rule.TheVariants as rule;
+    ghost use Rattle.lint_pass.specs.lint_base.declared.rule.Rule.TheVariants as rule;
     ghost use Rattle.pass_data_type.specs.RequireEnumValueOrdering.{reports_of_require_enum_value_ordering};
     ghost use Rattle.pass_data_type.specs.RequireEnumValueOrderingLaws.{added_coded, added_placed};
 

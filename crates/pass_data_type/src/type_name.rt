@@ -2,13 +2,10 @@
 
 ghost use Rattle.std.specs.Prelude.{◌≡◌};
 ghost use Rattle.std.specs.Str.{bytes_eq};
-ghost use Rattle.sql_name.specs.Compared.{full_text};
+ghost use Rattle.lint_pass.specs.sql_name.Compared.{full_text};
 ghost use Rattle.pass_data_type.specs.TypeNames as spec;
 
-use lint_node::is_of_kind;
-use lint_transaction::name_at;
-use sql_name::FullName;
-use sql_tree::{ColType, Parse, TyKind};
+use lint_pass::{ColType, FullName, Parse, TyKind, is_of_kind, name_at};
 
 /// Whether the full text of a name is this word.
 pub(crate) fn is_word(name: &FullName<'_>, word: &str) -> bool

@@ -1,23 +1,20 @@
 //! Rules on the types of columns.
 
 ghost use Rattle.std.specs.Prelude.{◌≡◌, ◌++◌, OnOk, OnErr};
-ghost use Rattle.lint_base.specs.Grown.{GrownBy};
-ghost use Rattle.lint_node.specs.ColumnTypes.{column_types};
+ghost use Rattle.lint_pass.specs.lint_base.Grown.{GrownBy};
+ghost use Rattle.lint_pass.specs.lint_node.ColumnTypes.{column_types};
 ghost use Rattle.lint_pass.specs.Those.{that, those};
 ghost use Rattle.pass_data_type.specs.TypedKinds as spec;
 
-use lint_base::Reports;
-use lint_node::{column_types, same_kind};
-use sql_tree::{ColType, Parse, Stmt, StmtKind};
+use lint_pass::{ColType, NoMemory, Parse, Reports, Stmt, StmtKind, column_types, same_kind};
 use std::alloc::Global;
-use text_pos::NoMemory;
 
 /// A rule on the type of a column: each type is reported or not, by itself.
 pub(crate) trait TypeRule {
     ghost use Rattle.std.specs.Prelude.{Bool};
-    ghost use Rattle.sql_tree.specs.declared.nodes.ColType.{ColType};
-    ghost use Rattle.sql_tree.specs.Statement.{Tree};
-    ghost use Rattle.lint_base.specs.declared.violation.Violation.{Violation};
+    ghost use Rattle.lint_pass.specs.sql_tree.declared.nodes.ColType.{ColType};
+    ghost use Rattle.lint_pass.specs.sql_tree.Statement.{Tree};
+    ghost use Rattle.lint_pass.specs.lint_base.declared.violation.Violation.{Violation};
 
     /// Whether a type is reported.
     ghost concerns: { Self → Tree → ColType → Bool };

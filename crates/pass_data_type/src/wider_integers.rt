@@ -1,21 +1,18 @@
 //! Integer types that are too narrow for keys.
 
 ghost use Rattle.std.specs.Prelude.{◌≡◌, IfOk};
-ghost use Rattle.sql_name.specs.Compared.{full_text};
+ghost use Rattle.lint_pass.specs.sql_name.Compared.{full_text};
 ghost use Rattle.pass_data_type.specs.TypeNames.{row_for, row_of};
 ghost use Rattle.pass_data_type.specs.WiderIntegers as spec;
 ghost use Rattle.pass_data_type.specs.WiderIntegers.{int_rows, smallint_rows};
 
 use crate::type_name::is_word;
 use crate::type_rule::{TypeRule, report_types};
-use lint_base::{LinterSettings, Reports, Rule, Text, Violation};
-use lint_node::is_of_kind;
-use lint_pass::{StatementPass, replacement_fix};
-use lint_transaction::name_at;
-use sql_name::FullName;
-use sql_tree::{ColType, Parse, Stmt, TyKind};
+use lint_pass::{
+    ColType, FullName, LinterSettings, NoMemory, Parse, Reports, Rule, StatementPass, Stmt, Text,
+    TyKind, Violation, is_of_kind, name_at, replacement_fix,
+};
 use std::alloc::Global;
-use text_pos::NoMemory;
 
 const INT_MESSAGE: &str = "using 32-bit integer fields can result in hitting the max `int` limit";
 
@@ -213,7 +210,7 @@ impl TypeRule for PreferBigintOverSmallint {
 }
 
 impl StatementPass for PreferBigintOverInt {
-    ghost use Rattle.lint_base.specs.declared.rule.Rule.TheVariants as rule;
+    ghost use Rattle.lint_pass.specs.lint_base.declared.rule.Rule.TheVariants as rule;
     ghost use Rattle.pass_data_type.specs.WiderIntegers.{reports_of_prefer_bigint_over_int};
     ghost use Rattle.pass_data_type.specs.WiderIntegersLaws.{ints_coded, ints_placed};
 
@@ -242,7 +239,7 @@ impl StatementPass for PreferBigintOverInt {
 }
 
 impl StatementPass for PreferBigintOverSmallint {
-    ghost use Rattle.lint_base.specs.declared.rule.Rule.TheVariants as rule;
+    ghost use Rattle.lint_pass.specs.lint_base.declared.rule.Rule.TheVariants as rule;
     ghost use Rattle.pass_data_type.specs.WiderIntegers.{reports_of_prefer_bigint_over_smallint};
     ghost use Rattle.pass_data_type.specs.WiderIntegersLaws.{smallints_coded, smallints_placed};
 

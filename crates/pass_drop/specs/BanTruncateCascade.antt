@@ -1,11 +1,11 @@
 -- What is reported of TRUNCATE: its word CASCADE (PostgreSQL manual, TRUNCATE).
 use Rattle.std.specs.Prelude.{ℕ, List, [], ◌∷◌, Some, None, codes}
-use Rattle.sql_tree.specs.declared.nodes.Body.{Body}
-use Rattle.sql_tree.specs.declared.nodes.Body.TheVariants as body
-use Rattle.sql_tree.specs.Range.{span_range_of}
-use Rattle.sql_tree.specs.Statement.{Tree}
-use Rattle.lint_base.specs.declared.rule.Rule.TheVariants as rule
-use Rattle.lint_base.specs.declared.violation.Violation.{Violation}
+use Rattle.lint_pass.specs.sql_tree.declared.nodes.Body.{Body}
+use Rattle.lint_pass.specs.sql_tree.declared.nodes.Body.TheVariants as body
+use Rattle.lint_pass.specs.sql_tree.Range.{span_range_of}
+use Rattle.lint_pass.specs.sql_tree.Statement.{Tree}
+use Rattle.lint_pass.specs.lint_base.declared.rule.Rule.TheVariants as rule
+use Rattle.lint_pass.specs.lint_base.declared.violation.Violation.{Violation}
 
 -- the report of the word with this number
 unfoldable pub report : Tree → ℕ → Violation

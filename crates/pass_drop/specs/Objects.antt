@@ -1,6 +1,6 @@
 -- Which dropped objects are reported, and with which words.
 use Rattle.std.specs.Prelude.{List, [], ◌∷◌, ◌++◌, codes}
-use Rattle.sql_tree.specs.declared.kinds.StmtKind.TheVariants as stmt
+use Rattle.lint_pass.specs.sql_tree.declared.kinds.StmtKind.TheVariants as stmt
 use Rattle.lint_pass.specs.declared.bans.Spot.TheVariants as spot
 use Rattle.lint_pass.specs.Bans.{BanRow}
 use Rattle.lint_pass.specs.Rows.{at, at_statements, breaks}

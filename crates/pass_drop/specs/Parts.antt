@@ -1,8 +1,8 @@
 -- Which dropped parts of tables, types and domains are reported, and with which words.
 use Rattle.std.specs.Prelude.{List, [], ◌∷◌, ◌++◌, codes}
-use Rattle.sql_tree.specs.declared.kinds.ActionKind.TheVariants as action
-use Rattle.sql_tree.specs.declared.kinds.PieceKind.TheVariants as piece
-use Rattle.sql_tree.specs.declared.kinds.StmtKind.TheVariants as stmt
+use Rattle.lint_pass.specs.sql_tree.declared.kinds.ActionKind.TheVariants as action
+use Rattle.lint_pass.specs.sql_tree.declared.kinds.PieceKind.TheVariants as piece
+use Rattle.lint_pass.specs.sql_tree.declared.kinds.StmtKind.TheVariants as stmt
 use Rattle.lint_pass.specs.declared.bans.Spot.TheVariants as spot
 use Rattle.lint_pass.specs.Bans.{BanRow}
 use Rattle.lint_pass.specs.Rows.{at, at_actions, at_pieces, breaks, tables}

@@ -3,11 +3,10 @@
 ghost use Rattle.std.specs.Prelude.{◌≡◌};
 ghost use Rattle.pass_drop.specs.BanTruncateCascade as spec;
 
-use lint_base::{LinterSettings, Reports, Rule, Text, Violation};
-use lint_pass::StatementPass;
-use sql_tree::{Body, Parse, Stmt};
+use lint_pass::{
+    Body, LinterSettings, NoMemory, Parse, Reports, Rule, StatementPass, Stmt, Text, Violation,
+};
 use std::alloc::Global;
-use text_pos::NoMemory;
 
 const MESSAGE: &str =
     "`cascade` recursively truncates every table with a foreign key to the truncated tables";
@@ -42,7 +41,7 @@ fn report(p: &Parse<'_>, word: u32) -> Violation
 }
 
 impl StatementPass for BanTruncateCascade {
-    ghost use Rattle.lint_base.specs.declared.rule.Rule.TheVariants as rule;
+    ghost use Rattle.lint_pass.specs.lint_base.declared.rule.Rule.TheVariants as rule;
     ghost use Rattle.pass_drop.specs.BanTruncateCascade.{reports_of_ban_truncate_cascade};
     ghost use Rattle.pass_drop.specs.BanTruncateCascadeLaws.{cascade_coded, cascade_placed};
 

@@ -3,9 +3,7 @@
 ghost use Rattle.std.specs.Prelude.{◌≡◌, map};
 ghost use Rattle.lint_pass.specs.Bans.{lent};
 
-use lint_base::Rule;
-use lint_pass::{BanPass, BanRows, Spot};
-use sql_tree::StmtKind;
+use lint_pass::{BanPass, BanRows, Rule, Spot, StmtKind};
 
 /// Reports each DROP DATABASE.
 ///
@@ -23,7 +21,7 @@ const BAN_DROP_DATABASE: [(Spot, &str, &str); 1] = [(
 )];
 
 impl BanPass for BanDropDatabase {
-    ghost use Rattle.lint_base.specs.declared.rule.Rule.TheVariants as rule;
+    ghost use Rattle.lint_pass.specs.lint_base.declared.rule.Rule.TheVariants as rule;
     ghost use Rattle.pass_drop.specs.Objects.{rows_of_ban_drop_database};
 
     ghost code = { λ _. rule.BanDropDatabase };
@@ -62,7 +60,7 @@ const BAN_DROP_TABLE: [(Spot, &str, &str); 2] = [
 ];
 
 impl BanPass for BanDropTable {
-    ghost use Rattle.lint_base.specs.declared.rule.Rule.TheVariants as rule;
+    ghost use Rattle.lint_pass.specs.lint_base.declared.rule.Rule.TheVariants as rule;
     ghost use Rattle.pass_drop.specs.Objects.{rows_of_ban_drop_table};
 
     ghost code = { λ _. rule.BanDropTable };
@@ -100,7 +98,7 @@ const BAN_DROP_VIEW: [(Spot, &str, &str); 2] = [
 ];
 
 impl BanPass for BanDropView {
-    ghost use Rattle.lint_base.specs.declared.rule.Rule.TheVariants as rule;
+    ghost use Rattle.lint_pass.specs.lint_base.declared.rule.Rule.TheVariants as rule;
     ghost use Rattle.pass_drop.specs.Objects.{rows_of_ban_drop_view};
 
     ghost code = { λ _. rule.BanDropView };
@@ -148,7 +146,7 @@ const BAN_DROP_FUNCTION: [(Spot, &str, &str); 4] = [
 ];
 
 impl BanPass for BanDropFunction {
-    ghost use Rattle.lint_base.specs.declared.rule.Rule.TheVariants as rule;
+    ghost use Rattle.lint_pass.specs.lint_base.declared.rule.Rule.TheVariants as rule;
     ghost use Rattle.pass_drop.specs.Objects.{rows_of_ban_drop_function};
 
     ghost code = { λ _. rule.BanDropFunction };
@@ -202,7 +200,7 @@ const BAN_DROP_TYPE: [(Spot, &str, &str); 5] = [
 ];
 
 impl BanPass for BanDropType {
-    ghost use Rattle.lint_base.specs.declared.rule.Rule.TheVariants as rule;
+    ghost use Rattle.lint_pass.specs.lint_base.declared.rule.Rule.TheVariants as rule;
     ghost use Rattle.pass_drop.specs.Objects.{rows_of_ban_drop_type};
 
     ghost code = { λ _. rule.BanDropType };
@@ -233,7 +231,7 @@ const BAN_DROP_TRIGGER: [(Spot, &str, &str); 1] = [(
 )];
 
 impl BanPass for BanDropTrigger {
-    ghost use Rattle.lint_base.specs.declared.rule.Rule.TheVariants as rule;
+    ghost use Rattle.lint_pass.specs.lint_base.declared.rule.Rule.TheVariants as rule;
     ghost use Rattle.pass_drop.specs.Objects.{rows_of_ban_drop_trigger};
 
     ghost code = { λ _. rule.BanDropTrigger };
@@ -265,7 +263,7 @@ const BAN_DROP_SCHEMA: [(Spot, &str, &str); 1] = [(
 )];
 
 impl BanPass for BanDropSchema {
-    ghost use Rattle.lint_base.specs.declared.rule.Rule.TheVariants as rule;
+    ghost use Rattle.lint_pass.specs.lint_base.declared.rule.Rule.TheVariants as rule;
     ghost use Rattle.pass_drop.specs.Objects.{rows_of_ban_drop_schema};
 
     ghost code = { λ _. rule.BanDropSchema };
@@ -296,7 +294,7 @@ const BAN_DROP_SEQUENCE: [(Spot, &str, &str); 1] = [(
 )];
 
 impl BanPass for BanDropSequence {
-    ghost use Rattle.lint_base.specs.declared.rule.Rule.TheVariants as rule;
+    ghost use Rattle.lint_pass.specs.lint_base.declared.rule.Rule.TheVariants as rule;
     ghost use Rattle.pass_drop.specs.Objects.{rows_of_ban_drop_sequence};
 
     ghost code = { λ _. rule.BanDropSequence };
@@ -327,7 +325,7 @@ const BAN_DROP_DOMAIN: [(Spot, &str, &str); 1] = [(
 )];
 
 impl BanPass for BanDropDomain {
-    ghost use Rattle.lint_base.specs.declared.rule.Rule.TheVariants as rule;
+    ghost use Rattle.lint_pass.specs.lint_base.declared.rule.Rule.TheVariants as rule;
     ghost use Rattle.pass_drop.specs.Objects.{rows_of_ban_drop_domain};
 
     ghost code = { λ _. rule.BanDropDomain };

@@ -3,9 +3,7 @@
 ghost use Rattle.std.specs.Prelude.{◌≡◌, map};
 ghost use Rattle.lint_pass.specs.Bans.{lent};
 
-use lint_base::Rule;
-use lint_pass::{BanPass, BanRows, Spot};
-use sql_tree::StmtKind;
+use lint_pass::{BanPass, BanRows, Rule, Spot, StmtKind};
 
 /// Reports each DROP EXTENSION.
 ///
@@ -22,7 +20,7 @@ const BAN_DROP_EXTENSION: [(Spot, &str, &str); 1] = [(
 )];
 
 impl BanPass for BanDropExtension {
-    ghost use Rattle.lint_base.specs.declared.rule.Rule.TheVariants as rule;
+    ghost use Rattle.lint_pass.specs.lint_base.declared.rule.Rule.TheVariants as rule;
     ghost use Rattle.pass_drop.specs.Others.{rows_of_ban_drop_extension};
 
     ghost code = { λ _. rule.BanDropExtension };
@@ -53,7 +51,7 @@ const BAN_DROP_INDEX: [(Spot, &str, &str); 1] = [(
 )];
 
 impl BanPass for BanDropIndex {
-    ghost use Rattle.lint_base.specs.declared.rule.Rule.TheVariants as rule;
+    ghost use Rattle.lint_pass.specs.lint_base.declared.rule.Rule.TheVariants as rule;
     ghost use Rattle.pass_drop.specs.Others.{rows_of_ban_drop_index};
 
     ghost code = { λ _. rule.BanDropIndex };
@@ -92,7 +90,7 @@ const BAN_DROP_POLICY: [(Spot, &str, &str); 2] = [
 ];
 
 impl BanPass for BanDropPolicy {
-    ghost use Rattle.lint_base.specs.declared.rule.Rule.TheVariants as rule;
+    ghost use Rattle.lint_pass.specs.lint_base.declared.rule.Rule.TheVariants as rule;
     ghost use Rattle.pass_drop.specs.Others.{rows_of_ban_drop_policy};
 
     ghost code = { λ _. rule.BanDropPolicy };

@@ -3,9 +3,7 @@
 ghost use Rattle.std.specs.Prelude.{◌≡◌, map};
 ghost use Rattle.lint_pass.specs.Bans.{lent};
 
-use lint_base::Rule;
-use lint_pass::{BanPass, BanRows, Spot};
-use sql_tree::{ActionKind, PieceKind, StmtKind};
+use lint_pass::{ActionKind, BanPass, BanRows, PieceKind, Rule, Spot, StmtKind};
 
 /// Reports each DROP COLUMN of a table or a foreign table, and each DROP ATTRIBUTE of a composite type.
 ///
@@ -35,7 +33,7 @@ const BAN_DROP_COLUMN: [(Spot, &str, &str); 3] = [
 ];
 
 impl BanPass for BanDropColumn {
-    ghost use Rattle.lint_base.specs.declared.rule.Rule.TheVariants as rule;
+    ghost use Rattle.lint_pass.specs.lint_base.declared.rule.Rule.TheVariants as rule;
     ghost use Rattle.pass_drop.specs.Parts.{rows_of_ban_drop_column};
 
     ghost code = { λ _. rule.BanDropColumn };
@@ -78,7 +76,7 @@ const BAN_DROP_NOT_NULL: [(Spot, &str, &str); 3] = [
 ];
 
 impl BanPass for BanDropNotNull {
-    ghost use Rattle.lint_base.specs.declared.rule.Rule.TheVariants as rule;
+    ghost use Rattle.lint_pass.specs.lint_base.declared.rule.Rule.TheVariants as rule;
     ghost use Rattle.pass_drop.specs.Parts.{rows_of_ban_drop_not_null};
 
     ghost code = { λ _. rule.BanDropNotNull };
@@ -126,7 +124,7 @@ const BAN_DROP_DEFAULT: [(Spot, &str, &str); 4] = [
 ];
 
 impl BanPass for BanDropDefault {
-    ghost use Rattle.lint_base.specs.declared.rule.Rule.TheVariants as rule;
+    ghost use Rattle.lint_pass.specs.lint_base.declared.rule.Rule.TheVariants as rule;
     ghost use Rattle.pass_drop.specs.Parts.{rows_of_ban_drop_default};
 
     ghost code = { λ _. rule.BanDropDefault };
@@ -180,7 +178,7 @@ const BAN_DROP_CONSTRAINT: [(Spot, &str, &str); 5] = [
 ];
 
 impl BanPass for BanDropConstraint {
-    ghost use Rattle.lint_base.specs.declared.rule.Rule.TheVariants as rule;
+    ghost use Rattle.lint_pass.specs.lint_base.declared.rule.Rule.TheVariants as rule;
     ghost use Rattle.pass_drop.specs.Parts.{rows_of_ban_drop_constraint};
 
     ghost code = { λ _. rule.BanDropConstraint };
@@ -211,7 +209,7 @@ const BAN_DROP_GENERATED_EXPRESSION: [(Spot, &str, &str); 1] = [(
 )];
 
 impl BanPass for BanDropGeneratedExpression {
-    ghost use Rattle.lint_base.specs.declared.rule.Rule.TheVariants as rule;
+    ghost use Rattle.lint_pass.specs.lint_base.declared.rule.Rule.TheVariants as rule;
     ghost use Rattle.pass_drop.specs.Parts.{rows_of_ban_drop_generated_expression};
 
     ghost code = { λ _. rule.BanDropGeneratedExpression };

@@ -1,16 +1,16 @@
 -- The reports of all passes of the linter.
 use Rattle.std.specs.Prelude.{List, ◌++◌, length}
-use Rattle.sql_tree.specs.declared.nodes.Stmt.{Stmt}
-use Rattle.sql_tree.specs.Statement.{Tree}
-use Rattle.lint_base.specs.declared.rule.Rule.{Rule}
-use Rattle.lint_base.specs.declared.rule.Rule.TheVariants as rule
-use Rattle.lint_base.specs.declared.settings.LinterSettings.{LinterSettings}
-use Rattle.lint_base.specs.declared.violation.Violation.{Violation}
-use Rattle.lint_base.specs.RuleSets.{Rules}
-use Rattle.lint_transaction.specs.Transaction.{stmt_at}
-use Rattle.lint_pass.specs.Bans.{BanRow, bans_on}
-use Rattle.lint_pass.specs.Ruled.{ruled_table}
-use Rattle.lint_pass.specs.RuleTables.{table_of}
+use Rattle.pass_data_type.specs.sql_tree.declared.nodes.Stmt.{Stmt}
+use Rattle.pass_data_type.specs.sql_tree.Statement.{Tree}
+use Rattle.pass_data_type.specs.lint_base.declared.rule.Rule.{Rule}
+use Rattle.pass_data_type.specs.lint_base.declared.rule.Rule.TheVariants as rule
+use Rattle.pass_data_type.specs.lint_base.declared.settings.LinterSettings.{LinterSettings}
+use Rattle.pass_data_type.specs.lint_base.declared.violation.Violation.{Violation}
+use Rattle.pass_data_type.specs.lint_base.RuleSets.{Rules}
+use Rattle.pass_data_type.specs.lint_transaction.Transaction.{stmt_at}
+use Rattle.pass_data_type.specs.lint_pass.Bans.{BanRow, bans_on}
+use Rattle.pass_data_type.specs.lint_pass.Ruled.{ruled_table}
+use Rattle.pass_data_type.specs.lint_pass.RuleTables.{table_of}
 use Rattle.pass_client.specs.Columns.{rows_of_ban_alter_identity, rows_of_ban_alter_generated_expression, rows_of_ban_set_default}
 use Rattle.pass_client.specs.DomainConstraints.{reports_of_ban_create_domain_with_constraint, reports_of_ban_alter_domain_with_add_constraint}
 use Rattle.pass_drop.specs.Others.{rows_of_ban_drop_extension, rows_of_ban_drop_index, rows_of_ban_drop_policy}

@@ -1,18 +1,17 @@
 //! The passes from the first to the eighth of the linter's order.
 
-use lint_base::{LinterSettings, Reports, RuleSet};
-use lint_pass::{Block, Pair, StepPass, WhereEnabled};
 use pass_constraint::{
     AddingFieldWithDefault, AddingForeignKeyConstraint, AddingPrimaryKeyConstraint,
     AddingRequiredField,
 };
-use pass_data_type::BanCharField;
+use pass_data_type::{
+    BanCharField, Block, LinterSettings, NoMemory, Pair, Parse, Reports, RuleSet, StepPass, Stmt,
+    WhereEnabled,
+};
 use pass_drop::BanDropDatabase;
 use pass_history::AddingNotNullField;
 use pass_session::BanConcurrentIndexCreationInTransaction;
-use sql_tree::{Parse, Stmt};
 use std::alloc::Global;
-use text_pos::NoMemory;
 
 /// The members, in order. They are skipped unless one of their rules is enabled.
 type Members = WhereEnabled<

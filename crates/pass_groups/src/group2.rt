@@ -1,13 +1,12 @@
 //! The passes from the ninth to the 16th of the linter's order.
 
-use lint_base::{LinterSettings, Reports, RuleSet};
-use lint_pass::{Block, Pair, StepPass, WhereEnabled};
 use pass_constraint::{ConstraintMissingNotValid, DisallowUniqueConstraint};
-use pass_data_type::{ChangingColumnType, PreferBigintOverInt, PreferBigintOverSmallint};
+use pass_data_type::{
+    Block, ChangingColumnType, LinterSettings, NoMemory, Pair, Parse, PreferBigintOverInt,
+    PreferBigintOverSmallint, Reports, RuleSet, StepPass, Stmt, WhereEnabled,
+};
 use pass_drop::{BanDropColumn, BanDropNotNull, BanDropTable};
-use sql_tree::{Parse, Stmt};
 use std::alloc::Global;
-use text_pos::NoMemory;
 
 /// The passes of the group before the one on added constraints.
 pub type BeforeConstraints = Pair<

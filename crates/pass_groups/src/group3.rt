@@ -1,15 +1,14 @@
 //! The passes from the 17th to the 24th of the linter's order.
 
-use lint_base::{LinterSettings, Reports, RuleSet};
-use lint_pass::{Block, Pair, StepPass, WhereEnabled};
 use pass_client::{RenamingColumn, RenamingTable};
 use pass_concurrent::RequireConcurrentIndexCreation;
-use pass_data_type::{PreferIdentity, PreferTextField, PreferTimestamptz};
+use pass_data_type::{
+    Block, LinterSettings, NoMemory, Pair, Parse, PreferIdentity, PreferTextField,
+    PreferTimestamptz, Reports, RuleSet, StepPass, Stmt, WhereEnabled,
+};
 use pass_history::PreferRobustStmts;
 use pass_session::PreferRepack;
-use sql_tree::{Parse, Stmt};
 use std::alloc::Global;
-use text_pos::NoMemory;
 
 /// The passes of the group before the one on index builds.
 pub type BeforeBuilds = Pair<

@@ -1,15 +1,14 @@
 //! The passes from the 25th to the 32nd of the linter's order.
 
-use lint_base::{LinterSettings, Reports, RuleSet};
-use lint_pass::{Block, Pair, StepPass, WhereEnabled};
 use pass_client::{BanAlterDomainWithAddConstraint, BanCreateDomainWithConstraint};
 use pass_concurrent::RequireConcurrentIndexDeletion;
-use pass_data_type::RequireEnumValueOrdering;
+use pass_data_type::{
+    Block, LinterSettings, NoMemory, Pair, Parse, Reports, RequireEnumValueOrdering, RuleSet,
+    StepPass, Stmt, WhereEnabled,
+};
 use pass_drop::BanTruncateCascade;
 use pass_session::{BanUncommittedTransaction, RequireTimeoutSettings, TransactionNesting};
-use sql_tree::{Parse, Stmt};
 use std::alloc::Global;
-use text_pos::NoMemory;
 
 /// The members, in order. They are skipped unless one of their rules is enabled.
 type Members = WhereEnabled<

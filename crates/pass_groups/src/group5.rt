@@ -1,14 +1,13 @@
 //! The passes from the 33rd to the 40th of the linter's order.
 
-use lint_base::{LinterSettings, Reports, RuleSet};
-use lint_pass::{Block, Pair, StepPass, WhereEnabled};
 use pass_client::RequireTableSchema;
 use pass_concurrent::{RequireConcurrentPartitionDetach, RequireConcurrentReindex};
+use pass_data_type::{
+    Block, LinterSettings, NoMemory, Pair, Parse, Reports, RuleSet, StepPass, Stmt, WhereEnabled,
+};
 use pass_drop::{BanDropFunction, BanDropType, BanDropView};
 use pass_name::{BanDuplicateColumnAssignments, IdentifierTooLong};
-use sql_tree::{Parse, Stmt};
 use std::alloc::Global;
-use text_pos::NoMemory;
 
 /// The members, in order. They are skipped unless one of their rules is enabled.
 type Members = WhereEnabled<

@@ -1,15 +1,14 @@
 //! The passes from the 41st to the 48th of the linter's order.
 
-use lint_base::{LinterSettings, Reports, RuleSet};
-use lint_pass::{Block, Pair, StepPass, WhereEnabled};
 use pass_client::RenamingObject;
+use pass_data_type::{
+    Block, LinterSettings, NoMemory, Pair, Parse, Reports, RuleSet, StepPass, Stmt, WhereEnabled,
+};
 use pass_drop::{
     BanDropConstraint, BanDropDefault, BanDropDomain, BanDropGeneratedExpression, BanDropSchema,
     BanDropSequence, BanDropTrigger,
 };
-use sql_tree::{Parse, Stmt};
 use std::alloc::Global;
-use text_pos::NoMemory;
 
 /// The members, in order. They are skipped unless one of their rules is enabled.
 type Members = WhereEnabled<

@@ -1,15 +1,14 @@
 //! The passes from the 49th to the 56th of the linter's order.
 
-use lint_base::{LinterSettings, Reports, RuleSet};
-use lint_pass::{Block, Pair, StepPass, WhereEnabled};
 use pass_client::{
     BanAlterGeneratedExpression, BanAlterIdentity, BanDisableTrigger, BanReplicaIdentity,
     BanSetDefault, BanSetSchema,
 };
+use pass_data_type::{
+    Block, LinterSettings, NoMemory, Pair, Parse, Reports, RuleSet, StepPass, Stmt, WhereEnabled,
+};
 use pass_drop::{BanDropExtension, BanDropIndex};
-use sql_tree::{Parse, Stmt};
 use std::alloc::Global;
-use text_pos::NoMemory;
 
 /// The members, in order. They are skipped unless one of their rules is enabled.
 type Members = WhereEnabled<

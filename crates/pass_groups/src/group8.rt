@@ -1,13 +1,12 @@
 //! The passes from the 57th to the 61st of the linter's order.
 
-use lint_base::{LinterSettings, Reports, RuleSet};
-use lint_pass::{Block, Pair, StepPass, WhereEnabled};
 use pass_client::{BanReplaceViewFunction, BanRevoke, SecurityCompatibility};
+use pass_data_type::{
+    Block, LinterSettings, NoMemory, Pair, Parse, Reports, RuleSet, StepPass, Stmt, WhereEnabled,
+};
 use pass_drop::BanDropPolicy;
 use pass_object::ExistingObjectCompatibility;
-use sql_tree::{Parse, Stmt};
 use std::alloc::Global;
-use text_pos::NoMemory;
 
 /// The members, in order. They are skipped unless one of their rules is enabled.
 type Members = WhereEnabled<

@@ -29,3 +29,15 @@ pub use group6::Group6;
 pub use group7::Group7;
 pub use group8::Group8;
 pub use own::OwnPasses;
+
+// What crates above reach through this one.
+pub use pass_client::{
+    BanAlterDomainWithAddConstraint, BanCreateDomainWithConstraint, RenamingColumn, RenamingTable,
+    RequireTableSchema,
+};
+pub use pass_constraint::{ConstraintMissingNotValid, DisallowUniqueConstraint};
+pub use pass_drop::{
+    BanDropDatabase, BanDropFunction, BanDropType, BanDropView, BanTruncateCascade,
+};
+pub use pass_history::PreferRobustStmts;
+pub use pass_name::{BanDuplicateColumnAssignments, IdentifierTooLong};

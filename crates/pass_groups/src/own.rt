@@ -8,11 +8,10 @@ use crate::group5::Group5;
 use crate::group6::Group6;
 use crate::group7::Group7;
 use crate::group8::Group8;
-use lint_base::{LinterSettings, Reports, RuleSet};
-use lint_pass::{Block, Pair, StepPass, WhereEnabled};
-use sql_tree::{Parse, Stmt};
+use pass_data_type::{
+    Block, LinterSettings, NoMemory, Pair, Parse, Reports, RuleSet, StepPass, Stmt, WhereEnabled,
+};
 use std::alloc::Global;
-use text_pos::NoMemory;
 
 /// Two groups, which are skipped unless one of their rules is enabled.
 type Two<First, Second> = WhereEnabled<Pair<First, Second>>;

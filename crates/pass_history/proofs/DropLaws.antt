@@ -3,15 +3,15 @@ use Rattle.std.proofs.Common.{◌≡◌, ◌∙◌, sym, ap, refl, ℕ, Bool, tr
 use Rattle.std.specs.List.{list_any}
 use Rattle.std.specs.Option.{option_map, unwrap_or}
 use Rattle.sql_tree.specs.declared.nodes.Action.{Action}
-use Rattle.sql_token.specs.declared.token.Span.{Span}
+use Rattle.lint_pass.specs.sql_token.declared.token.Span.{Span}
 use Rattle.sql_tree.specs.Statement.{Tree}
-use Rattle.lint_node.specs.Altered.{Altered, altered}
-use Rattle.lint_transaction.specs.Names.{is_name}
+use Rattle.lint_pass.specs.lint_node.Altered.{Altered, altered}
+use Rattle.lint_pass.specs.lint_transaction.Names.{is_name}
 use Rattle.pass_history.specs.Constraints.{added_name, dropped_name}
 use Rattle.pass_history.specs.Dropped.{IsDropping, known_drop, after_add, after_drop, drops, adds, was_dropped, is_gone}
-use Rattle.lint_transaction.specs.Events.{since_event}
-use Rattle.lint_transaction.specs.SpanMap.{Values}
-use Rattle.lint_transaction.proofs.EventLaws.{since_event-next, list_any-next}
+use Rattle.lint_pass.specs.lint_transaction.Events.{since_event}
+use Rattle.lint_pass.specs.lint_transaction.SpanMap.{Values}
+use Rattle.lint_pass.proofs.of_lint_transaction.EventLaws.{since_event-next, list_any-next}
 
 -- a constraint that is gone was dropped
 pub gone_dropped : {E : Type 0} (mark reset : E → Bool) (es : List E) → list_any mark es ≡ false → since_event mark reset es ≡ false

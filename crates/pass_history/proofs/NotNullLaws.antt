@@ -4,11 +4,11 @@ use Rattle.std.proofs.lemmas.Grind.{flat_map-append}
 use Rattle.std.proofs.lemmas.List.{append-nil}
 use Rattle.std.specs.Option.{option_to_list}
 use Rattle.sql_tree.specs.declared.nodes.Action.{Action}
-use Rattle.sql_token.specs.declared.token.Span.{Span}
+use Rattle.lint_pass.specs.sql_token.declared.token.Span.{Span}
 use Rattle.sql_tree.specs.Statement.{Tree}
-use Rattle.lint_node.specs.Altered.{Altered, altered}
-use Rattle.lint_transaction.specs.Events.{last_event}
-use Rattle.lint_transaction.proofs.EventLaws.{any_event-next, last_event-next}
+use Rattle.lint_pass.specs.lint_node.Altered.{Altered, altered}
+use Rattle.lint_pass.specs.lint_transaction.Events.{last_event}
+use Rattle.lint_pass.proofs.of_lint_transaction.EventLaws.{any_event-next, last_event-next}
 use Rattle.pass_history.specs.Constraints.{validated_name}
 use Rattle.pass_history.specs.AddingNotNullField.{check_of, checks, is_named, excuses_by, excuses, last_check, altered_column, action_reports, report_on}
 use Rattle.pass_history.specs.AddingNotNullFieldWalk.{IsKnowing, Knows, known_check, has_excuse, with_check}

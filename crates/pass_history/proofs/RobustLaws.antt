@@ -2,11 +2,11 @@
 use Rattle.std.proofs.Common.{◌≡◌, ap, subst, ℕ, ◌+◌, add-one, ◌&&◌, ◌||◌, not, ◌++◌, length}
 use Rattle.sql_tree.specs.declared.nodes.Stmt.{Stmt}
 use Rattle.sql_tree.specs.Statement.{Tree}
-use Rattle.lint_base.specs.declared.settings.LinterSettings.{LinterSettings}
-use Rattle.lint_node.specs.Altered.{altered_by}
+use Rattle.lint_pass.specs.lint_base.declared.settings.LinterSettings.{LinterSettings}
+use Rattle.lint_pass.specs.lint_node.Altered.{altered_by}
 use Rattle.lint_pass.specs.BlockPlace.{ended_before}
-use Rattle.lint_transaction.specs.Transaction.{begins, ends, chains, stmt_at}
-use Rattle.lint_transaction.proofs.TrackingLaws.{open_next_stmt}
+use Rattle.lint_pass.specs.lint_transaction.Transaction.{begins, ends, chains, stmt_at}
+use Rattle.lint_pass.proofs.of_lint_transaction.TrackingLaws.{open_next_stmt}
 use Rattle.pass_history.specs.Dropped.{IsDropping}
 use Rattle.pass_history.specs.History.{altered_below}
 use Rattle.pass_history.specs.PreferRobustStmtsWalk.{IsRobustAt}

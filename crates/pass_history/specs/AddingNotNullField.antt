@@ -15,15 +15,15 @@ use Rattle.sql_tree.specs.declared.nodes.Expr.TheOpen as layer
 use Rattle.sql_tree.specs.declared.nodes.Piece.{Piece}
 use Rattle.sql_tree.specs.Range.{span_range_of}
 use Rattle.sql_tree.specs.Statement.{Tree}
-use Rattle.lint_base.specs.declared.rule.Rule.TheVariants as rule
-use Rattle.lint_base.specs.declared.settings.LinterSettings.{LinterSettings}
-use Rattle.lint_base.specs.declared.violation.Violation.{Violation}
-use Rattle.lint_base.specs.RuleSets.{Rules}
-use Rattle.lint_node.specs.Altered.{Altered}
-use Rattle.lint_node.specs.Parts.{added_constraint}
-use Rattle.lint_node.specs.Same.{same_action, same_constraint, same_piece}
-use Rattle.lint_transaction.specs.Events.{each_event, any_event, last_event}
-use Rattle.lint_transaction.specs.Names.{name_at}
+use Rattle.lint_pass.specs.lint_base.declared.rule.Rule.TheVariants as rule
+use Rattle.lint_pass.specs.lint_base.declared.settings.LinterSettings.{LinterSettings}
+use Rattle.lint_pass.specs.lint_base.declared.violation.Violation.{Violation}
+use Rattle.lint_pass.specs.lint_base.RuleSets.{Rules}
+use Rattle.lint_pass.specs.lint_node.Altered.{Altered}
+use Rattle.lint_pass.specs.lint_node.Parts.{added_constraint}
+use Rattle.lint_pass.specs.lint_node.Same.{same_action, same_constraint, same_piece}
+use Rattle.lint_pass.specs.lint_transaction.Events.{each_event, any_event, last_event}
+use Rattle.lint_pass.specs.lint_transaction.Names.{name_at}
 use Rattle.lint_pass.specs.RuleTables.{table_of}
 use Rattle.lint_pass.specs.Those.{those}
 use Rattle.pass_history.specs.Constraints.{validated_name}

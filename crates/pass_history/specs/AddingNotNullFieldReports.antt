@@ -3,10 +3,10 @@ use Rattle.std.specs.Prelude.{ℕ, Bool, All, List, Option, Some, None, refl}
 use Rattle.std.proofs.lemmas.List.Elements.{All-nil}
 use Rattle.sql_tree.specs.declared.nodes.Piece.{Piece}
 use Rattle.sql_tree.specs.Statement.{Tree}
-use Rattle.lint_base.specs.declared.rule.Rule.TheVariants as rule
-use Rattle.lint_base.specs.declared.settings.LinterSettings.{LinterSettings}
-use Rattle.lint_base.specs.declared.violation.Violation.{Violation}
-use Rattle.lint_node.specs.Altered.{Altered}
+use Rattle.lint_pass.specs.lint_base.declared.rule.Rule.TheVariants as rule
+use Rattle.lint_pass.specs.lint_base.declared.settings.LinterSettings.{LinterSettings}
+use Rattle.lint_pass.specs.lint_base.declared.violation.Violation.{Violation}
+use Rattle.lint_pass.specs.lint_node.Altered.{Altered}
 use Rattle.lint_pass.specs.Laws.{HasCode, IsRead, IsPlacedIn}
 use Rattle.lint_pass.specs.PlaceLaws.{span_place}
 use Rattle.lint_pass.specs.RuleLaws.{unless_all}

@@ -2,12 +2,12 @@
 use Rattle.std.specs.Prelude.{◌≡◌, ℕ, Bool, true, ◌||◌, List, [], ◌∷◌, Option, Some, None, if◌then◌else◌}
 use Rattle.std.specs.Str.{bytes_eq}
 use Rattle.sql_tree.specs.Statement.{Tree}
-use Rattle.lint_node.specs.Altered.{Altered}
-use Rattle.lint_transaction.specs.Events.{any_event}
-use Rattle.lint_transaction.specs.Names.{name_at}
-use Rattle.lint_transaction.specs.SpanMap.{get_span}
-use Rattle.lint_transaction.specs.SpanSet.{has_span}
-use Rattle.lint_transaction.specs.declared.span_key.SpanKey.TheVariants as by
+use Rattle.lint_pass.specs.lint_node.Altered.{Altered}
+use Rattle.lint_pass.specs.lint_transaction.Events.{any_event}
+use Rattle.lint_pass.specs.lint_transaction.Names.{name_at}
+use Rattle.lint_pass.specs.lint_transaction.SpanMap.{get_span}
+use Rattle.lint_pass.specs.lint_transaction.SpanSet.{has_span}
+use Rattle.lint_pass.specs.lint_transaction.declared.span_key.SpanKey.TheVariants as by
 use Rattle.pass_history.specs.AddingNotNullField.{excuses, last_check}
 use Rattle.pass_history.specs.declared.not_null_checks.NotNullCheck.{NotNullCheck}
 use Rattle.pass_history.specs.declared.excused_columns.ExcusedColumns.{ExcusedColumns}

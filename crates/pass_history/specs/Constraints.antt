@@ -2,11 +2,11 @@
 -- "VALIDATE CONSTRAINT" and "DROP CONSTRAINT").
 use Rattle.std.specs.Prelude.{ℕ, Option, None, if◌then◌else◌}
 use Rattle.std.specs.Option.{option_and_then, option_map}
-use Rattle.sql_token.specs.declared.token.Span.{Span}
+use Rattle.lint_pass.specs.sql_token.declared.token.Span.{Span}
 use Rattle.sql_tree.specs.declared.kinds.ActionKind.TheVariants as action
 use Rattle.sql_tree.specs.declared.nodes.Action.{Action}
-use Rattle.lint_node.specs.Parts.{added_constraint}
-use Rattle.lint_node.specs.Same.{same_action}
+use Rattle.lint_pass.specs.lint_node.Parts.{added_constraint}
+use Rattle.lint_pass.specs.lint_node.Same.{same_action}
 
 -- the name of the constraint that an action adds
 abbrev pub added_name : Action → Option ℕ

@@ -3,11 +3,11 @@ use Rattle.std.specs.Prelude.{◌≡◌, ℕ, Bool, true, false, List, [], ◌�
 use Rattle.std.specs.List.{list_any}
 use Rattle.std.specs.Option.{option_map}
 use Rattle.sql_tree.specs.Statement.{Tree}
-use Rattle.lint_node.specs.Altered.{Altered}
-use Rattle.lint_transaction.specs.Events.{since_event}
-use Rattle.lint_transaction.specs.Names.{is_name}
-use Rattle.lint_transaction.specs.SpanMap.{Values, get_span}
-use Rattle.lint_transaction.specs.declared.span_key.SpanKey.TheVariants as by
+use Rattle.lint_pass.specs.lint_node.Altered.{Altered}
+use Rattle.lint_pass.specs.lint_transaction.Events.{since_event}
+use Rattle.lint_pass.specs.lint_transaction.Names.{is_name}
+use Rattle.lint_pass.specs.lint_transaction.SpanMap.{Values, get_span}
+use Rattle.lint_pass.specs.lint_transaction.declared.span_key.SpanKey.TheVariants as by
 use Rattle.pass_history.specs.Constraints.{added_name, dropped_name}
 
 abbrev pub drops : Tree → List ℕ → Altered → Bool

@@ -2,14 +2,14 @@
 -- 3.4: what a transaction did is undone where it fails; and the pages of the statements, "IF EXISTS" and "IF NOT EXISTS").
 use Rattle.std.specs.Prelude.{ℕ, Bool, ◌||◌, nat_eq, List, [], ◌∷◌, length, codes, if◌then◌else◌, Option, None}
 use Rattle.std.specs.Option.{option_map}
-use Rattle.text_pos.specs.Range.{Range}
+use Rattle.lint_pass.specs.text_pos.Range.{Range}
 use Rattle.sql_tree.specs.Range.{span_range_of}
 use Rattle.sql_tree.specs.Statement.{Tree}
-use Rattle.lint_base.specs.Fixes.{FixValue}
-use Rattle.lint_base.specs.declared.rule.Rule.TheVariants as rule
-use Rattle.lint_base.specs.declared.settings.LinterSettings.{LinterSettings}
-use Rattle.lint_base.specs.declared.violation.Violation.{Violation}
-use Rattle.lint_transaction.specs.Transaction.{is_open}
+use Rattle.lint_pass.specs.lint_base.Fixes.{FixValue}
+use Rattle.lint_pass.specs.lint_base.declared.rule.Rule.TheVariants as rule
+use Rattle.lint_pass.specs.lint_base.declared.settings.LinterSettings.{LinterSettings}
+use Rattle.lint_pass.specs.lint_base.declared.violation.Violation.{Violation}
+use Rattle.lint_pass.specs.lint_transaction.Transaction.{is_open}
 use Rattle.lint_pass.specs.BlockPlace.{in_block}
 use Rattle.lint_pass.specs.Blocks.{blocks_of}
 use Rattle.lint_pass.specs.Fixes.{insertion_fix}

@@ -1,14 +1,14 @@
 -- What is reported of the actions of an ALTER TABLE that is not robust.
 use Rattle.std.specs.Prelude.{ℕ, Bool, false, ◌||◌, List, [], codes, if◌then◌else◌, Option, Some, None}
-use Rattle.text_pos.specs.Range.{Range}
+use Rattle.lint_pass.specs.text_pos.Range.{Range}
 use Rattle.sql_tree.specs.declared.kinds.ActionKind.TheVariants as action
 use Rattle.sql_tree.specs.declared.nodes.Action.{Action}
 use Rattle.sql_tree.specs.Range.{span_range_of}
 use Rattle.sql_tree.specs.Statement.{Tree}
-use Rattle.lint_base.specs.declared.violation.Violation.{Violation}
-use Rattle.lint_node.specs.Altered.{Altered}
-use Rattle.lint_node.specs.Same.{same_action}
-use Rattle.lint_transaction.specs.Names.{name_at}
+use Rattle.lint_pass.specs.lint_base.declared.violation.Violation.{Violation}
+use Rattle.lint_pass.specs.lint_node.Altered.{Altered}
+use Rattle.lint_pass.specs.lint_node.Same.{same_action}
+use Rattle.lint_pass.specs.lint_transaction.Names.{name_at}
 use Rattle.pass_history.specs.Constraints.{added_name, validated_name}
 use Rattle.pass_history.specs.Dropped.{is_gone, was_dropped}
 use Rattle.pass_history.specs.PreferRobustStmts.{after_word, exists_title, missing_exists, missing_not_exists, no_transaction, not_exists_title, unless}

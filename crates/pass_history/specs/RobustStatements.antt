@@ -1,20 +1,20 @@
 -- What is reported of statements other than ALTER TABLE, and all that is reported of those that can't be run again.
 use Rattle.std.specs.Prelude.{ℕ, Bool, ◌&&◌, ◌||◌, not, is_some, List, [], ◌++◌, length, codes, slice_get, if◌then◌else◌, Option, Some, None}
 use Rattle.std.specs.Option.{option_map}
-use Rattle.sql_token.specs.declared.token.Span.{Span}
+use Rattle.lint_pass.specs.sql_token.declared.token.Span.{Span}
 use Rattle.sql_tree.specs.declared.kinds.StmtKind.TheVariants as stmt
 use Rattle.sql_tree.specs.declared.nodes.Body.{Body}
 use Rattle.sql_tree.specs.declared.nodes.Body.TheVariants as body
 use Rattle.sql_tree.specs.declared.nodes.Stmt.{Stmt}
 use Rattle.sql_tree.specs.Range.{stmt_range_of}
 use Rattle.sql_tree.specs.Statement.{Tree}
-use Rattle.lint_base.specs.declared.rule.Rule.TheVariants as rule
-use Rattle.lint_base.specs.declared.settings.LinterSettings.{LinterSettings}
-use Rattle.lint_base.specs.declared.violation.Violation.{Violation}
-use Rattle.lint_base.specs.RuleSets.{Rules}
-use Rattle.lint_node.specs.Same.{same_kind}
-use Rattle.lint_transaction.specs.Events.{each_event}
-use Rattle.lint_transaction.specs.Transaction.{stmt_at}
+use Rattle.lint_pass.specs.lint_base.declared.rule.Rule.TheVariants as rule
+use Rattle.lint_pass.specs.lint_base.declared.settings.LinterSettings.{LinterSettings}
+use Rattle.lint_pass.specs.lint_base.declared.violation.Violation.{Violation}
+use Rattle.lint_pass.specs.lint_base.RuleSets.{Rules}
+use Rattle.lint_pass.specs.lint_node.Same.{same_kind}
+use Rattle.lint_pass.specs.lint_transaction.Events.{each_event}
+use Rattle.lint_pass.specs.lint_transaction.Transaction.{stmt_at}
 use Rattle.lint_pass.specs.RuleTables.{table_of}
 use Rattle.pass_history.specs.History.{altered_at, altered_below}
 use Rattle.pass_history.specs.PreferRobustStmts.{after_word, before_word, exists_title, is_robust, missing_exists, missing_not_exists, not_exists_title, unless}

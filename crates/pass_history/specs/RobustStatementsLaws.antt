@@ -1,23 +1,23 @@
 -- What holds of each report of a statement that can't be run again.
 use Rattle.std.specs.Prelude.{ℕ, Bool, true, false, All, ◌||◌, ◌&&◌, not, is_some, List, [], ◌∷◌, codes, Option, Some, None, refl, IfSome, if◌then◌else◌}
 use Rattle.std.proofs.lemmas.List.Elements.{All-append, All-nil}
-use Rattle.text_pos.specs.Range.{Range}
-use Rattle.sql_token.specs.declared.token.Span.{Span}
+use Rattle.lint_pass.specs.text_pos.Range.{Range}
+use Rattle.lint_pass.specs.sql_token.declared.token.Span.{Span}
 use Rattle.sql_tree.specs.declared.kinds.StmtKind.TheVariants as stmt
 use Rattle.sql_tree.specs.declared.nodes.Action.{Action}
 use Rattle.sql_tree.specs.declared.nodes.Body.{Body}
 use Rattle.sql_tree.specs.declared.nodes.Body.TheVariants as body
 use Rattle.sql_tree.specs.declared.nodes.Stmt.{Stmt}
 use Rattle.sql_tree.specs.Statement.{Tree}
-use Rattle.lint_base.specs.Fixes.{FixValue}
-use Rattle.lint_base.specs.declared.rule.Rule.TheVariants as rule
-use Rattle.lint_base.specs.declared.settings.LinterSettings.{LinterSettings}
-use Rattle.lint_base.specs.declared.violation.Violation.{Violation}
-use Rattle.lint_ignore.specs.Places.{IsPlace}
-use Rattle.lint_node.specs.Altered.{Altered}
-use Rattle.lint_node.specs.Same.{same_kind}
-use Rattle.lint_transaction.specs.Events.{each_event}
-use Rattle.lint_transaction.specs.Transaction.{stmt_at}
+use Rattle.lint_pass.specs.lint_base.Fixes.{FixValue}
+use Rattle.lint_pass.specs.lint_base.declared.rule.Rule.TheVariants as rule
+use Rattle.lint_pass.specs.lint_base.declared.settings.LinterSettings.{LinterSettings}
+use Rattle.lint_pass.specs.lint_base.declared.violation.Violation.{Violation}
+use Rattle.lint_pass.specs.lint_ignore.Places.{IsPlace}
+use Rattle.lint_pass.specs.lint_node.Altered.{Altered}
+use Rattle.lint_pass.specs.lint_node.Same.{same_kind}
+use Rattle.lint_pass.specs.lint_transaction.Events.{each_event}
+use Rattle.lint_pass.specs.lint_transaction.Transaction.{stmt_at}
 use Rattle.lint_pass.specs.FixLaws.{after_token, before_token}
 use Rattle.lint_pass.specs.Laws.{AreEdits, HasCode, IsRead, IsPlacedIn}
 use Rattle.lint_pass.specs.PlaceLaws.{span_place}

@@ -1,22 +1,21 @@
 //! Columns that are set NOT NULL.
 
 ghost use Rattle.std.specs.Prelude.{◌≡◌, ◌++◌, ◌∷◌, [], ◌&&◌, List, map, OnOk, OnErr};
-ghost use Rattle.lint_base.specs.Grown.{GrownBy};
-ghost use Rattle.lint_node.specs.Altered.{Altered, altered, altered_by};
-ghost use Rattle.lint_transaction.specs.Events.{each_event};
+ghost use Rattle.lint_pass.specs.lint_base.Grown.{GrownBy};
+ghost use Rattle.lint_pass.specs.lint_node.Altered.{Altered, altered, altered_by};
+ghost use Rattle.lint_pass.specs.lint_transaction.Events.{each_event};
 ghost use Rattle.lint_pass.specs.Those.{that, those};
 ghost use Rattle.pass_history.specs.AddingNotNullField as spec;
 ghost use Rattle.pass_history.specs.AddingNotNullField.{action_reports, report_on, sets_not_null};
 ghost use Rattle.pass_history.specs.AddingNotNullFieldWalk.{Knows, IsKeyed, has_excuse};
 
 use crate::excused_columns::ExcusedColumns;
-use lint_base::{LinterSettings, Reports, Rule, Text, Violation};
-use lint_node::{altered_path, same_action, same_piece, table_actions};
-use lint_pass::{Block, RulePass};
-use sql_token::Span;
+use lint_pass::{
+    Block, LinterSettings, NoMemory, Reports, Rule, RulePass, Span, Text, Violation, altered_path,
+    same_action, same_piece, table_actions,
+};
 use sql_tree::{Action, ActionKind, Parse, Piece, PieceKind, Stmt};
 use std::alloc::Global;
-use text_pos::NoMemory;
 
 const MESSAGE: &str = "setting a column `not null` blocks reads while the table is scanned";
 
@@ -177,7 +176,7 @@ fn uses_checks(set: &LinterSettings) -> bool
 
 impl RulePass for AddingNotNullField {
     ghost use Rattle.std.specs.Prelude.{false};
-    ghost use Rattle.lint_base.specs.declared.rule.Rule.TheVariants as rule;
+    ghost use Rattle.lint_pass.specs.lint_base.declared.rule.Rule.TheVariants as rule;
     ghost use Rattle.pass_history.specs.History.{altered_below};
     ghost use Rattle.pass_history.specs.AddingNotNullField.{not_null_of, uses_checks};
     ghost use Rattle.pass_history.specs.AddingNotNullFieldReports.{not_null_coded, not_null_placed};

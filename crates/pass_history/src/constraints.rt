@@ -3,8 +3,7 @@
 ghost use Rattle.std.specs.Prelude.{◌≡◌};
 ghost use Rattle.pass_history.specs.Constraints as spec;
 
-use lint_node::{added_constraint, same_action};
-use sql_token::Span;
+use lint_pass::{Span, added_constraint, same_action};
 use sql_tree::{Action, ActionKind};
 
 /// The number of the name of the constraint that an action adds.

@@ -3,18 +3,16 @@
 ghost use Rattle.std.specs.Prelude.{◌≡◌, ◌++◌, ◌∷◌, [], ℕ, List, OnOk, Some, if◌then◌else◌};
 ghost use Rattle.std.specs.Str.{bytes_eq};
 ghost use Rattle.sql_tree.specs.Statement.{Tree};
-ghost use Rattle.lint_node.specs.Altered.{Altered, altered};
-ghost use Rattle.lint_transaction.specs.Names as given;
+ghost use Rattle.lint_pass.specs.lint_node.Altered.{Altered, altered};
+ghost use Rattle.lint_pass.specs.lint_transaction.Names as given;
 ghost use Rattle.pass_history.specs.Dropped as spec;
 ghost use Rattle.pass_history.specs.Dropped.{IsDropping, known_drop, after_add, after_drop};
 
 use crate::constraints::{added_name, dropped_name, one_token};
-use lint_transaction::{SpanKey, SpanMap};
-use sql_token::Span;
+use lint_pass::{NoMemory, Span, SpanKey, SpanMap};
 use sql_tree::{Action, Parse};
 use std::alloc::Global;
 use std::marker::Model;
-use text_pos::NoMemory;
 
 /// The constraints that the actions so far dropped, by the full texts of their names, and whether each is still gone. It holds no
 /// text: a look at a constraint takes the same time after many actions as after few.
@@ -25,8 +23,8 @@ pub struct DroppedConstraints {
 
 impl Model for DroppedConstraints {
     ghost use Rattle.std.specs.Prelude.{◌≡◌, Bool};
-    ghost use Rattle.lint_transaction.specs.SpanMap.{Values};
-    ghost use Rattle.lint_transaction.specs.declared.span_key.SpanKey.TheVariants as by;
+    ghost use Rattle.lint_pass.specs.lint_transaction.SpanMap.{Values};
+    ghost use Rattle.lint_pass.specs.lint_transaction.declared.span_key.SpanKey.TheVariants as by;
 
     ghost Value = { Values Bool };
 

@@ -3,18 +3,16 @@
 ghost use Rattle.std.specs.Prelude.{◌≡◌, ◌++◌, ◌∷◌, [], ◌&&◌, ◌||◌, ℕ, List, OnOk};
 ghost use Rattle.std.specs.Str.{bytes_eq};
 ghost use Rattle.sql_tree.specs.Statement.{Tree};
-ghost use Rattle.lint_node.specs.Altered.{Altered, altered};
-ghost use Rattle.lint_transaction.specs.Names as given;
+ghost use Rattle.lint_pass.specs.lint_node.Altered.{Altered, altered};
+ghost use Rattle.lint_pass.specs.lint_transaction.Names as given;
 ghost use Rattle.pass_history.specs.AddingNotNullField.{excuses_by};
 ghost use Rattle.pass_history.specs.AddingNotNullFieldWalk.{IsKeyed, IsKnowing, known_check, has_excuse, check_on, with_check};
 
 use crate::constraints::{one_token, validated_name};
 use crate::not_null_checks::{NotNullCheck, check_of};
-use lint_transaction::{SpanKey, SpanMap, SpanSet, is_same_name};
-use sql_token::Span;
+use lint_pass::{NoMemory, Span, SpanKey, SpanMap, SpanSet, is_same_name};
 use sql_tree::{Action, Parse};
 use std::alloc::Global;
-use text_pos::NoMemory;
 
 /// The columns that the constraints validated so far excuse from a scan, and what is needed to tell which these are. It holds no
 /// text: a look at a column takes the same time after many actions as after few.

@@ -3,7 +3,7 @@
 ghost use Rattle.std.specs.Prelude.{◌≡◌};
 ghost use Rattle.pass_history.specs.AddingNotNullField as spec;
 
-use lint_node::{added_constraint, same_constraint};
+use lint_pass::{added_constraint, same_constraint};
 use sql_tree::{Action, ConKind, Constraint, Expr};
 
 /// What a CHECK that was added as not valid says, that a column of a table has no null: the numbers of the names of the

@@ -1,12 +1,12 @@
 //! Statements that can't be run again where a migration fails part way through.
 
 ghost use Rattle.std.specs.Prelude.{◌≡◌, ◌++◌, ◌&&◌, ◌||◌, not, List, length, OnOk, OnErr, ◌<◌, ◌+◌};
-ghost use Rattle.lint_base.specs.Grown.{GrownBy};
-ghost use Rattle.lint_node.specs.Altered.{Altered, altered_by};
+ghost use Rattle.lint_pass.specs.lint_base.Grown.{GrownBy};
+ghost use Rattle.lint_pass.specs.lint_node.Altered.{Altered, altered_by};
 ghost use Rattle.lint_pass.specs.BlockPlace.{ended_before};
 ghost use Rattle.lint_pass.specs.Blocks.{blocks_of};
-ghost use Rattle.lint_transaction.specs.Events.{each_event};
-ghost use Rattle.lint_transaction.specs.Transaction as track;
+ghost use Rattle.lint_pass.specs.lint_transaction.Events.{each_event};
+ghost use Rattle.lint_pass.specs.lint_transaction.Transaction as track;
 ghost use Rattle.pass_history.specs.Dropped.{IsDropping};
 ghost use Rattle.pass_history.specs.PreferRobustStmts.{is_robust};
 ghost use Rattle.pass_history.specs.RobustActions.{report_on};
@@ -16,12 +16,12 @@ ghost use Rattle.pass_history.specs.PreferRobustStmtsWalk.{IsRobustAt};
 use crate::dropped_constraints::DroppedConstraints;
 use crate::robust_actions::watch_alterations;
 use crate::robust_statements::report_statement;
-use lint_base::{LinterSettings, Reports, Rule};
-use lint_pass::{Block, RulePass, blocks_ended_before, is_in_block};
-use lint_transaction::OpenTransaction;
+use lint_pass::{
+    Block, LinterSettings, NoMemory, OpenTransaction, Reports, Rule, RulePass, blocks_ended_before,
+    is_in_block,
+};
 use sql_tree::{Parse, Stmt};
 use std::alloc::Global;
-use text_pos::NoMemory;
 
 /// Reports, outside of a transaction: each action of an ALTER TABLE, CREATE INDEX with a name, CREATE TABLE, DROP INDEX, DROP TABLE and
 /// DROP TYPE that a second run would stop at; inside of one, CREATE INDEX with CONCURRENTLY. In a text with blocks that Alembic writes,
@@ -97,7 +97,7 @@ impl PreferRobustStmtsMemory {
 
 impl RulePass for PreferRobustStmts {
     ghost use Rattle.std.specs.Prelude.{true};
-    ghost use Rattle.lint_base.specs.declared.rule.Rule.TheVariants as rule;
+    ghost use Rattle.lint_pass.specs.lint_base.declared.rule.Rule.TheVariants as rule;
     ghost use Rattle.pass_history.specs.RobustStatementsLaws.{robust_coded, robust_placed};
     ghost use Rattle.pass_history.specs.RobustStatements.{robust_of};
     ghost use Rattle.pass_history.specs.PreferRobustStmtsWalk.{IsRobustAt};

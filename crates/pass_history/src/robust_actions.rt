@@ -1,9 +1,9 @@
 //! Actions of an ALTER TABLE that can't be run again.
 
 ghost use Rattle.std.specs.Prelude.{◌≡◌, ◌++◌, ◌∷◌, [], List, map, IfOk, OnOk, OnErr};
-ghost use Rattle.lint_base.specs.Grown.{GrownBy};
-ghost use Rattle.lint_node.specs.Altered.{Altered, altered, altered_by};
-ghost use Rattle.lint_transaction.specs.Events.{each_event};
+ghost use Rattle.lint_pass.specs.lint_base.Grown.{GrownBy};
+ghost use Rattle.lint_pass.specs.lint_node.Altered.{Altered, altered, altered_by};
+ghost use Rattle.lint_pass.specs.lint_transaction.Events.{each_event};
 ghost use Rattle.pass_history.specs.Dropped.{IsDropping};
 ghost use Rattle.pass_history.specs.PreferRobustStmts.{unless};
 ghost use Rattle.pass_history.specs.RobustActions as spec;
@@ -14,12 +14,11 @@ use crate::dropped_constraints::DroppedConstraints;
 use crate::robust_reports::{
     EXISTS_TITLE, NOT_EXISTS_TITLE, after_word, missing_exists, missing_not_exists, no_transaction,
 };
-use lint_base::{Reports, Text, Violation};
-use lint_node::{altered_path, same_action, table_actions};
-use sql_token::Span;
+use lint_pass::{
+    NoMemory, Reports, Span, Text, Violation, altered_path, same_action, table_actions,
+};
 use sql_tree::{Action, ActionKind, Parse, Stmt};
 use std::alloc::Global;
-use text_pos::NoMemory;
 
 fn is_drop(a: &Action) -> bool
     ensures { result ≡ spec.is_drop a.now }

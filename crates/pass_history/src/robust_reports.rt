@@ -3,11 +3,9 @@
 ghost use Rattle.std.specs.Prelude.{◌≡◌, IfOk};
 ghost use Rattle.pass_history.specs.PreferRobustStmts as spec;
 
-use lint_base::{Fix, Rule, Text, Violation};
-use lint_pass::insertion_fix;
+use lint_pass::{Fix, NoMemory, Rule, Text, TextRange, Violation, insertion_fix};
 use sql_tree::Parse;
 use std::alloc::Global;
-use text_pos::{NoMemory, TextRange};
 
 const NO_EXISTS: &str =
     "missing `if exists`, the migration can't be rerun if it fails part way through";

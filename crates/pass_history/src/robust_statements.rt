@@ -1,7 +1,7 @@
 //! Statements other than ALTER TABLE that can't be run again.
 
 ghost use Rattle.std.specs.Prelude.{◌≡◌, ◌++◌, ◌∷◌, [], ◌||◌, not, IfOk, OnOk, OnErr};
-ghost use Rattle.lint_node.specs.Same.{same_kind};
+ghost use Rattle.lint_pass.specs.lint_node.Same.{same_kind};
 ghost use Rattle.sql_tree.specs.declared.kinds.StmtKind.TheVariants as stmt;
 ghost use Rattle.pass_history.specs.PreferRobustStmts.{unless};
 ghost use Rattle.pass_history.specs.RobustStatements as spec;
@@ -10,13 +10,10 @@ ghost use Rattle.pass_history.specs.RobustStatements.{index_reports, statement_r
 use crate::robust_reports::{
     EXISTS_TITLE, NOT_EXISTS_TITLE, after_word, before_word, missing_exists, missing_not_exists,
 };
-use lint_base::{Reports, Text, Violation};
-use lint_node::same_kind;
-use sql_token::Span;
+use lint_pass::{NoMemory, Reports, Span, Text, Violation, same_kind};
 use sql_tree::{Body, Parse, Stmt, StmtKind};
 use sqlite_items::Items;
 use std::alloc::Global;
-use text_pos::NoMemory;
 
 fn index_report(alloc: Global, p: &Parse<'_>, s: &Stmt, name: u32) -> Result<Violation, NoMemory>
     ensures { IfOk result (λ v. v ≡ spec.index_report p.now s.now name) }

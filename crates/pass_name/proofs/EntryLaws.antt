@@ -4,8 +4,8 @@ use Rattle.std.specs.Prelude.{Vec}
 use Rattle.std.specs.Map.{lookup, set_value}
 use Rattle.std.specs.Str.{bytes_eq}
 use Rattle.indexmap.specs.IndexMap.{insert_entry}
-use Rattle.sql_name.specs.declared.name.Name.{Name}
-use Rattle.sql_name.specs.Compared.{name_cut, name_eq}
+use Rattle.lint_pass.specs.sql_name.declared.name.Name.{Name}
+use Rattle.lint_pass.specs.sql_name.Compared.{name_cut, name_eq}
 use Rattle.pass_name.specs.Entries.{items_of, entry_seen}
 use Rattle.pass_name.specs.Gathered.{put}
 

@@ -6,9 +6,9 @@ use Rattle.std.proofs.lemmas.Simd.{map-map}
 use Rattle.std.specs.Prelude.{Vec}
 use Rattle.std.specs.List.{flat_map}
 use Rattle.std.specs.Str.{bytes_eq}
-use Rattle.sql_name.specs.declared.name.Name.{Name}
-use Rattle.sql_tree.specs.Statement.{Tree}
-use Rattle.lint_base.specs.declared.violation.Violation.{Violation}
+use Rattle.lint_pass.specs.sql_name.declared.name.Name.{Name}
+use Rattle.lint_pass.specs.sql_tree.Statement.{Tree}
+use Rattle.lint_pass.specs.lint_base.declared.violation.Violation.{Violation}
 use Rattle.pass_name.specs.declared.members.ListKind.{ListKind}
 use Rattle.pass_name.specs.declared.members.Member.{Member}
 use Rattle.pass_name.specs.BanDuplicateColumnAssignments.{reports_of_group, reports_of_names}

@@ -4,14 +4,14 @@ use Rattle.std.proofs.lemmas.Bool.{le-ltb, ltb-false}
 use Rattle.std.proofs.lemmas.List.{append-nil, length-take}
 use Rattle.std.proofs.Math.Nat.{min-le_left}
 use Rattle.std.specs.List.{list_any}
-use Rattle.sql_name.proofs.FullText.{length-full_name}
-use Rattle.sql_tree.specs.declared.nodes.Stmt.{Stmt}
+use Rattle.lint_pass.proofs.of_sql_name.FullText.{length-full_name}
+use Rattle.lint_pass.specs.sql_tree.declared.nodes.Stmt.{Stmt}
 use Rattle.sql_token.specs.Terminal.{is_name_kind}
-use Rattle.sql_tree.specs.Range.{token_at}
-use Rattle.sql_tree.specs.Statement.{Tree}
-use Rattle.lint_base.specs.declared.violation.Violation.{Violation}
+use Rattle.lint_pass.specs.sql_tree.Range.{token_at}
+use Rattle.lint_pass.specs.sql_tree.Statement.{Tree}
+use Rattle.lint_pass.specs.lint_base.declared.violation.Violation.{Violation}
 use Rattle.lint_pass.specs.Those.{those}
-use Rattle.lint_transaction.specs.Names.{name_at}
+use Rattle.lint_pass.specs.lint_transaction.Names.{name_at}
 use Rattle.pass_name.specs.IdentifierTooLong.{is_long_at, is_too_long, kind_at, reports_of_identifier_too_long, numbers_from, report, token_numbers}
 use Rattle.pass_name.proofs.NameCuts.{numbers_more, numbers_none}
 

@@ -4,10 +4,10 @@ use Rattle.std.proofs.lemmas.Bool.{cases_lt}
 use Rattle.std.proofs.lemmas.List.{append-nil}
 use Rattle.std.specs.List.{flat_map, slice_range}
 use Rattle.std.specs.Str.{IsCharBoundary}
-use Rattle.sql_name.specs.Cut.{IsLongestCut}
-use Rattle.sql_name.specs.Name.{cut_to, full_name}
-use Rattle.sql_name.proofs.Cuts.{cut_to_longest}
-use Rattle.sql_name.proofs.FullText.{length-full_name}
+use Rattle.lint_pass.specs.sql_name.Cut.{IsLongestCut}
+use Rattle.lint_pass.specs.sql_name.Name.{cut_to, full_name}
+use Rattle.lint_pass.proofs.of_sql_name.Cuts.{cut_to_longest}
+use Rattle.lint_pass.proofs.of_sql_name.FullText.{length-full_name}
 use Rattle.pass_name.specs.IdentifierTooLong.{numbers_from}
 
 -- the last boundary within n bytes is where the cut ends

@@ -5,29 +5,29 @@ use Rattle.std.proofs.lemmas.List.Elements.{All-append, All-cons, All-drop, All-
 use Rattle.std.specs.List.{filter_map, flat_map, list_all}
 use Rattle.std.specs.Prelude.{All, ⊤, IfSome}
 use Rattle.std.specs.Str.{IsCharBoundary}
-use Rattle.lint_base.specs.declared.edit.Edit.{Edit}
-use Rattle.lint_base.specs.declared.rule.Rule.TheVariants as rule
-use Rattle.lint_base.specs.declared.violation.Violation.{Violation}
-use Rattle.lint_base.specs.Fixes.{FixValue}
-use Rattle.lint_ignore.specs.Places.{IsPlace}
+use Rattle.lint_pass.specs.lint_base.declared.edit.Edit.{Edit}
+use Rattle.lint_pass.specs.lint_base.declared.rule.Rule.TheVariants as rule
+use Rattle.lint_pass.specs.lint_base.declared.violation.Violation.{Violation}
+use Rattle.lint_pass.specs.lint_base.Fixes.{FixValue}
+use Rattle.lint_pass.specs.lint_ignore.Places.{IsPlace}
 use Rattle.lint_pass.specs.Laws.{AreEdits, HasCode, IsRead, IsPlacedIn}
 use Rattle.lint_pass.specs.PlaceLaws.{span_place, start_place}
 use Rattle.lint_pass.specs.RuleLaws.{flat_all, one_all, unless_all}
-use Rattle.lint_transaction.specs.Names.{name_at}
-use Rattle.lint_transaction.specs.Transaction.{stmt_at}
+use Rattle.lint_pass.specs.lint_transaction.Names.{name_at}
+use Rattle.lint_pass.specs.lint_transaction.Transaction.{stmt_at}
 use Rattle.law_renumber.proofs.Ordered.{Up}
 use Rattle.sql_token.specs.declared.token.Tok.{Tok}
 use Rattle.sql_token.specs.Token.{Text}
 use Rattle.sql_token.proofs.Boundaries.{token_between}
-use Rattle.sql_tree.specs.declared.nodes.Body.{Body}
-use Rattle.sql_tree.specs.declared.nodes.Body.TheVariants as body
-use Rattle.sql_tree.specs.declared.nodes.Elem.{Elem}
-use Rattle.sql_tree.specs.declared.nodes.Elem.TheVariants as elem
-use Rattle.sql_tree.specs.declared.nodes.SetPart.{SetPart}
-use Rattle.sql_tree.specs.declared.nodes.Stmt.{Stmt}
-use Rattle.sql_tree.specs.declared.nodes.Target.{Target}
-use Rattle.sql_tree.specs.Range.{token_at}
-use Rattle.sql_tree.specs.Statement.{Tree}
+use Rattle.lint_pass.specs.sql_tree.declared.nodes.Body.{Body}
+use Rattle.lint_pass.specs.sql_tree.declared.nodes.Body.TheVariants as body
+use Rattle.lint_pass.specs.sql_tree.declared.nodes.Elem.{Elem}
+use Rattle.lint_pass.specs.sql_tree.declared.nodes.Elem.TheVariants as elem
+use Rattle.lint_pass.specs.sql_tree.declared.nodes.SetPart.{SetPart}
+use Rattle.lint_pass.specs.sql_tree.declared.nodes.Stmt.{Stmt}
+use Rattle.lint_pass.specs.sql_tree.declared.nodes.Target.{Target}
+use Rattle.lint_pass.specs.sql_tree.Range.{token_at}
+use Rattle.lint_pass.specs.sql_tree.Statement.{Tree}
 use Rattle.pass_name.specs.declared.members.ListKind.{ListKind}
 use Rattle.pass_name.specs.declared.members.ListKind.TheVariants as kind
 use Rattle.pass_name.specs.declared.members.Member.{Member}

@@ -3,10 +3,10 @@ use Rattle.std.proofs.Common.{◌<◌, ◌≤◌, ℕ, Option, Some, None, List,
 use Rattle.std.specs.List.{flat_map}
 use Rattle.std.specs.Prelude.{All, ⊤}
 use Rattle.std.specs.Str.{IsCharBoundary}
-use Rattle.lint_base.specs.declared.edit.Edit.{Edit}
+use Rattle.lint_pass.specs.lint_base.declared.edit.Edit.{Edit}
 use Rattle.sql_token.specs.declared.token.Tok.{Tok}
 use Rattle.sql_token.specs.Token.{Text}
-use Rattle.sql_tree.specs.Statement.{Tree}
+use Rattle.lint_pass.specs.sql_tree.Statement.{Tree}
 use Rattle.pass_name.specs.declared.members.Member.{Member}
 use Rattle.pass_name.specs.declared.members.Removable.{Removable}
 use Rattle.pass_name.specs.BanDuplicateColumnAssignments.{deletions_of}

@@ -3,16 +3,16 @@ use Rattle.std.proofs.Common.{◌≡◌, ◌<◌, ◌≤◌, ◌==◌, ℕ, zero
 use Rattle.std.proofs.lemmas.Bool.Decides.{nat_tests}
 use Rattle.std.proofs.lemmas.List.Elements.{All-append, All-cons, All-drop, All-filter, All-head, All-nil, All-tail, All-take}
 use Rattle.std.specs.Prelude.{All}
-use Rattle.lint_base.specs.declared.edit.Edit.{Edit}
+use Rattle.lint_pass.specs.lint_base.declared.edit.Edit.{Edit}
 use Rattle.lint_pass.specs.Laws.{AreApart}
 use Rattle.lint_pass.specs.RuleLaws.{one_all}
 use Rattle.law_renumber.proofs.Ordered.{Up, up_le, up_lower}
 use Rattle.sql_token.specs.declared.token.Tok.{Tok}
 use Rattle.sql_token.specs.Token.{Text, Leads}
-use Rattle.sql_tree.specs.declared.nodes.SetPart.{SetPart}
-use Rattle.sql_tree.specs.declared.nodes.Target.{Target}
-use Rattle.sql_tree.specs.Range.{token_at}
-use Rattle.sql_tree.specs.Statement.{Tree, IsTree, no_token}
+use Rattle.lint_pass.specs.sql_tree.declared.nodes.SetPart.{SetPart}
+use Rattle.lint_pass.specs.sql_tree.declared.nodes.Target.{Target}
+use Rattle.lint_pass.specs.sql_tree.Range.{token_at}
+use Rattle.lint_pass.specs.sql_tree.Statement.{Tree, IsTree, no_token}
 use Rattle.pass_name.specs.declared.members.Member.{Member}
 use Rattle.pass_name.specs.declared.members.Removable.{Removable}
 use Rattle.pass_name.specs.BanDuplicateColumnAssignments.{after_comma, between, deletion_end, deletion_of, deletions_of, first_comment, is_comma, is_comment}

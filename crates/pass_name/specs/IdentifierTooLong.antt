@@ -1,19 +1,19 @@
 -- Which identifiers are reported for their length (PostgreSQL manual, section 4.1.1: an identifier is cut to 63 bytes).
 use Rattle.std.specs.Prelude.{ℕ, zero, suc, ◌+◌, ◌-◌, ◌==◌, Bool, true, false, not, ◌&&◌, ◌||◌, nat_le, nat_lt, List, [], ◌∷◌, ◌++◌, length, Option, Some, None, codes, if◌then◌else◌}
 use Rattle.std.specs.List.{list_all, list_any}
-use Rattle.sql_name.specs.Name.{cut_to, quote}
+use Rattle.lint_pass.specs.sql_name.Name.{cut_to, quote}
 use Rattle.sql_token.specs.declared.token.TokKind.{TokKind}
 use Rattle.sql_token.specs.declared.token.TokKind.TheVariants as kinds
-use Rattle.sql_tree.specs.declared.nodes.Stmt.{Stmt}
+use Rattle.lint_pass.specs.sql_tree.declared.nodes.Stmt.{Stmt}
 use Rattle.sql_token.specs.Terminal.{is_name_kind}
-use Rattle.sql_tree.specs.Range.{span_range_of, token_at}
-use Rattle.sql_tree.specs.Statement.{Tree}
-use Rattle.lint_base.specs.declared.rule.Rule.TheVariants as rule
-use Rattle.lint_base.specs.declared.violation.Violation.{Violation}
-use Rattle.lint_base.specs.Fixes.{FixValue}
+use Rattle.lint_pass.specs.sql_tree.Range.{span_range_of, token_at}
+use Rattle.lint_pass.specs.sql_tree.Statement.{Tree}
+use Rattle.lint_pass.specs.lint_base.declared.rule.Rule.TheVariants as rule
+use Rattle.lint_pass.specs.lint_base.declared.violation.Violation.{Violation}
+use Rattle.lint_pass.specs.lint_base.Fixes.{FixValue}
 use Rattle.lint_pass.specs.Fixes.{replacement_fix}
 use Rattle.lint_pass.specs.Those.{those}
-use Rattle.lint_transaction.specs.Names.{name_at}
+use Rattle.lint_pass.specs.lint_transaction.Names.{name_at}
 
 -- ---- identifiers
 

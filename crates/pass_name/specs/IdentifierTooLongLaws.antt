@@ -1,14 +1,14 @@
 -- Each report of an identifier that is too long is of its rule, and is in the text.
 use Rattle.std.specs.Prelude.{ℕ, Bool, true, false, All, Some, None, IfSome, refl}
 use Rattle.std.proofs.Common.{cond}
-use Rattle.sql_tree.specs.declared.nodes.Stmt.{Stmt}
-use Rattle.sql_tree.specs.Statement.{Tree}
-use Rattle.lint_base.specs.declared.rule.Rule.TheVariants as rule
+use Rattle.lint_pass.specs.sql_tree.declared.nodes.Stmt.{Stmt}
+use Rattle.lint_pass.specs.sql_tree.Statement.{Tree}
+use Rattle.lint_pass.specs.lint_base.declared.rule.Rule.TheVariants as rule
 use Rattle.lint_pass.specs.FixLaws.{over_tokens}
 use Rattle.lint_pass.specs.Laws.{AreEdits, HasCode, IsRead, IsPlacedIn}
 use Rattle.lint_pass.specs.PlaceLaws.{span_place}
 use Rattle.lint_pass.specs.ThoseLaws.{those_all}
-use Rattle.lint_transaction.specs.Names.{name_at}
+use Rattle.lint_pass.specs.lint_transaction.Names.{name_at}
 use Rattle.pass_name.specs.IdentifierTooLong.{token_numbers, kind_at, is_too_long, kept_name, has_doubled, rename, fix_of, report, reports_of_identifier_too_long}
 
 report_coded : (tree : Tree) (number : ℕ) → HasCode rule.IdentifierTooLong (report tree number)

@@ -2,14 +2,14 @@
 use Rattle.std.specs.Prelude.{ℕ, ◌==◌, Bool, ◌&&◌, false, nat_lt, List, [], ◌∷◌, ◌++◌, length, map, if◌then◌else◌, Option, Some, None}
 use Rattle.std.specs.Ordering.{on}
 use Rattle.std.specs.Str.{bytes_eq}
-use Rattle.sql_name.specs.Name.{cut_name}
+use Rattle.lint_pass.specs.sql_name.Name.{cut_name}
 use Rattle.sql_token.specs.Token.{text_of}
-use Rattle.sql_tree.specs.declared.nodes.Elem.{Elem}
-use Rattle.sql_tree.specs.declared.nodes.Elem.TheVariants as elem
-use Rattle.sql_tree.specs.declared.nodes.SetPart.{SetPart}
-use Rattle.sql_tree.specs.declared.nodes.Target.{Target}
-use Rattle.sql_tree.specs.Range.{token_at}
-use Rattle.sql_tree.specs.Statement.{Tree}
+use Rattle.lint_pass.specs.sql_tree.declared.nodes.Elem.{Elem}
+use Rattle.lint_pass.specs.sql_tree.declared.nodes.Elem.TheVariants as elem
+use Rattle.lint_pass.specs.sql_tree.declared.nodes.SetPart.{SetPart}
+use Rattle.lint_pass.specs.sql_tree.declared.nodes.Target.{Target}
+use Rattle.lint_pass.specs.sql_tree.Range.{token_at}
+use Rattle.lint_pass.specs.sql_tree.Statement.{Tree}
 use Rattle.pass_name.specs.declared.members.Member.{Member}
 use Rattle.pass_name.specs.declared.members.Removable.{Removable}
 

@@ -6,32 +6,32 @@ use Rattle.std.proofs.lemmas.List.Elements.{All-cons, All-nil}
 use Rattle.std.specs.List.{filter_map, flat_map}
 use Rattle.std.specs.Option.{option_and_then}
 use Rattle.std.specs.Prelude.{All, if◌then◌else◌, is_some}
-use Rattle.sql_keyword.specs.declared.words.TheConstants.Keyword as keyword
+use Rattle.lint_pass.specs.sql_keyword.declared.words.TheConstants.Keyword as keyword
 use Rattle.sql_token.specs.declared.terminal.Terminal.{Terminal}
 use Rattle.sql_token.specs.Depth.{span_of}
 use Rattle.sql_token.specs.Sound.{is_sound}
 use Rattle.sql_token.specs.Terminal.{is_semicolon}
-use Rattle.sql_tree.specs.declared.forms.BodyShape.{BodyShape}
-use Rattle.sql_tree.specs.declared.forms.BodyShape.TheVariants as shape
-use Rattle.sql_tree.specs.declared.kinds.StmtKind.{StmtKind}
-use Rattle.sql_tree.specs.declared.kinds.StmtKind.TheVariants as stmt
-use Rattle.sql_tree.specs.declared.nodes.Body.{Body}
-use Rattle.sql_tree.specs.declared.nodes.Body.TheVariants as body
-use Rattle.sql_tree.specs.declared.nodes.SetPart.{SetPart}
-use Rattle.sql_tree.specs.declared.nodes.Stmt.{Stmt}
-use Rattle.sql_tree.specs.declared.nodes.Target.{Target}
-use Rattle.sql_tree.specs.Action.{actions_of}
-use Rattle.sql_tree.specs.Column.{domain_constraints, drops_on_commit, elements}
-use Rattle.sql_tree.specs.Forms.{State}
-use Rattle.sql_tree.specs.Groups.{inside_list}
-use Rattle.sql_tree.specs.Split.{Test, before, clause_end, comma, do_update_set, from_mark, has, merge_clause_end, split, then_update_set, until, word}
-use Rattle.sql_tree.specs.Statement.{IsTree, Tree, body_by, body_shape_of, final_kind, form_from, form_of, front_by, from_verb, last_of, statement, stmt_in, kind_and_body, without_semicolon}
-use Rattle.sql_tree.specs.Tails.{after_flag, after_options, paths_from, reindex, reindex_body, reindex_object, target_symbol, whole_path}
-use Rattle.sql_tree.specs.Write.{assigned, others, set_clause, set_clauses, set_part, set_part_of, sets_of, table_write, target, targets, update_clause}
+use Rattle.lint_pass.specs.sql_tree.declared.forms.BodyShape.{BodyShape}
+use Rattle.lint_pass.specs.sql_tree.declared.forms.BodyShape.TheVariants as shape
+use Rattle.lint_pass.specs.sql_tree.declared.kinds.StmtKind.{StmtKind}
+use Rattle.lint_pass.specs.sql_tree.declared.kinds.StmtKind.TheVariants as stmt
+use Rattle.lint_pass.specs.sql_tree.declared.nodes.Body.{Body}
+use Rattle.lint_pass.specs.sql_tree.declared.nodes.Body.TheVariants as body
+use Rattle.lint_pass.specs.sql_tree.declared.nodes.SetPart.{SetPart}
+use Rattle.lint_pass.specs.sql_tree.declared.nodes.Stmt.{Stmt}
+use Rattle.lint_pass.specs.sql_tree.declared.nodes.Target.{Target}
+use Rattle.lint_pass.specs.sql_tree.Action.{actions_of}
+use Rattle.lint_pass.specs.sql_tree.Column.{domain_constraints, drops_on_commit, elements}
+use Rattle.lint_pass.specs.sql_tree.Forms.{State}
+use Rattle.lint_pass.specs.sql_tree.Groups.{inside_list}
+use Rattle.lint_pass.specs.sql_tree.Split.{Test, before, clause_end, comma, do_update_set, from_mark, has, merge_clause_end, split, then_update_set, until, word}
+use Rattle.lint_pass.specs.sql_tree.Statement.{IsTree, Tree, body_by, body_shape_of, final_kind, form_from, form_of, front_by, from_verb, last_of, statement, stmt_in, kind_and_body, without_semicolon}
+use Rattle.lint_pass.specs.sql_tree.Tails.{after_flag, after_options, paths_from, reindex, reindex_body, reindex_object, target_symbol, whole_path}
+use Rattle.lint_pass.specs.sql_tree.Write.{assigned, others, set_clause, set_clauses, set_part, set_part_of, sets_of, table_write, target, targets, update_clause}
 use Rattle.law_renumber.proofs.NodeOrder.{Sliced, split_sliced, take_numbered, tree_up}
 use Rattle.law_renumber.proofs.Ordered.{LeftOf, Numbered, Up, drop_left, front_left, numbered_le, numbered_lower, up-append, up_le, up_lower, verb_left}
 use Rattle.law_renumber.proofs.There.{IfThere, from_there, if_there}
-use Rattle.lint_transaction.specs.Transaction.{no_stmt, stmt_at}
+use Rattle.lint_pass.specs.lint_transaction.Transaction.{no_stmt, stmt_at}
 use Rattle.pass_name.specs.SetOrder.{sets_in, part_starts, set_starts, InBody, InForm, InStmt, HaveOrder}
 
 -- ---- a clause

@@ -2,7 +2,7 @@
 
 ghost use Rattle.std.specs.Prelude.{◌≡◌, ◌++◌, map, None, IfOk, OnOk, OnErr};
 ghost use Rattle.std.specs.List.{flat_map};
-ghost use Rattle.lint_base.specs.Grown.{GrownBy};
+ghost use Rattle.lint_pass.specs.lint_base.Grown.{GrownBy};
 ghost use Rattle.pass_name.specs.BanDuplicateColumnAssignments as spec;
 ghost use Rattle.pass_name.specs.BanDuplicateColumnAssignments.{reports_of_ban_duplicate_column_assignments};
 ghost use Rattle.pass_name.specs.Members as written;
@@ -13,12 +13,12 @@ use crate::duplicate_report::{are_partial, fix_of, report};
 use crate::grouping::{are_apart, gather};
 use crate::lists::{assigned, columns_of, first_name, first_token, members_of};
 use crate::members::{ListKind, Member};
-use lint_base::{LinterSettings, Reports, Rule};
-use lint_pass::{Block, RulePass};
-use sql_tree::{Body, Parse, SetPart, Stmt, Target, ViewDefinition};
+use lint_pass::{
+    Block, Body, LinterSettings, NoMemory, Parse, Reports, Rule, RulePass, SetPart, Stmt, Target,
+    ViewDefinition,
+};
 use sqlite_items::Items;
 use std::alloc::Global;
-use text_pos::NoMemory;
 
 /// Reports each name that is twice in one list of columns: of CREATE TABLE, of a view or of what its query gives, of SELECT INTO, of
 /// INSERT, and of a SET clause. Equal names are those whose first 63 bytes are equal.
@@ -234,8 +234,8 @@ fn add_reports(alloc: Global, p: &Parse<'_>, s: &Stmt, out: &mut Reports) -> Res
 
 impl RulePass for BanDuplicateColumnAssignments {
     ghost use Rattle.std.specs.Prelude.{false};
-    ghost use Rattle.lint_base.specs.declared.rule.Rule.TheVariants as rule;
-    ghost use Rattle.lint_transaction.specs.Transaction.{stmt_at};
+    ghost use Rattle.lint_pass.specs.lint_base.declared.rule.Rule.TheVariants as rule;
+    ghost use Rattle.lint_pass.specs.lint_transaction.Transaction.{stmt_at};
     ghost use Rattle.pass_name.specs.BanDuplicateColumnAssignmentsLaws.{duplicates_coded, duplicates_placed};
     ghost use Rattle.pass_name.specs.BanDuplicateColumnAssignments.{reports_of_ban_duplicate_column_assignments};
 

@@ -5,11 +5,9 @@ ghost use Rattle.std.specs.List.{flat_map, list_all};
 ghost use Rattle.pass_name.specs.BanDuplicateColumnAssignments as spec;
 
 use crate::members::{Member, Removable};
-use lint_base::Edit;
+use lint_pass::{Edit, NoMemory, Parse, TextRange, TextSize};
 use sql_token::{Tok, TokKind};
-use sql_tree::Parse;
 use std::alloc::Global;
-use text_pos::{NoMemory, TextRange, TextSize};
 
 fn is_comma(text: &str, tok: Tok) -> bool
     ensures { result ≡ spec.is_comma text.now tok }

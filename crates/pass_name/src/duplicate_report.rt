@@ -2,16 +2,13 @@
 
 ghost use Rattle.std.specs.Prelude.{◌≡◌, false, ◌<◌, length, string_bytes, IfOk};
 ghost use Rattle.std.specs.List.{list_all};
-ghost use Rattle.lint_transaction.specs.Names as given;
+ghost use Rattle.lint_pass.specs.lint_transaction.Names as given;
 ghost use Rattle.pass_name.specs.BanDuplicateColumnAssignments as spec;
 
 use crate::deletions::{deletions, have_parts};
 use crate::members::{ListKind, Member};
-use lint_base::{Fix, Rule, Text, Violation};
-use lint_transaction::name_at;
-use sql_tree::Parse;
+use lint_pass::{Fix, NoMemory, Parse, Rule, Text, Violation, name_at};
 use std::alloc::Global;
-use text_pos::NoMemory;
 
 fn message(alloc: Global, kind: ListKind, name: &str) -> Result<Text, NoMemory>
     ensures { IfOk result (λ text. text ≡ spec.message kind name.now) }

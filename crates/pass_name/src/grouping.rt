@@ -1,7 +1,7 @@
 //! Groups of equal names.
 
 ghost use Rattle.std.specs.Prelude.{◌≡◌, ◌∷◌, [], ◌++◌, filter, map, IfOk, OnOk};
-ghost use Rattle.sql_name.specs.Compared.{name_cut};
+ghost use Rattle.lint_pass.specs.sql_name.Compared.{name_cut};
 ghost use Rattle.std.specs.List.{list_any};
 ghost use Rattle.pass_name.specs.Groups.{groups, is_repeated};
 ghost use Rattle.pass_name.specs.Groups as spec;
@@ -12,10 +12,8 @@ ghost use Rattle.pass_name.specs.Gathered.{put};
 
 use crate::members::Member;
 use indexmap::IndexMap;
-use sql_name::Name;
-use sql_tree::Parse;
+use lint_pass::{Name, NoMemory, Parse};
 use std::alloc::Global;
-use text_pos::NoMemory;
 
 /// The name that the token of this number gives, empty past the last token.
 fn key_at<'t>(p: &Parse<'t>, number: u32) -> Name<'t>

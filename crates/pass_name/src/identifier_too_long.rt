@@ -2,20 +2,19 @@
 
 ghost use Rattle.std.specs.Prelude.{◌≡◌, ◌++◌, length, is_some, string_bytes, IfOk, IfSome, OnOk, OnErr};
 ghost use Rattle.std.specs.List.{list_all, list_any};
-ghost use Rattle.sql_name.specs.Name.{cut_to};
-ghost use Rattle.lint_base.specs.Grown.{GrownBy};
+ghost use Rattle.lint_pass.specs.sql_name.Name.{cut_to};
+ghost use Rattle.lint_pass.specs.lint_base.Grown.{GrownBy};
 ghost use Rattle.lint_pass.specs.Those.{that};
-ghost use Rattle.lint_transaction.specs.Names.{name_at};
+ghost use Rattle.lint_pass.specs.lint_transaction.Names.{name_at};
 ghost use Rattle.pass_name.specs.IdentifierTooLong as spec;
 ghost use Rattle.pass_name.specs.IdentifierTooLong.{kind_at, reports_of_identifier_too_long, token_numbers};
 
-use lint_base::{Fix, LinterSettings, Reports, Rule, Text, Violation};
-use lint_pass::{StatementPass, replacement_fix};
-use sql_name::FullName;
+use lint_pass::{
+    Fix, FullName, LinterSettings, NoMemory, Parse, Reports, Rule, StatementPass, Stmt, Text,
+    Violation, replacement_fix,
+};
 use sql_token::TokKind;
-use sql_tree::{Parse, Stmt};
 use std::alloc::Global;
-use text_pos::NoMemory;
 
 /// How many bytes PostgreSQL keeps of an identifier: `NAMEDATALEN` less 1.
 const KEPT_LEN: usize = 63;
@@ -229,7 +228,7 @@ fn report_tokens(alloc: Global, p: &Parse<'_>, s: &Stmt, out: &mut Reports) -> R
 }
 
 impl StatementPass for IdentifierTooLong {
-    ghost use Rattle.lint_base.specs.declared.rule.Rule.TheVariants as rule;
+    ghost use Rattle.lint_pass.specs.lint_base.declared.rule.Rule.TheVariants as rule;
     ghost use Rattle.pass_name.specs.IdentifierTooLong.{reports_of_identifier_too_long};
     ghost use Rattle.pass_name.specs.IdentifierTooLongLaws.{long_coded, long_placed};
 

@@ -5,9 +5,8 @@ ghost use Rattle.std.specs.List.{filter_map};
 ghost use Rattle.pass_name.specs.Members as spec;
 
 use crate::members::{Member, Removable};
-use sql_tree::{Elem, SetPart, Target};
+use lint_pass::{Elem, NoMemory, SetPart, Target};
 use std::alloc::Global;
-use text_pos::NoMemory;
 
 fn member_of(t: Target) -> Member
     ensures { result ≡ spec.member_of t }

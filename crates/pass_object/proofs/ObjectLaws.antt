@@ -2,11 +2,11 @@
 use Rattle.std.proofs.Common.{◌≡◌, ◌∙◌, ap, refl, subst, ℕ, ◌+◌, add-one, Bool, ◌||◌, List, Option, Some, None}
 use Rattle.lint_base.specs.declared.violation.Violation.{Violation}
 use Rattle.lint_base.specs.RuleSets.{Rules}
-use Rattle.sql_tree.specs.declared.nodes.Stmt.{Stmt}
-use Rattle.sql_tree.specs.Path.{path_cuts}
-use Rattle.sql_tree.specs.Statement.{Tree}
-use Rattle.lint_transaction.specs.Transaction.{stmt_at}
-use Rattle.lint_transaction.proofs.EarlierLaws.{or_swap}
+use Rattle.lint_pass.specs.sql_tree.declared.nodes.Stmt.{Stmt}
+use Rattle.lint_pass.specs.sql_tree.Path.{path_cuts}
+use Rattle.lint_pass.specs.sql_tree.Statement.{Tree}
+use Rattle.lint_pass.specs.lint_transaction.Transaction.{stmt_at}
+use Rattle.lint_pass.proofs.of_lint_transaction.EarlierLaws.{or_swap}
 use Rattle.pass_object.specs.KnownObjects.{IsKnowing, Objects, created, creates, has_named, has_object, is_known, is_known_named, is_named, is_of_known}
 use Rattle.pass_object.specs.ExistingObjectCompatibility.{existing_at, unless_known}
 use Rattle.pass_object.specs.declared.known_objects.NamedObject.{NamedObject}

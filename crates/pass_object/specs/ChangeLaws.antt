@@ -6,7 +6,7 @@ use Rattle.std.proofs.lemmas.List.Folds.{list_any_at}
 use Rattle.std.proofs.lemmas.Option.{get_or_from_slice_get}
 use Rattle.std.proofs.lemmas.List.Elements.{All-append, All-cons, All-head, All-nil, All-tail}
 use Rattle.std.specs.List.{flat_map, list_all}
-use Rattle.text_pos.specs.Range.{Range}
+use Rattle.lint_pass.specs.text_pos.Range.{Range}
 use Rattle.lint_base.specs.declared.rule.Rule.{Rule}
 use Rattle.lint_base.specs.declared.rule.Rule.TheVariants as rule
 use Rattle.lint_base.specs.declared.violation.Violation.{Violation}
@@ -14,15 +14,15 @@ use Rattle.lint_base.specs.Rules.{all_rules, number_of}
 use Rattle.lint_base.specs.RuleSets.{Rules, has, with_rule}
 use Rattle.lint_base.specs.Violations.{violation}
 use Rattle.lint_base.proofs.RuleSets.{number_of-lt, rule_at-number_of}
-use Rattle.lint_transaction.specs.Transaction.{stmt_at}
-use Rattle.sql_tree.specs.declared.kinds.StmtKind.{StmtKind}
-use Rattle.sql_tree.specs.declared.kinds.StmtKind.TheVariants as stmt
-use Rattle.sql_tree.specs.declared.nodes.Action.{Action}
-use Rattle.sql_tree.specs.declared.nodes.Stmt.{Stmt}
-use Rattle.sql_tree.specs.Nodes.{actions_in}
-use Rattle.sql_tree.specs.Range.{span_range_of}
-use Rattle.sql_tree.specs.Statement.{Tree}
-use Rattle.lint_node.specs.Parts.{new_constraints}
+use Rattle.lint_pass.specs.lint_transaction.Transaction.{stmt_at}
+use Rattle.lint_pass.specs.sql_tree.declared.kinds.StmtKind.{StmtKind}
+use Rattle.lint_pass.specs.sql_tree.declared.kinds.StmtKind.TheVariants as stmt
+use Rattle.lint_pass.specs.sql_tree.declared.nodes.Action.{Action}
+use Rattle.lint_pass.specs.sql_tree.declared.nodes.Stmt.{Stmt}
+use Rattle.lint_pass.specs.sql_tree.Nodes.{actions_in}
+use Rattle.lint_pass.specs.sql_tree.Range.{span_range_of}
+use Rattle.lint_pass.specs.sql_tree.Statement.{Tree}
+use Rattle.lint_pass.specs.lint_node.Parts.{new_constraints}
 use Rattle.lint_pass.specs.Laws.{HasCode, IsOf, IsRead, IsPlacedIn, reports_by}
 use Rattle.lint_pass.specs.PairLaws.{pair_apart, pieces_apart}
 use Rattle.lint_pass.specs.PlaceLaws.{span_place}

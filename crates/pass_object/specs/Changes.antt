@@ -3,24 +3,24 @@
 use Rattle.std.specs.Prelude.{ℕ, Bool, false, ◌&&◌, ◌||◌, ◌==◌, not, List, [], ◌∷◌, ◌++◌, length, map, if◌then◌else◌}
 use Rattle.std.specs.Borrow.{Bor}
 use Rattle.std.specs.List.{flat_map, list_any}
-use Rattle.text_pos.specs.Range.{Range}
+use Rattle.lint_pass.specs.text_pos.Range.{Range}
 use Rattle.lint_base.specs.declared.rule.Rule.{Rule}
 use Rattle.lint_base.specs.declared.violation.Violation.{Violation}
 use Rattle.lint_base.specs.RuleSets.{Rules, has}
 use Rattle.lint_base.specs.Violations.{violation}
-use Rattle.sql_tree.specs.declared.kinds.ActionKind.TheVariants as action
-use Rattle.sql_tree.specs.declared.kinds.PieceKind.TheVariants as piece
-use Rattle.sql_tree.specs.declared.nodes.Action.{Action}
-use Rattle.sql_tree.specs.declared.nodes.Body.{Body}
-use Rattle.sql_tree.specs.declared.nodes.Body.TheVariants as body
-use Rattle.sql_tree.specs.declared.nodes.Constraint.{Constraint}
-use Rattle.sql_tree.specs.declared.nodes.Piece.{Piece}
-use Rattle.sql_tree.specs.declared.nodes.Stmt.{Stmt}
-use Rattle.sql_tree.specs.Nodes.{actions_in}
-use Rattle.sql_tree.specs.Range.{span_range_of, stmt_range_of}
-use Rattle.sql_tree.specs.Statement.{Tree}
-use Rattle.lint_node.specs.Parts.{new_constraints}
-use Rattle.lint_node.specs.Same.{same_action, same_constraint, same_piece}
+use Rattle.lint_pass.specs.sql_tree.declared.kinds.ActionKind.TheVariants as action
+use Rattle.lint_pass.specs.sql_tree.declared.kinds.PieceKind.TheVariants as piece
+use Rattle.lint_pass.specs.sql_tree.declared.nodes.Action.{Action}
+use Rattle.lint_pass.specs.sql_tree.declared.nodes.Body.{Body}
+use Rattle.lint_pass.specs.sql_tree.declared.nodes.Body.TheVariants as body
+use Rattle.lint_pass.specs.sql_tree.declared.nodes.Constraint.{Constraint}
+use Rattle.lint_pass.specs.sql_tree.declared.nodes.Piece.{Piece}
+use Rattle.lint_pass.specs.sql_tree.declared.nodes.Stmt.{Stmt}
+use Rattle.lint_pass.specs.sql_tree.Nodes.{actions_in}
+use Rattle.lint_pass.specs.sql_tree.Range.{span_range_of, stmt_range_of}
+use Rattle.lint_pass.specs.sql_tree.Statement.{Tree}
+use Rattle.lint_pass.specs.lint_node.Parts.{new_constraints}
+use Rattle.lint_pass.specs.lint_node.Same.{same_action, same_constraint, same_piece}
 use Rattle.pass_object.specs.declared.changes.Changes.{Changes}
 use Rattle.pass_object.specs.declared.changes.Node.{Node}
 use Rattle.pass_object.specs.declared.changes.Node.TheVariants as node

@@ -1,14 +1,14 @@
 -- What is reported of changes of tables, types and sequences that no earlier statement creates: of what clients may use.
 use Rattle.std.specs.Prelude.{◌≡◌, ℕ, Bool, true, ◌&&◌, List, [], ◌∷◌, length, if◌then◌else◌}
 use Rattle.std.specs.List.{list_any}
-use Rattle.sql_tree.specs.declared.nodes.Stmt.{Stmt}
-use Rattle.sql_tree.specs.Statement.{Tree}
+use Rattle.lint_pass.specs.sql_tree.declared.nodes.Stmt.{Stmt}
+use Rattle.lint_pass.specs.sql_tree.Statement.{Tree}
 use Rattle.lint_base.specs.declared.rule.Rule.TheVariants as rule
 use Rattle.lint_base.specs.declared.violation.Violation.{Violation}
 use Rattle.lint_base.specs.Rules.{all_rules}
 use Rattle.lint_base.specs.RuleSets.{Rules, has, rules_in}
-use Rattle.lint_transaction.specs.Earlier.{concat_below}
-use Rattle.lint_transaction.specs.Transaction.{stmt_at}
+use Rattle.lint_pass.specs.lint_transaction.Earlier.{concat_below}
+use Rattle.lint_pass.specs.lint_transaction.Transaction.{stmt_at}
 use Rattle.pass_object.specs.Changes.{Row, at_statement, by_rows}
 use Rattle.pass_object.specs.KnownObjects.{is_of_known}
 use Rattle.pass_object.specs.Rows.{rows_of}

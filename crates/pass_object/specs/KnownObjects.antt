@@ -1,17 +1,17 @@
 -- Tables, types and sequences that earlier statements create (PostgreSQL manual, CREATE TABLE, CREATE TYPE and CREATE
 -- SEQUENCE). IF NOT EXISTS creates nothing where the object exists, so a create that has it is no such statement.
 use Rattle.std.specs.Prelude.{◌≡◌, ℕ, Bool, true, false, ◌&&◌, List, if◌then◌else◌, Option, Some, None}
-use Rattle.sql_token.specs.declared.token.Span.{Span}
-use Rattle.sql_tree.specs.declared.kinds.StmtKind.{StmtKind}
-use Rattle.sql_tree.specs.declared.kinds.StmtKind.TheVariants as stmt
-use Rattle.sql_tree.specs.declared.nodes.Body.{Body}
-use Rattle.sql_tree.specs.declared.nodes.Body.TheVariants as body
-use Rattle.sql_tree.specs.declared.nodes.Stmt.{Stmt}
-use Rattle.sql_tree.specs.Path.{path_cuts}
-use Rattle.sql_tree.specs.Statement.{Tree}
-use Rattle.lint_transaction.specs.Earlier.{any_below}
-use Rattle.lint_transaction.specs.SpanSet.{Spans, has_span}
-use Rattle.lint_transaction.specs.Transaction.{same_path, stmt_at}
+use Rattle.lint_pass.specs.sql_token.declared.token.Span.{Span}
+use Rattle.lint_pass.specs.sql_tree.declared.kinds.StmtKind.{StmtKind}
+use Rattle.lint_pass.specs.sql_tree.declared.kinds.StmtKind.TheVariants as stmt
+use Rattle.lint_pass.specs.sql_tree.declared.nodes.Body.{Body}
+use Rattle.lint_pass.specs.sql_tree.declared.nodes.Body.TheVariants as body
+use Rattle.lint_pass.specs.sql_tree.declared.nodes.Stmt.{Stmt}
+use Rattle.lint_pass.specs.sql_tree.Path.{path_cuts}
+use Rattle.lint_pass.specs.sql_tree.Statement.{Tree}
+use Rattle.lint_pass.specs.lint_transaction.Earlier.{any_below}
+use Rattle.lint_pass.specs.lint_transaction.SpanSet.{Spans, has_span}
+use Rattle.lint_pass.specs.lint_transaction.Transaction.{same_path, stmt_at}
 use Rattle.pass_object.specs.declared.known_objects.NamedObject.{NamedObject}
 use Rattle.pass_object.specs.declared.known_objects.Object.{Object}
 use Rattle.pass_object.specs.declared.known_objects.Object.TheVariants as object

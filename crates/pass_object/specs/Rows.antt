@@ -2,11 +2,11 @@
 -- FOREIGN TABLE, ALTER DOMAIN, CREATE INDEX, ALTER TYPE and ALTER SEQUENCE).
 use Rattle.std.specs.Prelude.{ℕ, List, [], ◌∷◌, ◌++◌, map, codes}
 use Rattle.lint_base.specs.declared.rule.Rule.TheVariants as rule
-use Rattle.sql_tree.specs.declared.kinds.ActionKind.TheVariants as action
-use Rattle.sql_tree.specs.declared.kinds.PieceKind.TheVariants as piece
-use Rattle.sql_tree.specs.declared.kinds.StmtKind.{StmtKind}
-use Rattle.sql_tree.specs.declared.kinds.StmtKind.TheVariants as stmt
-use Rattle.sql_tree.specs.declared.nodes.ConKind.TheVariants as constraint
+use Rattle.lint_pass.specs.sql_tree.declared.kinds.ActionKind.TheVariants as action
+use Rattle.lint_pass.specs.sql_tree.declared.kinds.PieceKind.TheVariants as piece
+use Rattle.lint_pass.specs.sql_tree.declared.kinds.StmtKind.{StmtKind}
+use Rattle.lint_pass.specs.sql_tree.declared.kinds.StmtKind.TheVariants as stmt
+use Rattle.lint_pass.specs.sql_tree.declared.nodes.ConKind.TheVariants as constraint
 use Rattle.pass_object.specs.declared.changes.Spot.{Spot}
 use Rattle.pass_object.specs.declared.changes.Spot.TheVariants as spot
 use Rattle.pass_object.specs.Changes.{Row}

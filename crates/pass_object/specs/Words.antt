@@ -2,13 +2,13 @@
 -- (PostgreSQL manual, ALTER SEQUENCE).
 use Rattle.std.specs.Prelude.{ℕ, ◌+◌, Bool, false, ◌&&◌, ◌||◌, not, nat_lt, List, drop, length, position, codes, Option, Some, None}
 use Rattle.std.specs.Str.{str_eq_ignore_ascii_case}
-use Rattle.sql_token.specs.Terminal.{is_significant_token}
-use Rattle.sql_token.specs.Token.{text_of}
-use Rattle.sql_tree.specs.declared.kinds.PieceKind.TheVariants as piece
-use Rattle.sql_tree.specs.declared.nodes.Piece.{Piece}
-use Rattle.sql_tree.specs.Range.{token_at}
-use Rattle.sql_tree.specs.Statement.{Tree}
-use Rattle.lint_node.specs.Same.{same_piece}
+use Rattle.lint_pass.specs.sql_token.Terminal.{is_significant_token}
+use Rattle.lint_pass.specs.sql_token.Token.{text_of}
+use Rattle.lint_pass.specs.sql_tree.declared.kinds.PieceKind.TheVariants as piece
+use Rattle.lint_pass.specs.sql_tree.declared.nodes.Piece.{Piece}
+use Rattle.lint_pass.specs.sql_tree.Range.{token_at}
+use Rattle.lint_pass.specs.sql_tree.Statement.{Tree}
+use Rattle.lint_pass.specs.lint_node.Same.{same_piece}
 
 -- token n is the word, in any case; a quoted name is none
 abbrev pub is_word : Tree → ℕ → List ℕ → Bool

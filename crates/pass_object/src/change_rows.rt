@@ -6,7 +6,7 @@ ghost use Rattle.pass_object.specs.Rows as spec;
 
 use crate::changes::{Row, Spot};
 use lint_base::Rule;
-use sql_tree::{ActionKind, ConKind, PieceKind, StmtKind};
+use lint_pass::{ActionKind, ConKind, PieceKind, StmtKind};
 
 const NEW_COLUMN: &str =
     "adding a column changes the shape of rows existing clients receive and can break positional inserts";

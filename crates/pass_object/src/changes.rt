@@ -8,9 +8,10 @@ ghost use Rattle.pass_object.specs.Changes.{at_action, at_constraint, at_parts, 
 
 use crate::words::changes_values;
 use lint_base::{Reports, Rule, RuleSet, Text, Violation};
-use lint_node::{actions_of, new_constraints, same_action, same_constraint, same_piece};
-use sql_tree::{Action, ActionKind, Body, ConKind, Constraint, Parse, Piece, PieceKind, Stmt};
-use text_pos::{NoMemory, TextRange};
+use lint_pass::{
+    Action, ActionKind, Body, ConKind, Constraint, NoMemory, Parse, Piece, PieceKind, Stmt,
+    TextRange, actions_of, new_constraints, same_action, same_constraint, same_piece,
+};
 
 /// What a row reports, in statements of one kind.
 #[derive(Clone, Copy)]

@@ -8,10 +8,8 @@ use crate::change_rows::rows_of;
 use crate::changes::Changes;
 use crate::known_objects::KnownObjects;
 use lint_base::{LinterSettings, Reports, Rule, RuleSet};
-use lint_pass::{Block, StepPass};
-use sql_tree::{Parse, Stmt};
+use lint_pass::{Block, NoMemory, Parse, StepPass, Stmt};
 use std::alloc::Global;
-use text_pos::NoMemory;
 
 /// Reports what an existing table, foreign table, domain, type or sequence newly asks of its clients, by six rules:
 ///

@@ -1,19 +1,16 @@
 //! Tables, types and sequences that earlier statements create.
 
 ghost use Rattle.std.specs.Prelude.{◌≡◌, ◌+◌, ◌||◌, ◌&&◌, ℕ, List, OnOk};
-ghost use Rattle.sql_tree.specs.Path.{path_cuts};
-ghost use Rattle.sql_tree.specs.Statement.{Tree};
-ghost use Rattle.lint_transaction.specs.Transaction.{same_path, stmt_at};
+ghost use Rattle.lint_pass.specs.sql_tree.Path.{path_cuts};
+ghost use Rattle.lint_pass.specs.sql_tree.Statement.{Tree};
+ghost use Rattle.lint_pass.specs.lint_transaction.Transaction.{same_path, stmt_at};
 ghost use Rattle.pass_object.specs.KnownObjects as spec;
 ghost use Rattle.pass_object.specs.KnownObjects.{IsKnowing, has_object, is_known, same_object};
 ghost use Rattle.pass_object.specs.declared.known_objects.Object.{Object};
 
-use lint_transaction::{SpanKey, SpanSet};
-use sql_token::Span;
-use sql_tree::{Body, Parse, Stmt, StmtKind};
+use lint_pass::{Body, NoMemory, Parse, Span, SpanKey, SpanSet, Stmt, StmtKind};
 use std::alloc::Global;
 use std::marker::Model;
-use text_pos::NoMemory;
 
 /// The kinds of objects that are known by their paths.
 #[derive(Clone, Copy)]
@@ -41,7 +38,7 @@ pub struct KnownObjects {
 impl Model for KnownObjects {
     ghost use Rattle.std.specs.Prelude.{◌≡◌};
     ghost use Rattle.pass_object.specs.KnownObjects.{Objects};
-    ghost use Rattle.lint_transaction.specs.declared.span_key.SpanKey.TheVariants as by;
+    ghost use Rattle.lint_pass.specs.lint_transaction.declared.span_key.SpanKey.TheVariants as by;
 
     ghost Value = { Objects };
 

@@ -3,9 +3,7 @@
 ghost use Rattle.std.specs.Prelude.{◌≡◌, drop};
 ghost use Rattle.pass_object.specs.Words as spec;
 
-use lint_node::same_piece;
-use sql_token::{Tok, first_significant};
-use sql_tree::{Parse, Piece, PieceKind};
+use lint_pass::{Parse, Piece, PieceKind, Tok, first_significant, same_piece};
 
 /// Whether the token of this number is the word, in any case.
 fn is_word(p: &Parse<'_>, number: usize, word: &str) -> bool

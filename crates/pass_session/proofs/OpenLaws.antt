@@ -1,12 +1,12 @@
 -- How what is known of transactions goes on from statement to statement.
 use Rattle.std.proofs.Common.{◌≡◌, refl, sym, ◌∙◌, ap, ℕ, zero, suc, ◌+◌, ◌<◌, Bool, true, false, ◌&&◌, ◌||◌, not, cond, add-one, Option, Some, None, if◌then◌else◌, arith}
 use Rattle.std.specs.Option.{option_map}
-use Rattle.sql_token.specs.declared.token.Span.{Span}
-use Rattle.sql_tree.specs.declared.nodes.Stmt.{Stmt}
-use Rattle.sql_tree.specs.Statement.{Tree}
-use Rattle.lint_transaction.specs.Earlier.{any_between}
-use Rattle.lint_transaction.specs.Transaction.{is_begin_kind, stmt_at}
-use Rattle.lint_transaction.proofs.EarlierLaws.{and_true, any_between-next, any_between-suc, since-suc}
+use Rattle.lint_pass.specs.sql_token.declared.token.Span.{Span}
+use Rattle.lint_pass.specs.sql_tree.declared.nodes.Stmt.{Stmt}
+use Rattle.lint_pass.specs.sql_tree.Statement.{Tree}
+use Rattle.lint_pass.specs.lint_transaction.Earlier.{any_between}
+use Rattle.lint_pass.specs.lint_transaction.Transaction.{is_begin_kind, stmt_at}
+use Rattle.lint_pass.proofs.of_lint_transaction.EarlierLaws.{and_true, any_between-next, any_between-suc, since-suc}
 use Rattle.lint_pass.specs.Blocks.{begins_at, ends_at, is_end_kind}
 use Rattle.pass_session.specs.TransactionNesting.{is_in_transaction}
 use Rattle.pass_session.specs.BanUncommittedTransaction.{is_left_open, last_below, left_open, tokens_of}

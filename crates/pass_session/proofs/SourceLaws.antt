@@ -2,10 +2,10 @@
 use Rattle.std.proofs.Common.{◌≡◌, refl, sym, ◌∙◌, ap, subst, ℕ, zero, suc, ◌-◌, ◌<◌, ◌≤◌, nat_lt, Bool, true, false, ◌&&◌, not, cond, List, arith}
 use Rattle.std.proofs.lemmas.Bool.{le-ltb, lt-ltb}
 use Rattle.std.specs.Str.{IsUtf8}
-use Rattle.text_pos.specs.Range.{Range}
-use Rattle.sql_tree.specs.Range.{span_range_of}
-use Rattle.sql_tree.specs.Statement.{Tree, IsTree}
-use Rattle.lint_ignore.specs.Places.{IsPlace}
+use Rattle.lint_pass.specs.text_pos.Range.{Range}
+use Rattle.lint_pass.specs.sql_tree.Range.{span_range_of}
+use Rattle.lint_pass.specs.sql_tree.Statement.{Tree, IsTree}
+use Rattle.lint_pass.specs.lint_ignore.Places.{IsPlace}
 use Rattle.lint_pass.specs.PlaceLaws.{span_place}
 use Rattle.pass_session.specs.Tokens.{is_word_at, last_word}
 

@@ -3,15 +3,15 @@ use Rattle.std.specs.Prelude.{◌≡◌, All, length, refl, Option, Some, None}
 use Rattle.std.proofs.Common.{arith}
 use Rattle.std.proofs.lemmas.List.Elements.{All-nil}
 use Rattle.std.proofs.lemmas.Str.{IsCharBoundary-end}
-use Rattle.sql_token.specs.declared.token.Span.{Span}
-use Rattle.sql_tree.specs.Statement.{Tree}
-use Rattle.lint_base.specs.declared.edit.Edit.{Edit}
-use Rattle.lint_ignore.specs.Places.{IsPlace}
-use Rattle.lint_base.specs.declared.rule.Rule.{Rule}
-use Rattle.lint_base.specs.declared.rule.Rule.TheVariants as rule
-use Rattle.lint_base.specs.declared.violation.Violation.{Violation}
-use Rattle.lint_base.specs.Edits.{insertion}
-use Rattle.lint_base.specs.RuleSets.{Rules, has, no_rules, with_rule}
+use Rattle.lint_pass.specs.sql_token.declared.token.Span.{Span}
+use Rattle.lint_pass.specs.sql_tree.Statement.{Tree}
+use Rattle.lint_pass.specs.lint_base.declared.edit.Edit.{Edit}
+use Rattle.lint_pass.specs.lint_ignore.Places.{IsPlace}
+use Rattle.lint_pass.specs.lint_base.declared.rule.Rule.{Rule}
+use Rattle.lint_pass.specs.lint_base.declared.rule.Rule.TheVariants as rule
+use Rattle.lint_pass.specs.lint_base.declared.violation.Violation.{Violation}
+use Rattle.lint_pass.specs.lint_base.Edits.{insertion}
+use Rattle.lint_pass.specs.lint_base.RuleSets.{Rules, has, no_rules, with_rule}
 use Rattle.lint_pass.specs.Laws.{IsOf, HasCode, IsRead, IsPlacedIn, reports_by}
 use Rattle.lint_pass.specs.PlaceLaws.{span_place}
 use Rattle.lint_pass.specs.RuleLaws.{one_all, where_all, where_apart, where_coded}

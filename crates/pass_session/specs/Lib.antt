@@ -10,3 +10,4 @@ pub mod RequireTimeoutSettings
 pub mod Tokens
 pub mod BanUncommittedTransaction
 pub mod BanUncommittedTransactionLaws
+pub use Rattle.lint_lock.specs as lint_lock

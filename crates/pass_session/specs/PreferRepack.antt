@@ -1,16 +1,16 @@
 -- What is reported of statements that rewrite a table while nobody can use it (PostgreSQL 19 manual, REPACK; CLUSTER; VACUUM).
 use Rattle.std.specs.Prelude.{ℕ, pos, Bool, List, [], ◌∷◌, ◌++◌, codes, slice_index_or, if◌then◌else◌, Option, Some, None}
 use Rattle.std.specs.Int.Signed.{le_z}
-use Rattle.sql_token.specs.declared.token.Span.{Span}
-use Rattle.sql_tree.specs.declared.nodes.Body.{Body}
-use Rattle.sql_tree.specs.declared.nodes.Body.TheVariants as body
-use Rattle.sql_tree.specs.declared.nodes.Stmt.{Stmt}
-use Rattle.sql_tree.specs.Range.{span_range_of, stmt_range_of}
-use Rattle.sql_tree.specs.Statement.{Tree}
-use Rattle.lint_base.specs.declared.rule.Rule.TheVariants as rule
-use Rattle.lint_base.specs.declared.settings.LinterSettings.{LinterSettings}
-use Rattle.lint_base.specs.declared.violation.Violation.{Violation}
-use Rattle.lint_base.specs.Fixes.{FixValue}
+use Rattle.lint_pass.specs.sql_token.declared.token.Span.{Span}
+use Rattle.lint_pass.specs.sql_tree.declared.nodes.Body.{Body}
+use Rattle.lint_pass.specs.sql_tree.declared.nodes.Body.TheVariants as body
+use Rattle.lint_pass.specs.sql_tree.declared.nodes.Stmt.{Stmt}
+use Rattle.lint_pass.specs.sql_tree.Range.{span_range_of, stmt_range_of}
+use Rattle.lint_pass.specs.sql_tree.Statement.{Tree}
+use Rattle.lint_pass.specs.lint_base.declared.rule.Rule.TheVariants as rule
+use Rattle.lint_pass.specs.lint_base.declared.settings.LinterSettings.{LinterSettings}
+use Rattle.lint_pass.specs.lint_base.declared.violation.Violation.{Violation}
+use Rattle.lint_pass.specs.lint_base.Fixes.{FixValue}
 use Rattle.lint_pass.specs.Fixes.{replacement_fix}
 use Rattle.pass_session.specs.Tokens.{last_word, source_of}
 

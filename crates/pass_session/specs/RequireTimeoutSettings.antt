@@ -2,24 +2,24 @@
 -- statement_timeout).
 use Rattle.std.specs.Prelude.{ℕ, Bool, true, false, ◌==◌, ◌&&◌, not, List, [], ◌∷◌, ◌++◌, length, codes, if◌then◌else◌, Option, Some, None}
 use Rattle.std.specs.Str.{bytes_eq}
-use Rattle.text_pos.specs.Line.{ending_bytes, line_ending_of}
-use Rattle.sql_token.specs.declared.token.Span.{Span}
-use Rattle.sql_tree.specs.declared.nodes.Body.{Body}
-use Rattle.sql_tree.specs.declared.nodes.Body.TheVariants as body
-use Rattle.sql_tree.specs.declared.nodes.Stmt.{Stmt}
-use Rattle.sql_tree.specs.Range.{stmt_range_of}
-use Rattle.sql_tree.specs.Statement.{Tree}
-use Rattle.lint_base.specs.declared.rule.Rule.TheVariants as rule
-use Rattle.lint_base.specs.declared.violation.Violation.{Violation}
-use Rattle.lint_base.specs.Fixes.{FixValue}
-use Rattle.lint_base.specs.RuleSets.{Rules, both_rules, no_rules, with_rule}
+use Rattle.lint_pass.specs.text_pos.Line.{ending_bytes, line_ending_of}
+use Rattle.lint_pass.specs.sql_token.declared.token.Span.{Span}
+use Rattle.lint_pass.specs.sql_tree.declared.nodes.Body.{Body}
+use Rattle.lint_pass.specs.sql_tree.declared.nodes.Body.TheVariants as body
+use Rattle.lint_pass.specs.sql_tree.declared.nodes.Stmt.{Stmt}
+use Rattle.lint_pass.specs.sql_tree.Range.{stmt_range_of}
+use Rattle.lint_pass.specs.sql_tree.Statement.{Tree}
+use Rattle.lint_pass.specs.lint_base.declared.rule.Rule.TheVariants as rule
+use Rattle.lint_pass.specs.lint_base.declared.violation.Violation.{Violation}
+use Rattle.lint_pass.specs.lint_base.Fixes.{FixValue}
+use Rattle.lint_pass.specs.lint_base.RuleSets.{Rules, both_rules, no_rules, with_rule}
 use Rattle.lint_lock.specs.declared.lock.LockKind.{LockKind}
 use Rattle.lint_lock.specs.declared.lock.LockKind.TheVariants as lock
 use Rattle.lint_lock.specs.Lock.{impact, lock_of, printed}
 use Rattle.lint_lock.specs.Slow.{is_slow}
-use Rattle.lint_transaction.specs.Earlier.{any_below, concat_below}
-use Rattle.lint_transaction.specs.Names.{name_at}
-use Rattle.lint_transaction.specs.Transaction.{stmt_at}
+use Rattle.lint_pass.specs.lint_transaction.Earlier.{any_below, concat_below}
+use Rattle.lint_pass.specs.lint_transaction.Names.{name_at}
+use Rattle.lint_pass.specs.lint_transaction.Transaction.{stmt_at}
 use Rattle.lint_pass.specs.Fixes.{insertion_fix}
 use Rattle.lint_pass.specs.RuleTables.{where_of}
 use Rattle.pass_session.specs.Tokens.{first_place}

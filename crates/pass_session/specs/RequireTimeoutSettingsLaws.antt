@@ -1,14 +1,14 @@
 -- What holds of each report of a missing timeout.
 use Rattle.std.specs.Prelude.{◌≡◌, Bool, true, false, All, List, [], ◌∷◌, ◌++◌, length, codes, refl, if◌then◌else◌}
 use Rattle.std.proofs.lemmas.List.Elements.{All-append}
-use Rattle.text_pos.specs.Line.{ending_bytes, line_ending_of}
-use Rattle.sql_tree.specs.declared.nodes.Stmt.{Stmt}
-use Rattle.sql_tree.specs.Statement.{Tree}
-use Rattle.lint_base.specs.declared.rule.Rule.{Rule}
-use Rattle.lint_base.specs.declared.rule.Rule.TheVariants as rule
-use Rattle.lint_base.specs.declared.violation.Violation.{Violation}
-use Rattle.lint_base.specs.RuleSets.{Rules, has, no_rules, with_rule}
-use Rattle.lint_transaction.specs.Transaction.{stmt_at}
+use Rattle.lint_pass.specs.text_pos.Line.{ending_bytes, line_ending_of}
+use Rattle.lint_pass.specs.sql_tree.declared.nodes.Stmt.{Stmt}
+use Rattle.lint_pass.specs.sql_tree.Statement.{Tree}
+use Rattle.lint_pass.specs.lint_base.declared.rule.Rule.{Rule}
+use Rattle.lint_pass.specs.lint_base.declared.rule.Rule.TheVariants as rule
+use Rattle.lint_pass.specs.lint_base.declared.violation.Violation.{Violation}
+use Rattle.lint_pass.specs.lint_base.RuleSets.{Rules, has, no_rules, with_rule}
+use Rattle.lint_pass.specs.lint_transaction.Transaction.{stmt_at}
 use Rattle.lint_pass.specs.FixLaws.{before_token}
 use Rattle.lint_pass.specs.Laws.{IsOf, HasCode, IsRead, IsPlacedIn, reports_by}
 use Rattle.lint_pass.specs.PairLaws.{pair_apart, pair_coded, pieces_apart}

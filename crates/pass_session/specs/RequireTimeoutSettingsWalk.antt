@@ -1,7 +1,7 @@
 -- What a walk over the statements knows of timeouts.
 use Rattle.std.specs.Prelude.{◌≡◌, ℕ, Bool}
-use Rattle.sql_tree.specs.Statement.{Tree}
-use Rattle.lint_transaction.specs.Earlier.{any_below}
+use Rattle.lint_pass.specs.sql_tree.Statement.{Tree}
+use Rattle.lint_pass.specs.lint_transaction.Earlier.{any_below}
 use Rattle.pass_session.specs.RequireTimeoutSettings.{is_set, lock_timeout, slow_at, statement_timeout}
 
 -- what is known is right before statement i

@@ -1,12 +1,12 @@
 -- Parts of a text by its tokens.
 use Rattle.std.specs.Prelude.{ℕ, zero, suc, ◌-◌, Bool, ◌&&◌, not, nat_lt, List, take, drop, position, codes, if◌then◌else◌, Option, Some, None}
 use Rattle.std.specs.Str.{bytes_eq}
-use Rattle.text_pos.specs.Range.{Range}
-use Rattle.sql_token.specs.declared.token.Span.{Span}
-use Rattle.sql_token.specs.Terminal.{is_significant_token}
-use Rattle.sql_token.specs.Token.{text_of}
-use Rattle.sql_tree.specs.Range.{span_range_of, token_at}
-use Rattle.sql_tree.specs.Statement.{Tree}
+use Rattle.lint_pass.specs.text_pos.Range.{Range}
+use Rattle.lint_pass.specs.sql_token.declared.token.Span.{Span}
+use Rattle.lint_pass.specs.sql_token.Terminal.{is_significant_token}
+use Rattle.lint_pass.specs.sql_token.Token.{text_of}
+use Rattle.lint_pass.specs.sql_tree.Range.{span_range_of, token_at}
+use Rattle.lint_pass.specs.sql_tree.Statement.{Tree}
 
 abbrev pub or_first : Option ℕ → ℕ
 or_first None = 0

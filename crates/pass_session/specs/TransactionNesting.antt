@@ -1,15 +1,15 @@
 -- What is reported of statements that begin or end a transaction at a wrong place (PostgreSQL manual, BEGIN, COMMIT and
 -- ROLLBACK, and chapter 3.4). A transaction is open where the last BEGIN, COMMIT or ROLLBACK, of any form, is a BEGIN.
 use Rattle.std.specs.Prelude.{ℕ, Bool, List, [], ◌∷◌, length, codes, if◌then◌else◌, Some, None}
-use Rattle.sql_tree.specs.declared.nodes.Stmt.{Stmt}
-use Rattle.sql_tree.specs.Range.{stmt_range_of}
-use Rattle.sql_tree.specs.Statement.{Tree}
-use Rattle.lint_base.specs.declared.rule.Rule.TheVariants as rule
-use Rattle.lint_base.specs.declared.settings.LinterSettings.{LinterSettings}
-use Rattle.lint_base.specs.declared.violation.Violation.{Violation}
-use Rattle.lint_transaction.specs.Earlier.{since}
-use Rattle.lint_base.specs.RuleSets.{Rules}
-use Rattle.lint_transaction.specs.Transaction.{is_begin_kind, stmt_at}
+use Rattle.lint_pass.specs.sql_tree.declared.nodes.Stmt.{Stmt}
+use Rattle.lint_pass.specs.sql_tree.Range.{stmt_range_of}
+use Rattle.lint_pass.specs.sql_tree.Statement.{Tree}
+use Rattle.lint_pass.specs.lint_base.declared.rule.Rule.TheVariants as rule
+use Rattle.lint_pass.specs.lint_base.declared.settings.LinterSettings.{LinterSettings}
+use Rattle.lint_pass.specs.lint_base.declared.violation.Violation.{Violation}
+use Rattle.lint_pass.specs.lint_transaction.Earlier.{since}
+use Rattle.lint_pass.specs.lint_base.RuleSets.{Rules}
+use Rattle.lint_pass.specs.lint_transaction.Transaction.{is_begin_kind, stmt_at}
 use Rattle.lint_pass.specs.Blocks.{begins_at, ends_at, is_end_kind}
 use Rattle.lint_pass.specs.RuleTables.{table_of}
 

@@ -1,12 +1,12 @@
 -- Each report of a BEGIN, COMMIT or ROLLBACK at a wrong place is of its rule, and is in the text.
 use Rattle.std.specs.Prelude.{ℕ, Bool, true, false, All, [], ◌∷◌, refl, if◌then◌else◌}
 use Rattle.std.proofs.lemmas.List.Elements.{All-nil}
-use Rattle.sql_tree.specs.declared.nodes.Stmt.{Stmt}
-use Rattle.sql_tree.specs.Statement.{Tree}
-use Rattle.lint_base.specs.declared.rule.Rule.TheVariants as rule
-use Rattle.lint_base.specs.declared.settings.LinterSettings.{LinterSettings}
-use Rattle.lint_base.specs.declared.violation.Violation.{Violation}
-use Rattle.lint_transaction.specs.Transaction.{is_begin_kind}
+use Rattle.lint_pass.specs.sql_tree.declared.nodes.Stmt.{Stmt}
+use Rattle.lint_pass.specs.sql_tree.Statement.{Tree}
+use Rattle.lint_pass.specs.lint_base.declared.rule.Rule.TheVariants as rule
+use Rattle.lint_pass.specs.lint_base.declared.settings.LinterSettings.{LinterSettings}
+use Rattle.lint_pass.specs.lint_base.declared.violation.Violation.{Violation}
+use Rattle.lint_pass.specs.lint_transaction.Transaction.{is_begin_kind}
 use Rattle.lint_pass.specs.Blocks.{is_end_kind}
 use Rattle.lint_pass.specs.Laws.{HasCode, IsRead, IsPlacedIn}
 use Rattle.lint_pass.specs.PlaceLaws.{span_place}

@@ -4,12 +4,11 @@ ghost use Rattle.std.specs.Prelude.{◌≡◌, ◌++◌, [], OnOk, OnErr, if◌t
 ghost use Rattle.pass_session.specs.BanConcurrentIndexCreationInTransaction as spec;
 ghost use Rattle.pass_session.specs.BanConcurrentIndexCreationInTransaction.{build_report};
 
-use lint_base::{LinterSettings, Reports, Rule, Text, Violation};
-use lint_pass::{Block, RulePass};
-use lint_transaction::OpenTransaction;
-use sql_tree::{Body, Parse, Stmt};
+use lint_pass::{
+    Block, Body, LinterSettings, NoMemory, OpenTransaction, Parse, Reports, Rule, RulePass, Stmt,
+    Text, Violation,
+};
 use std::alloc::Global;
-use text_pos::NoMemory;
 
 const MESSAGE: &str =
     "while regular index creation can happen inside a transaction, this is not allowed when the `concurrently` option is used";
@@ -70,8 +69,8 @@ fn report_build(is_inside: bool, p: &Parse<'_>, s: &Stmt, out: &mut Reports) -> 
 
 impl RulePass for BanConcurrentIndexCreationInTransaction {
     ghost use Rattle.std.specs.Prelude.{◌≡◌, false};
-    ghost use Rattle.lint_base.specs.declared.rule.Rule.TheVariants as rule;
-    ghost use Rattle.lint_transaction.specs.Transaction.{is_open, stmt_at};
+    ghost use Rattle.lint_pass.specs.lint_base.declared.rule.Rule.TheVariants as rule;
+    ghost use Rattle.lint_pass.specs.lint_transaction.Transaction.{is_open, stmt_at};
     ghost use Rattle.pass_session.specs.BanConcurrentIndexCreationInTransaction.{reports_on};
     ghost use Rattle.pass_session.specs.BanConcurrentIndexCreationInTransactionLaws.{builds_coded, builds_placed};
 

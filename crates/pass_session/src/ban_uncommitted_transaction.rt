@@ -1,21 +1,19 @@
 //! Transactions that are left open.
 
 ghost use Rattle.std.specs.Prelude.{◌≡◌, ◌++◌, length, IfOk, OnOk, OnErr, Some, None, if◌then◌else◌};
-ghost use Rattle.lint_base.specs.RuleSets.{no_rules, with_rule};
-ghost use Rattle.lint_transaction.specs.Transaction.{is_begin_kind};
+ghost use Rattle.lint_pass.specs.lint_base.RuleSets.{no_rules, with_rule};
+ghost use Rattle.lint_pass.specs.lint_transaction.Transaction.{is_begin_kind};
 ghost use Rattle.lint_pass.specs.Blocks.{is_end_kind};
-ghost use Rattle.lint_base.specs.declared.rule.Rule.TheVariants as rule;
+ghost use Rattle.lint_pass.specs.lint_base.declared.rule.Rule.TheVariants as rule;
 ghost use Rattle.lint_pass.specs.RuleTables.{where_of};
 ghost use Rattle.pass_session.specs.BanUncommittedTransaction as spec;
 ghost use Rattle.pass_session.specs.BanUncommittedTransaction.{commit_line, left_reports, tokens_of};
 
-use lint_base::{LinterSettings, Reports, Rule, RuleSet, Text, Violation};
-use lint_pass::{Block, StepPass, insertion_fix, is_end};
-use lint_transaction::begins;
-use sql_token::Span;
-use sql_tree::{Parse, Stmt};
+use lint_pass::{
+    Block, LinterSettings, NoMemory, Parse, Reports, Rule, RuleSet, Span, StepPass, Stmt, Text,
+    TextSize, Violation, begins, insertion_fix, is_end, line_ending,
+};
 use std::alloc::Global;
-use text_pos::{NoMemory, TextSize, line_ending};
 
 const MESSAGE: &str = "transaction never committed or rolled back";
 
@@ -131,8 +129,8 @@ fn rules() -> RuleSet
 
 impl StepPass for BanUncommittedTransaction {
     ghost use Rattle.std.specs.Prelude.{◌≡◌, [], false, length};
-    ghost use Rattle.lint_base.specs.declared.rule.Rule.TheVariants as rule;
-    ghost use Rattle.lint_base.specs.RuleSets.{no_rules, with_rule};
+    ghost use Rattle.lint_pass.specs.lint_base.declared.rule.Rule.TheVariants as rule;
+    ghost use Rattle.lint_pass.specs.lint_base.RuleSets.{no_rules, with_rule};
     ghost use Rattle.lint_pass.specs.Pieces.{no_pieces};
     ghost use Rattle.pass_session.specs.BanUncommittedTransaction.{left_open, reports_of_ban_uncommitted_transaction};
     ghost use Rattle.pass_session.specs.BanUncommittedTransactionLaws.{uncommitted_apart, uncommitted_coded, uncommitted_placed};

@@ -5,12 +5,11 @@ ghost use Rattle.pass_session.specs.PreferRepack as spec;
 ghost use Rattle.pass_session.specs.PreferRepack.{part, repack, repack_fix, vacuum_fix};
 
 use crate::tokens::{last_word, source_of};
-use lint_base::{Fix, LinterSettings, Reports, Rule, Text, Violation};
-use lint_pass::{StatementPass, replacement_fix};
-use sql_token::Span;
-use sql_tree::{Body, Parse, Stmt};
+use lint_pass::{
+    Body, Fix, LinterSettings, NoMemory, Parse, Reports, Rule, Span, StatementPass, Stmt, Text,
+    Violation, replacement_fix,
+};
 use std::alloc::Global;
-use text_pos::NoMemory;
 
 /// The first version of PostgreSQL that has REPACK.
 const FIRST_VERSION: i32 = 19;
@@ -170,7 +169,7 @@ fn report_rewrite(alloc: Global, p: &Parse<'_>, s: &Stmt, out: &mut Reports) -> 
 }
 
 impl StatementPass for PreferRepack {
-    ghost use Rattle.lint_base.specs.declared.rule.Rule.TheVariants as rule;
+    ghost use Rattle.lint_pass.specs.lint_base.declared.rule.Rule.TheVariants as rule;
     ghost use Rattle.pass_session.specs.PreferRepack.{reports_of_prefer_repack};
     ghost use Rattle.pass_session.specs.PreferRepackLaws.{rewrites_coded, rewrites_placed};
 

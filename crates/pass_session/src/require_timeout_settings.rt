@@ -1,28 +1,26 @@
 //! Slow statements without a timeout.
 
 ghost use Rattle.std.specs.Prelude.{◌≡◌, ◌++◌, ◌&&◌, ◌||◌, not, [], ℕ, IfOk, OnOk, OnErr, if◌then◌else◌};
-ghost use Rattle.sql_tree.specs.Statement.{Tree};
-ghost use Rattle.lint_base.specs.Grown.{GrownBy};
-ghost use Rattle.lint_base.specs.RuleSets.{both_rules, no_rules, with_rule};
-ghost use Rattle.lint_base.specs.declared.rule.Rule.TheVariants as rule;
+ghost use Rattle.lint_pass.specs.sql_tree.Statement.{Tree};
+ghost use Rattle.lint_pass.specs.lint_base.Grown.{GrownBy};
+ghost use Rattle.lint_pass.specs.lint_base.RuleSets.{both_rules, no_rules, with_rule};
+ghost use Rattle.lint_pass.specs.lint_base.declared.rule.Rule.TheVariants as rule;
 ghost use Rattle.std.specs.Str.{bytes_eq};
-ghost use Rattle.lint_transaction.specs.Names.{name_at};
+ghost use Rattle.lint_pass.specs.lint_transaction.Names.{name_at};
 ghost use Rattle.lint_lock.specs.Slow as slow;
-ghost use Rattle.lint_transaction.specs.Transaction.{stmt_at};
+ghost use Rattle.lint_pass.specs.lint_transaction.Transaction.{stmt_at};
 ghost use Rattle.pass_session.specs.RequireTimeoutSettings as spec;
 ghost use Rattle.pass_session.specs.RequireTimeoutSettings.{both_reports, lock_message, lock_note, lock_reports, lock_timeout, setting_fix, sets, statement_reports, statement_timeout, timeout_rules};
 ghost use Rattle.pass_session.specs.RequireTimeoutSettingsWalk.{IsWatching};
 
 use crate::tokens::first_place;
-use lint_base::{Fix, LinterSettings, Reports, Rule, RuleSet, Text, Violation};
 use lint_lock::LockKind;
 use lint_lock::analyze::possibly_slow_stmt;
-use lint_pass::{Block, StepPass, insertion_fix};
-use lint_transaction::name_at;
-use sql_token::Span;
-use sql_tree::{Body, Parse, Stmt};
+use lint_pass::{
+    Block, Body, Fix, LinterSettings, NoMemory, Parse, Reports, Rule, RuleSet, Span, StepPass,
+    Stmt, Text, Violation, insertion_fix, line_ending, name_at,
+};
 use std::alloc::Global;
-use text_pos::{NoMemory, line_ending};
 
 const LOCK_TIMEOUT: &str = "lock_timeout";
 

@@ -3,15 +3,13 @@
 ghost use Rattle.std.specs.Prelude.{◌≡◌};
 ghost use Rattle.pass_session.specs.Tokens as spec;
 
-use sql_token::Span;
-use sql_tree::Parse;
-use text_pos::TextSize;
+use lint_pass::{Parse, Span, TextSize};
 
 /// The number of the first significant token of the text.
 fn first_significant(p: &Parse<'_>) -> usize
     ensures { result ≡ spec.first_significant p.now }
 {
-    match sql_token::first_significant(p.tokens()) {
+    match lint_pass::first_significant(p.tokens()) {
         Some(number) => number,
         None => 0,
     }

@@ -1,17 +1,16 @@
 //! Transactions that begin or end at a wrong place.
 
 ghost use Rattle.std.specs.Prelude.{◌≡◌, ◌++◌, ◌&&◌, ◌||◌, not, OnOk, OnErr};
-ghost use Rattle.lint_transaction.specs.Transaction.{is_begin_kind};
+ghost use Rattle.lint_pass.specs.lint_transaction.Transaction.{is_begin_kind};
 ghost use Rattle.lint_pass.specs.Blocks.{is_end_kind};
 ghost use Rattle.pass_session.specs.TransactionNesting as spec;
 ghost use Rattle.pass_session.specs.TransactionNesting.{begin_reports, bound_reports, end_reports};
 
-use lint_base::{LinterSettings, Reports, Rule, Text, Violation};
-use lint_pass::{Block, RulePass, is_end};
-use lint_transaction::begins;
-use sql_tree::{Parse, Stmt};
+use lint_pass::{
+    Block, LinterSettings, NoMemory, Parse, Reports, Rule, RulePass, Stmt, Text, Violation, begins,
+    is_end,
+};
 use std::alloc::Global;
-use text_pos::NoMemory;
 
 const MANAGED_BEGIN_MESSAGE: &str =
     "there is an existing transaction already in progress, managed by your migration tool";
@@ -171,8 +170,8 @@ impl TransactionNestingMemory {
 
 impl RulePass for TransactionNesting {
     ghost use Rattle.std.specs.Prelude.{◌≡◌, false};
-    ghost use Rattle.lint_base.specs.declared.rule.Rule.TheVariants as rule;
-    ghost use Rattle.lint_transaction.specs.Transaction.{stmt_at};
+    ghost use Rattle.lint_pass.specs.lint_base.declared.rule.Rule.TheVariants as rule;
+    ghost use Rattle.lint_pass.specs.lint_transaction.Transaction.{stmt_at};
     ghost use Rattle.pass_session.specs.TransactionNesting.{is_in_transaction, reports_on};
     ghost use Rattle.pass_session.specs.TransactionNestingLaws.{nesting_coded, nesting_placed};
 

@@ -8,7 +8,7 @@ use Rattle.std.proofs.lemmas.Bool.{cases_lt}
 use Rattle.std.proofs.lemmas.Bool.Decides.{nat_tests}
 use Rattle.std.proofs.lemmas.List.{get_or_past, get_or-drop, get_or-take, get_or-map, get_or_append_left, get_or-append_right, length-drop}
 use Rattle.std.proofs.lemmas.List.FromFn.{get_or-map-range_with_len, length-map-range_with_len, fill_by_all}
-use Rattle.sql_token.specs.Token.{Text, is_blank}
+use Rattle.sql_lex.specs.sql_token.Token.{Text, is_blank}
 use Rattle.psql_text.specs.Psql.{as_blank, byte_blanked, blanked, blank_all}
 use Rattle.psql_text.specs.Laws.{IsSameOrSpace}
 use Rattle.psql_text.specs.declared.part.Part.{Part}

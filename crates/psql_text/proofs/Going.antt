@@ -2,7 +2,7 @@
 use Rattle.std.proofs.Common.{◌≡◌, ℕ, ◌+◌, ◌-◌, ◌<◌, ◌≤◌, List, [], ◌∷◌, length, refl, sym, ap, ◌∙◌, subst, arith, inl, inr, Some, None}
 use Rattle.std.specs.Prelude.{◌⊎◌, Option, IfSome}
 use Rattle.std.specs.Str.{IsUtf8}
-use Rattle.sql_token.specs.Token.{Text}
+use Rattle.sql_lex.specs.sql_token.Token.{Text}
 use Rattle.psql_text.specs.Count.{lines_between, commands_of, data_of}
 use Rattle.psql_text.specs.Psql.{State, Reads, Passes, start, blanked, blank_all}
 use Rattle.psql_text.specs.Reading.{IsPlace, IsAhead, FoundIs, Finds, GoesPast, state, at_most}

@@ -5,11 +5,11 @@ use Rattle.std.proofs.Common.{inl, inr}
 use Rattle.std.proofs.lemmas.Bool.{and_parts, cases_lt}
 use Rattle.std.proofs.lemmas.Bool.Decides.{nat_tests}
 use Rattle.std.proofs.lemmas.List.{get_or-drop, get_or_past}
-use Rattle.sql_token.specs.declared.token.TokKind.{TokKind}
-use Rattle.sql_token.specs.declared.token.TokKind.TheVariants.{Blank, LineComment, BlockComment, Word, Quoted, Str, UName, Dollar, Param, Number, Op, Punct, Other}
-use Rattle.sql_token.specs.Token.{Text, NeverCloses, At, IsRun, op_len, Takes, kind_of, is_closing}
-use Rattle.sql_token.proofs.CommentLaws.{comment_one}
-use Rattle.sql_token.proofs.QuoteLaws.{quoted_one, dollar_one}
+use Rattle.sql_lex.specs.sql_token.declared.token.TokKind.{TokKind}
+use Rattle.sql_lex.specs.sql_token.declared.token.TokKind.TheVariants.{Blank, LineComment, BlockComment, Word, Quoted, Str, UName, Dollar, Param, Number, Op, Punct, Other}
+use Rattle.sql_lex.specs.sql_token.Token.{Text, NeverCloses, At, IsRun, op_len, Takes, kind_of, is_closing}
+use Rattle.sql_lex.proofs.of_sql_token.CommentLaws.{comment_one}
+use Rattle.sql_lex.proofs.of_sql_token.QuoteLaws.{quoted_one, dollar_one}
 use Rattle.psql_text.specs.Lines.{begins_command, starts_line, IsLineEnd, IsDataEnd}
 use Rattle.psql_text.specs.Marks.{ends_copy}
 use Rattle.psql_text.specs.Psql.{State, Reads, mark_here, after_command, after_token, after_data, after_last}

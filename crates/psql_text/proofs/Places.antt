@@ -4,7 +4,7 @@ use Rattle.std.specs.Str.{IsUtf8, IsCharBoundary}
 use Rattle.std.proofs.lemmas.Str.{IsCharBoundary-end, IsCharBoundary-before_ascii, IsCharBoundary-after_ascii}
 use Rattle.std.proofs.lemmas.Bool.{and_parts, cases_lt}
 use Rattle.std.proofs.lemmas.Bool.Decides.{nat_tests}
-use Rattle.sql_token.specs.Token.{Text}
+use Rattle.sql_lex.specs.sql_token.Token.{Text}
 use Rattle.psql_text.specs.Lines.{begins_command, starts_line, IsLineEnd, IsDataEnd}
 
 same_number : (a b : ℕ) → (a == b) ≡ true → a ≡ b

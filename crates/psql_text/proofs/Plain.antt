@@ -1,6 +1,6 @@
 -- Texts without anything for psql.
 use Rattle.std.proofs.Common.{◌≡◌, Bool, true, false, ◌&&◌, if◌then◌else◌, List, [], ◌∷◌, refl}
-use Rattle.sql_token.specs.Token.{Text}
+use Rattle.sql_lex.specs.sql_token.Token.{Text}
 use Rattle.psql_text.specs.Marks.{is_stdin, is_nothing, begins_copy, has_from_stdin, ends_statement, marks_after}
 use Rattle.psql_text.specs.Psql.{State, Reads, Passes, start, mark_here, after_token}
 use Rattle.psql_text.specs.Psql.Reads.{ends, unclosed, command, token, copy, last}

@@ -1,8 +1,8 @@
 -- One step of the reading.
 use Rattle.std.proofs.Common.{◌≡◌, ℕ, ◌+◌, ◌<◌, ◌≤◌, true, false, max, List, [], length, refl, ap, sym, ◌∙◌, subst, arith}
 use Rattle.std.specs.Prelude.{Option}
-use Rattle.sql_token.specs.declared.token.TokKind.{TokKind}
-use Rattle.sql_token.specs.Token.{Text, At}
+use Rattle.sql_lex.specs.sql_token.declared.token.TokKind.{TokKind}
+use Rattle.sql_lex.specs.sql_token.Token.{Text, At}
 use Rattle.psql_text.specs.Lines.{begins_command, IsLineEnd, IsDataEnd}
 use Rattle.psql_text.specs.Marks.{marks_after, ends_copy}
 use Rattle.psql_text.specs.Psql.{mark_here, start}

@@ -1,7 +1,7 @@
 -- How many lines a part is.
 use Rattle.std.specs.Prelude.{ℕ, ◌+◌, ◌-◌, min, length, count_by, take, drop}
-use Rattle.text_pos.specs.Line.{is_line_feed}
-use Rattle.sql_token.specs.Token.{Text}
+use Rattle.sql_lex.specs.text_pos.Line.{is_line_feed}
+use Rattle.sql_lex.specs.sql_token.Token.{Text}
 use Rattle.psql_text.specs.declared.part.PartKind.{PartKind}
 use Rattle.psql_text.specs.declared.part.PartKind.TheVariants.{Command, Data}
 

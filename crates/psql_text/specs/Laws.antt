@@ -1,7 +1,7 @@
 -- Laws of what psql passes over.
 use Rattle.std.specs.Prelude.{◌≡◌, ◌⊎◌, ℕ, ◌-◌, false, List, [], length, take, drop, slice_index}
-use Rattle.sql_token.specs.declared.token.TokKind.{TokKind}
-use Rattle.sql_token.specs.Token.{Text, At, is_blank}
+use Rattle.sql_lex.specs.sql_token.declared.token.TokKind.{TokKind}
+use Rattle.sql_lex.specs.sql_token.Token.{Text, At, is_blank}
 use Rattle.psql_text.specs.Lines.{begins_command}
 use Rattle.psql_text.specs.Marks.{mark_of, is_stdin}
 use Rattle.psql_text.specs.Psql.{Passes, blank_all}

@@ -1,7 +1,7 @@
 -- Lines of a text, and what psql takes for itself.
 use Rattle.std.specs.Prelude.{◌≡◌, ◌≤◌, ◌<◌, ℕ, ◌+◌, ◌-◌, Bool, true, false, ◌&&◌, ◌||◌, ◌==◌, nat_le, length, slice_index}
-use Rattle.text_pos.specs.Line.{is_line_feed}
-use Rattle.sql_token.specs.Token.{Text, begins_byte_order_mark}
+use Rattle.sql_lex.specs.text_pos.Line.{is_line_feed}
+use Rattle.sql_lex.specs.sql_token.Token.{Text, begins_byte_order_mark}
 
 -- a line begins at i: where the text begins, also after its byte order mark, or after a line feed
 abbrev pub starts_line : Text → ℕ → Bool

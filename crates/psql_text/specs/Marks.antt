@@ -1,10 +1,10 @@
 -- Which statements are COPY .. FROM STDIN.
 use Rattle.std.specs.Prelude.{ℕ, ◌+◌, ◌==◌, Bool, true, false, ◌&&◌, ◌||◌, if◌then◌else◌, List, [], ◌∷◌, codes, slice_index}
 use Rattle.std.specs.Str.{str_eq_ignore_ascii_case}
-use Rattle.sql_token.specs.Token.{Text}
-use Rattle.sql_token.specs.Depth.{one_if}
-use Rattle.sql_token.specs.declared.token.TokKind.{TokKind}
-use Rattle.sql_token.specs.declared.token.TokKind.TheVariants as k
+use Rattle.sql_lex.specs.sql_token.Token.{Text}
+use Rattle.sql_lex.specs.sql_token.Depth.{one_if}
+use Rattle.sql_lex.specs.sql_token.declared.token.TokKind.{TokKind}
+use Rattle.sql_lex.specs.sql_token.declared.token.TokKind.TheVariants as k
 use Rattle.psql_text.specs.declared.mark.Mark.{Mark}
 use Rattle.psql_text.specs.declared.mark.Mark.TheVariants.{Copy, From, Stdin, Opener, Closer, Semicolon, Other, Nothing}
 

@@ -1,8 +1,8 @@
 -- How psql reads a text: token by token, and line by line what is no SQL.
 use Rattle.std.specs.Prelude.{◌≡◌, ◌≤◌, ◌<◌, ℕ, ◌+◌, ◌-◌, max, true, false, ◌&&◌, nat_le, nat_lt, if◌then◌else◌, List, [], ◌∷◌, length, map, take, drop, slice_index}
 use Rattle.std.specs.List.{range_with_len}
-use Rattle.sql_token.specs.declared.token.TokKind.{TokKind}
-use Rattle.sql_token.specs.Token.{Text, is_blank, At, NeverCloses}
+use Rattle.sql_lex.specs.sql_token.declared.token.TokKind.{TokKind}
+use Rattle.sql_lex.specs.sql_token.Token.{Text, is_blank, At, NeverCloses}
 use Rattle.psql_text.specs.Lines.{begins_command, IsLineEnd, IsDataEnd}
 use Rattle.psql_text.specs.Marks.{mark_of, marks_after, ends_copy}
 use Rattle.psql_text.specs.declared.mark.Mark.{Mark}

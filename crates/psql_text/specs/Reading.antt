@@ -1,7 +1,7 @@
 -- How far the code has read a text, against the definition.
 use Rattle.std.specs.Prelude.{◌≡◌, ◌≤◌, ◌<◌, ◌+◌, ◌-◌, ℕ, List, [], ◌∷◌, length, Option, Some, None}
 use Rattle.std.specs.Str.{IsUtf8, IsCharBoundary}
-use Rattle.sql_token.specs.Token.{Text}
+use Rattle.sql_lex.specs.sql_token.Token.{Text}
 use Rattle.psql_text.specs.Count.{data_of}
 use Rattle.psql_text.specs.Marks.{is_none, begins_copy, opened, closed, ends_in_from, has_from_stdin}
 use Rattle.psql_text.specs.Psql.{State, Reads, blanked}

@@ -1,7 +1,7 @@
 -- What is told of a text that was made for psql.
 use Rattle.std.specs.Prelude.{◌≡◌, ℕ, ◌+◌, List, [], ◌∷◌, Option, MatchOption}
 use Rattle.std.specs.String.{string_bytes}
-use Rattle.sql_token.specs.Token.{Text}
+use Rattle.sql_lex.specs.sql_token.Token.{Text}
 use Rattle.psql_text.specs.Count.{lines_between, commands_of, data_of}
 use Rattle.psql_text.specs.Psql.{blank_all}
 use Rattle.psql_text.specs.declared.part.Part.{Part}

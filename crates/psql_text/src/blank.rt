@@ -13,8 +13,8 @@ ghost use Rattle.psql_text.specs.declared.part.Part.{Part};
 use crate::class::is_blank;
 use crate::part::{Part, PartKind};
 use crate::reading::{Found, next_part, start};
+use sql_lex::NoMemory;
 use std::alloc::Global;
-use text_pos::NoMemory;
 
 /// A text that was made for psql, as the linter reads it.
 #[derive(Drop)]

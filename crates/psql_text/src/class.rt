@@ -1,7 +1,7 @@
 //! Bytes of a text, and their classes.
 
 ghost use Rattle.std.specs.Prelude.{◌≡◌, ◌≢◌, ◌<◌, ◌≤◌, length, slice_index, true};
-ghost use Rattle.sql_token.specs.Token as spec;
+ghost use Rattle.sql_lex.specs.sql_token.Token as spec;
 
 /// The byte at a place, or 0 past the end.
 pub fn byte(z: &[u8], at: usize) -> u8

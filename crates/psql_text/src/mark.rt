@@ -4,7 +4,7 @@ ghost use Rattle.std.specs.Prelude.{◌≡◌, slice_index};
 ghost use Rattle.psql_text.specs.Marks as spec;
 
 use crate::class::byte;
-use sql_token::TokKind;
+use sql_lex::TokKind;
 
 /// What a token is to a statement that may be COPY .. FROM STDIN.
 #[derive(Clone, Copy)]

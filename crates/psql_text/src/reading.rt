@@ -1,7 +1,7 @@
 //! How far a text was read, and the next part of it that is no SQL.
 
 ghost use Rattle.std.specs.Prelude.{◌≡◌, ◌<◌, ◌+◌, true, false, [], length, List, IfSome};
-ghost use Rattle.sql_token.specs.Token.{At, Text};
+ghost use Rattle.sql_lex.specs.sql_token.Token.{At, Text};
 ghost use Rattle.psql_text.specs.Lines as lines;
 ghost use Rattle.psql_text.specs.Reading.{IsPlace, IsAhead, GoesPast, Steps, Finds, MovesOn, state, summary};
 ghost use Rattle.psql_text.specs.declared.mark.Mark.{Mark};
@@ -10,8 +10,7 @@ use crate::lines::{begins_command, data_end, line_end};
 use crate::mark::mark_of;
 use crate::part::{Part, PartKind};
 use crate::statement::Statement;
-use sql_lex::token_at;
-use sql_token::TokKind;
+use sql_lex::{TokKind, token_at};
 
 /// How far a text was read.
 #[derive(Clone, Copy)]

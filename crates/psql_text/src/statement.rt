@@ -1,7 +1,7 @@
 //! The statement that is being read, as far as it tells whether it is COPY .. FROM STDIN.
 
 ghost use Rattle.std.specs.Prelude.{◌≡◌, ◌==◌, ◌<◌, ◌≤◌, ◌+◌, ◌^◌, [], ◌∷◌, List};
-ghost use Rattle.sql_token.specs.Depth.{one_if};
+ghost use Rattle.sql_lex.specs.sql_token.Depth.{one_if};
 ghost use Rattle.psql_text.specs.Marks as spec;
 ghost use Rattle.psql_text.specs.Reading.{summary};
 ghost use Rattle.psql_text.specs.declared.mark.Mark.{Mark};

@@ -7,12 +7,12 @@ use Rattle.check_words.specs.declared.names.Choice.{Choice}
 use Rattle.check_words.specs.declared.names.Choice.TheVariants as choice
 use Rattle.check_words.specs.Asked.{fault_in}
 use Rattle.check_words.specs.Names.{flag_name, name_of}
-use Rattle.lint_report.specs.declared.code.Code.{Code}
-use Rattle.lint_report.specs.Codes as reports
+use Rattle.nearest_code.specs.lint_report.declared.code.Code.{Code}
+use Rattle.nearest_code.specs.lint_report.Codes as reports
 use Rattle.nearest_code.specs.Nearest.{near_code}
 use Rattle.shown_words.specs.Shown.{words_part}
-use Rattle.source_file.specs.Escaped.{escaped}
-use Rattle.squawk_words.specs.Words.{Text}
+use Rattle.report_lines.specs.source_file.Escaped.{escaped}
+use Rattle.shown_words.specs.squawk_words.Words.{Text}
 
 -- of a word that there isn't
 abbrev pub help_hint : Text

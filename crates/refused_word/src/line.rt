@@ -4,12 +4,9 @@ ghost use Rattle.refused_word.specs.Messages.{line_of, not_taken_line, words_lin
 
 use crate::message::message;
 use check_words::{WordFault, fault_in};
-use report_lines::push;
-use shown_words::push_words;
-use source_file::push_escaped;
-use squawk_words::Words;
+use report_lines::{NoMemory, push, push_escaped};
+use shown_words::{Words, push_words};
 use std::alloc::Global;
-use text_pos::NoMemory;
 
 /// The line that says what is wrong with the words, with its line feed. The error comes when memory runs out.
 pub fn fault_line(alloc: Global, fault: &WordFault) -> Result<Vec<u8>, NoMemory>

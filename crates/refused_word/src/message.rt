@@ -3,10 +3,9 @@ ghost use Rattle.std.specs.Prelude.{◌≡◌, ◌++◌, IfOk, string_bytes};
 ghost use Rattle.refused_word.specs.Messages.{message_of, of_choice, of_flag, suggestion, suggestion_by, unknown_word, values_of};
 
 use check_words::{Choice, Flag, WordFault};
-use lint_report::Code;
-use nearest_code::near_code;
+use nearest_code::{Code, near_code};
+use report_lines::NoMemory;
 use std::alloc::{AllocError, Global};
-use text_pos::NoMemory;
 
 // What there is in place of a word that there isn't.
 const HELP_HINT: &str = "; --help lists what there is";

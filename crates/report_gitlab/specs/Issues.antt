@@ -5,12 +5,12 @@ use Rattle.sha2.specs.Sha256.{sha256}
 use Rattle.serde_json.specs.Data.{Data, member, no_members, number, object, string, unsigned}
 use Rattle.lint_report.specs.declared.report.Report.{Report}
 use Rattle.lint_report.specs.Codes.{name_of}
-use Rattle.source_file.specs.declared.level.Level.{Level}
-use Rattle.source_file.specs.declared.level.Level.TheVariants as level
-use Rattle.source_file.specs.declared.refusal.Refusal.{Refusal}
-use Rattle.source_file.specs.File.{FileValue, line_number}
-use Rattle.source_file.specs.Line.{Text}
-use Rattle.source_file.specs.Refusals as refusals
+use Rattle.json_value.specs.source_file.declared.level.Level.{Level}
+use Rattle.json_value.specs.source_file.declared.level.Level.TheVariants as level
+use Rattle.json_value.specs.source_file.declared.refusal.Refusal.{Refusal}
+use Rattle.json_value.specs.source_file.File.{FileValue, line_number}
+use Rattle.json_value.specs.source_file.Line.{Text}
+use Rattle.json_value.specs.source_file.Refusals as refusals
 
 -- of the severities info, minor, major, critical and blocker
 abbrev pub severity_of : Level → List ℕ

@@ -1,1 +1,2 @@
 pub mod Issues
+pub use Rattle.json_value.specs as json_value

@@ -1,13 +1,13 @@
 //! The issue of a finding.
 ghost use Rattle.std.specs.Prelude.{◌≡◌, IfOk, string_bytes};
 ghost use Rattle.serde_json.specs.View.{view};
-ghost use Rattle.source_file.specs.File.{IsRangeIn};
+ghost use Rattle.json_value.specs.source_file.File.{IsRangeIn};
 ghost use Rattle.report_gitlab.specs.Issues.{described, fingerprint, fingerprinted, issue_object, location_object, refusal_issue, report_fingerprint, report_issue, severity_of, statement_text};
 
+use json_value::{Level, Refusal, SourceFile};
 use lint_report::Report;
 use serde_json::{Value, json};
 use sha2::{Digest, Sha256};
-use source_file::{Level, Refusal, SourceFile};
 use std::alloc::{AllocError, Global};
 
 // The severity of a level.

@@ -1,15 +1,13 @@
 //! The text of an issue.
 ghost use Rattle.std.specs.Prelude.{◌≡◌, ◌++◌, OnOk};
 ghost use Rattle.serde_json.specs.Written.{compact_text};
-ghost use Rattle.source_file.specs.File.{IsRangeIn};
+ghost use Rattle.json_value.specs.source_file.File.{IsRangeIn};
 ghost use Rattle.report_gitlab.specs.Issues.{refusal_issue, report_issue};
 
 use crate::issues::{refusal_issue, report_issue};
-use json_value::push_value;
-use lint_report::Report;
-use source_file::{Refusal, SourceFile};
+use json_value::{Refusal, SourceFile, push_value};
+use lint_report::{NoMemory, Report};
 use std::alloc::Global;
-use text_pos::NoMemory;
 
 /// Adds a report as an issue. The error comes when memory runs out.
 pub fn push_report(

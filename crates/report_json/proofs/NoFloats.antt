@@ -3,12 +3,12 @@ use Rattle.std.proofs.Common.{◌≡◌, false, List, [], ◌∷◌, map, Option
 use Rattle.serde_json.specs.View.{items_of}
 use Rattle.serde_json.specs.Written.{has_float, items_have_float}
 use Rattle.json_value.proofs.NoFloats.{hint_has_no_float, text_has_no_float}
-use Rattle.lint_base.specs.declared.edit.Edit.{Edit}
+use Rattle.lint_report.specs.lint_base.declared.edit.Edit.{Edit}
 use Rattle.lint_report.specs.declared.report.Report.{Report}
 use Rattle.lint_report.specs.declared.report.ReportFix.{ReportFix}
-use Rattle.source_file.specs.declared.refusal.Refusal.{Refusal}
-use Rattle.source_file.specs.File.{FileValue}
-use Rattle.source_file.specs.Hints.{hint_of}
+use Rattle.json_value.specs.source_file.declared.refusal.Refusal.{Refusal}
+use Rattle.json_value.specs.source_file.File.{FileValue}
+use Rattle.json_value.specs.source_file.Hints.{hint_of}
 use Rattle.report_json.specs.Objects.{edit_object, fix_data, refusal_object, report_object}
 
 edits_have_no_float : (edits : List Edit) → items_have_float (items_of (map edit_object edits)) ≡ false

@@ -1,21 +1,21 @@
 -- The object of a finding.
 use Rattle.std.specs.Prelude.{ℕ, List, codes, map, Option, Some, None}
-use Rattle.text_pos.specs.Range.{Range}
+use Rattle.lint_report.specs.text_pos.Range.{Range}
 use Rattle.serde_json.specs.Data.{Data, array, member, no_members, null, number, object, string, unsigned}
 use Rattle.serde_json.specs.View.{items_of}
 use Rattle.json_value.specs.Values.{hint_data, text_data}
-use Rattle.lint_base.specs.declared.edit.Edit.{Edit}
+use Rattle.lint_report.specs.lint_base.declared.edit.Edit.{Edit}
 use Rattle.lint_report.specs.declared.report.Report.{Report}
 use Rattle.lint_report.specs.declared.report.ReportFix.{ReportFix}
 use Rattle.lint_report.specs.Codes.{name_of}
 use Rattle.lint_report.specs.FixClasses as classes
-use Rattle.source_file.specs.declared.level.Level.TheVariants as level
-use Rattle.source_file.specs.declared.place.Place.{Place}
-use Rattle.source_file.specs.declared.refusal.Refusal.{Refusal}
-use Rattle.source_file.specs.File.{FileValue, location}
-use Rattle.source_file.specs.Hints.{hint_of}
-use Rattle.source_file.specs.Levels.{word_of}
-use Rattle.source_file.specs.Refusals as refusals
+use Rattle.json_value.specs.source_file.declared.level.Level.TheVariants as level
+use Rattle.json_value.specs.source_file.declared.place.Place.{Place}
+use Rattle.json_value.specs.source_file.declared.refusal.Refusal.{Refusal}
+use Rattle.json_value.specs.source_file.File.{FileValue, location}
+use Rattle.json_value.specs.source_file.Hints.{hint_of}
+use Rattle.json_value.specs.source_file.Levels.{word_of}
+use Rattle.json_value.specs.source_file.Refusals as refusals
 
 -- a range; its places are bytes, counted from 0
 abbrev pub range_object : Range → Data

@@ -2,17 +2,14 @@
 ghost use Rattle.std.specs.Prelude.{◌≡◌, IfOk};
 ghost use Rattle.std.specs.Str.{IsCharBoundary};
 ghost use Rattle.serde_json.specs.View.{view};
-ghost use Rattle.source_file.specs.File.{IsRangeIn};
-ghost use Rattle.source_file.specs.Refusals as refusals;
+ghost use Rattle.json_value.specs.source_file.File.{IsRangeIn};
+ghost use Rattle.json_value.specs.source_file.Refusals as refusals;
 ghost use Rattle.report_json.specs.Objects.{edit_object, edits_data, finding_object, fix_data, placed_object, range_object, refusal_object, report_object};
 
-use json_value::{hint_value, text_value};
-use lint_base::Edit;
-use lint_report::{Report, ReportFix};
+use json_value::{Level, Place, Refusal, SourceFile, hint_for, hint_value, text_value};
+use lint_report::{Edit, Report, ReportFix, TextRange};
 use serde_json::{Value, json};
-use source_file::{Level, Place, Refusal, SourceFile, hint_for};
 use std::alloc::{AllocError, Global};
-use text_pos::TextRange;
 
 // A range. Its places are bytes, counted from 0.
 fn range_value(alloc: Global, range: TextRange) -> Result<Value, AllocError>

@@ -4,10 +4,9 @@ ghost use Rattle.source_file.specs.File.{IsRangeIn};
 ghost use Rattle.report_lines.specs.Github.{columns_part, command, detail, encoded, encoded_byte, lines_part, opening, property, property_byte, span, titled};
 
 use crate::piece::{push, push_number};
-use lint_base::Text;
+use lint_base::{NoMemory, Text, TextRange};
 use source_file::{Level, Place, SourceFile, push_escaped};
 use std::alloc::Global;
-use text_pos::{NoMemory, TextRange};
 
 // Adds a byte of a message.
 fn push_encoded_byte(to: &mut Vec<u8>, byte: u8) -> Result<(), NoMemory>

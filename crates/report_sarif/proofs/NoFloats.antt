@@ -11,9 +11,9 @@ use Rattle.lint_base.specs.declared.rule.Rule.{Rule}
 use Rattle.lint_base.specs.Rules.{all_rules}
 use Rattle.lint_report.specs.declared.report.Report.{Report}
 use Rattle.lint_report.specs.declared.report.ReportFix.{ReportFix}
-use Rattle.source_file.specs.declared.refusal.Refusal.{Refusal}
-use Rattle.source_file.specs.File.{FileValue}
-use Rattle.source_file.specs.Hints.{hint_of}
+use Rattle.json_value.specs.source_file.declared.refusal.Refusal.{Refusal}
+use Rattle.json_value.specs.source_file.File.{FileValue}
+use Rattle.json_value.specs.source_file.Hints.{hint_of}
 use Rattle.report_sarif.specs.Log.{hazard_object, rule_object, tool}
 use Rattle.report_sarif.specs.Results.{are_in_text, fix_object, fixes, inserted, one, refusal_result, replacement, report_result}
 

@@ -3,9 +3,9 @@
 use Rattle.std.specs.Prelude.{ℕ, ◌-◌, Bool, ◌&&◌, ◌||◌, nat_le, nat_lt, get_or, length, codes}
 use Rattle.percent_encoding.specs.Percent.{percent_encode}
 use Rattle.serde_json.specs.Data.{Data, member, no_members, number, object, string, unsigned}
-use Rattle.text_pos.specs.Range.{Range}
-use Rattle.source_file.specs.File.{FileValue, location}
-use Rattle.source_file.specs.Line.{Text}
+use Rattle.lint_report.specs.text_pos.Range.{Range}
+use Rattle.json_value.specs.source_file.File.{FileValue, location}
+use Rattle.json_value.specs.source_file.Line.{Text}
 use Rattle.report_sarif.specs.declared.places.TheConstants.{ESCAPED}
 
 -- a name as the path of a URI reference, RFC 3986: every byte that is neither unreserved (2.3) nor a slash as `%` and two digits

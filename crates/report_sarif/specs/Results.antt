@@ -3,7 +3,7 @@ use Rattle.std.specs.Prelude.{ℕ, Bool, if◌then◌else◌, List, codes, map, 
 use Rattle.std.specs.List.{list_all}
 use Rattle.serde_json.specs.Data.{Data, Members, array, item, member, no_items, no_members, null, object, string}
 use Rattle.serde_json.specs.View.{items_of}
-use Rattle.text_pos.specs.Range.{Range}
+use Rattle.lint_report.specs.text_pos.Range.{Range}
 use Rattle.json_value.specs.Values.{hint_data, text_data}
 use Rattle.lint_base.specs.declared.edit.Edit.{Edit}
 use Rattle.lint_report.specs.declared.fix_class.FixClass.{FixClass}
@@ -11,13 +11,13 @@ use Rattle.lint_report.specs.declared.report.Report.{Report}
 use Rattle.lint_report.specs.declared.report.ReportFix.{ReportFix}
 use Rattle.lint_report.specs.Codes.{name_of}
 use Rattle.lint_report.specs.FixClasses as classes
-use Rattle.source_file.specs.declared.level.Level.TheVariants as level
-use Rattle.source_file.specs.declared.refusal.Refusal.{Refusal}
-use Rattle.source_file.specs.File.{FileValue}
-use Rattle.source_file.specs.Hints.{hint_of}
-use Rattle.source_file.specs.Levels.{word_of}
-use Rattle.source_file.specs.Line.{Text}
-use Rattle.source_file.specs.Refusals as refusals
+use Rattle.json_value.specs.source_file.declared.level.Level.TheVariants as level
+use Rattle.json_value.specs.source_file.declared.refusal.Refusal.{Refusal}
+use Rattle.json_value.specs.source_file.File.{FileValue}
+use Rattle.json_value.specs.source_file.Hints.{hint_of}
+use Rattle.json_value.specs.source_file.Levels.{word_of}
+use Rattle.json_value.specs.source_file.Line.{Text}
+use Rattle.json_value.specs.source_file.Refusals as refusals
 use Rattle.report_sarif.specs.Places.{artifact_location, is_range_in, physical_location, region}
 
 -- a message, or the text that is put in

@@ -1,15 +1,15 @@
 //! Fixes.
 ghost use Rattle.std.specs.Prelude.{◌≡◌, false, true, IfOk, MatchOption};
 ghost use Rattle.serde_json.specs.View.{view};
-ghost use Rattle.source_file.specs.File.{IsRangeIn};
+ghost use Rattle.json_value.specs.source_file.File.{IsRangeIn};
 ghost use Rattle.report_sarif.specs.Places.{is_range_in};
 ghost use Rattle.report_sarif.specs.Results.{are_in_text, changes, fix_object, fix_properties, fixes, one, replacement, replacements, text_object};
 
 use crate::places::{artifact_location, is_range_in, region};
+use json_value::SourceFile;
 use lint_base::Edit;
 use lint_report::{FixClass, ReportFix};
 use serde_json::{Value, json};
-use source_file::SourceFile;
 use std::alloc::{AllocError, Global};
 
 /// An object with a text.

@@ -7,10 +7,9 @@ ghost use Rattle.report_sarif.specs.Log.{all_codes, closing, code_object, driver
 use hazard_base::Hazard;
 use json_value::push_value;
 use lint_base::Rule;
-use lint_report::Code;
+use lint_report::{Code, NoMemory};
 use serde_json::{Value, json};
 use std::alloc::{AllocError, Global};
-use text_pos::NoMemory;
 
 // What reports go by.
 fn code_value(alloc: Global, code: Code) -> Result<Value, AllocError>

@@ -2,14 +2,14 @@
 ghost use Rattle.std.specs.Prelude.{◌≡◌, IfOk, IsTrue, string_bytes};
 ghost use Rattle.std.specs.Str.{IsCharBoundary};
 ghost use Rattle.serde_json.specs.View.{view};
-ghost use Rattle.source_file.specs.File.{IsRangeIn};
+ghost use Rattle.json_value.specs.source_file.File.{IsRangeIn};
 ghost use Rattle.report_sarif.specs.Places.{artifact_location, is_boundary, is_range_in, physical_location, region, uri_of};
 
+use json_value::SourceFile;
+use lint_report::TextRange;
 use percent_encoding::{AsciiSet, CONTROLS, ascii_set, utf8_percent_encode};
 use serde_json::{Value, json};
-use source_file::SourceFile;
 use std::alloc::{AllocError, Global};
-use text_pos::TextRange;
 
 // The bytes of ASCII that are neither unreserved in a URI nor a slash.
 const ESCAPED: AsciiSet = ascii_set!(

@@ -2,19 +2,17 @@
 ghost use Rattle.std.specs.Prelude.{◌≡◌, IfOk};
 ghost use Rattle.std.specs.Str.{IsCharBoundary};
 ghost use Rattle.serde_json.specs.View.{view};
-ghost use Rattle.source_file.specs.File.{IsRangeIn};
-ghost use Rattle.source_file.specs.Levels.{word_of};
-ghost use Rattle.source_file.specs.Refusals as refusals;
+ghost use Rattle.json_value.specs.source_file.File.{IsRangeIn};
+ghost use Rattle.json_value.specs.source_file.Levels.{word_of};
+ghost use Rattle.json_value.specs.source_file.Refusals as refusals;
 ghost use Rattle.report_sarif.specs.Results.{locations, refusal_result, report_result, result_object, result_properties};
 
 use crate::fixes::{fixes_value, one, text_object};
 use crate::places::{physical_location, region};
-use json_value::{hint_value, text_value};
-use lint_report::Report;
+use json_value::{Level, Refusal, SourceFile, hint_for, hint_value, text_value};
+use lint_report::{Report, TextRange};
 use serde_json::{Value, json};
-use source_file::{Level, Refusal, SourceFile, hint_for};
 use std::alloc::{AllocError, Global};
-use text_pos::TextRange;
 
 // Where a finding is.
 fn locations(alloc: Global, file: &SourceFile<'_>, range: TextRange) -> Result<Value, AllocError>

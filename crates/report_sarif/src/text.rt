@@ -2,16 +2,14 @@
 ghost use Rattle.std.specs.Prelude.{◌≡◌, ◌++◌, OnOk};
 ghost use Rattle.std.specs.Str.{IsCharBoundary};
 ghost use Rattle.serde_json.specs.Written.{compact_text};
-ghost use Rattle.source_file.specs.File.{IsRangeIn};
-ghost use Rattle.source_file.specs.Refusals as refusals;
+ghost use Rattle.json_value.specs.source_file.File.{IsRangeIn};
+ghost use Rattle.json_value.specs.source_file.Refusals as refusals;
 ghost use Rattle.report_sarif.specs.Results.{refusal_result, report_result};
 
 use crate::results::{refusal_result, report_result};
-use json_value::push_value;
-use lint_report::Report;
-use source_file::{Refusal, SourceFile};
+use json_value::{Refusal, SourceFile, push_value};
+use lint_report::{NoMemory, Report};
 use std::alloc::Global;
-use text_pos::NoMemory;
 
 /// Adds a report as a result. The error comes when memory runs out.
 pub fn push_report(

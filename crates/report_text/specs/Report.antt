@@ -1,6 +1,6 @@
 -- A finding as people read it.
 use Rattle.std.specs.Prelude.{ℕ, ◌-◌, Bool, ◌&&◌, is_none, if◌then◌else◌, List, [], ◌++◌, length, codes, decimal, slice_range, Option, Some, None}
-use Rattle.text_pos.specs.Range.{Range}
+use Rattle.lint_base.specs.text_pos.Range.{Range}
 use Rattle.lint_report.specs.declared.report.Report.{Report}
 use Rattle.lint_report.specs.Codes.{name_of}
 use Rattle.source_file.specs.declared.level.Level.{Level}

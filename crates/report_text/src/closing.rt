@@ -4,7 +4,7 @@ ghost use Rattle.report_text.specs.Closing.{closing, counted, ending, findings, 
 
 use crate::layout::push_number;
 use crate::paint::push;
-use text_pos::NoMemory;
+use lint_base::NoMemory;
 
 /// What was found in files.
 #[derive(Clone, Copy, Debug, PartialEq, Eq)]

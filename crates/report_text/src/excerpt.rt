@@ -6,9 +6,9 @@ ghost use Rattle.report_text.specs.Excerpt.{carets, closing_row, excerpt, inner_
 use crate::layout::Layout;
 use crate::paint::{Style, push, push_closed, push_opened, push_painted, push_repeated};
 use crate::rows::{push_gap, push_inner_rows};
+use lint_base::{NoMemory, TextRange};
 use source_file::{SourceFile, block, front, lines, push_shown, width};
 use std::alloc::Global;
-use text_pos::{NoMemory, TextRange};
 
 // How many lines of the inside of a range are shown: all of them, or else the first and the last ones.
 const MOST: usize = 5;

@@ -10,11 +10,10 @@ use crate::fixed::push_fix;
 use crate::helps::is_refused_help;
 use crate::layout::{Layout, digits, push_number};
 use crate::paint::{Style, push, push_closed, push_opened, push_painted, push_repeated};
-use lint_base::Text;
+use lint_base::{NoMemory, Text, TextRange, TextSize};
 use lint_report::Report;
 use source_file::{Hint, Level, Refusal, SourceFile, hint_for, push_escaped};
 use std::alloc::Global;
-use text_pos::{NoMemory, TextRange, TextSize};
 
 // The layout of the reports of a file: its numbers have as many columns as that of its last line.
 fn layout_of(file: &SourceFile<'_>, color: bool) -> Layout

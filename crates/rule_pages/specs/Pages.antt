@@ -1,9 +1,9 @@
 -- The page of each rule and each hazard. Written by tools/rule_pages.py.
 use Rattle.std.specs.Prelude.{ℕ, List}
-use Rattle.hazard_base.specs.declared.hazard.Hazard.{Hazard}
-use Rattle.hazard_base.specs.declared.hazard.Hazard.TheVariants as hazard
-use Rattle.lint_base.specs.declared.rule.Rule.{Rule}
-use Rattle.lint_base.specs.declared.rule.Rule.TheVariants as rule
+use Rattle.lint_report.specs.hazard_base.declared.hazard.Hazard.{Hazard}
+use Rattle.lint_report.specs.hazard_base.declared.hazard.Hazard.TheVariants as hazard
+use Rattle.lint_report.specs.lint_base.declared.rule.Rule.{Rule}
+use Rattle.lint_report.specs.lint_base.declared.rule.Rule.TheVariants as rule
 use Rattle.lint_report.specs.declared.code.Code.{Code}
 use Rattle.lint_report.specs.declared.code.Code.TheVariants as code
 use Rattle.rule_pages.specs.declared.indexes.TheConstants.{REQUIRE_CONCURRENT_INDEX_CREATION, REQUIRE_CONCURRENT_INDEX_DELETION, BAN_CONCURRENT_INDEX_CREATION_IN_TRANSACTION, REQUIRE_CONCURRENT_REINDEX, BAN_DROP_INDEX}

@@ -7,9 +7,7 @@ use crate::{
     columns_and_types_more, constraints, drops, hazards, ignore_comments, indexes, names,
     renames_and_moves, settings_and_options, transactions_and_timeouts,
 };
-use hazard_base::Hazard;
-use lint_base::Rule;
-use lint_report::Code;
+use lint_report::{Code, Hazard, Rule};
 
 /// What docs/RULES.md says of a rule: plain text of lines that end with a line feed, of 79 columns but for code and addresses.
 #[tactic(auto, unfolding(crate::specs::Pages::page_of))]

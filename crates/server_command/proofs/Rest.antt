@@ -1,8 +1,8 @@
 -- The words that are left, one by one.
 use Rattle.std.proofs.Common.{◌≡◌, ◌∙◌, ◌+◌, ◌<◌, ap, append_assoc, append-nil, arith, refl, sym, ℕ, Bool, true, false, zero, suc, if◌then◌else◌, List, [], ◌∷◌, ◌++◌, Some, drop, filter, length}
 use Rattle.std.specs.Prelude.{slice_get}
-use Rattle.squawk_words.proofs.Places.{drop_at}
-use Rattle.squawk_words.specs.Words.{Text}
+use Rattle.refused_word.proofs.of_squawk_words.Places.{drop_at}
+use Rattle.refused_word.specs.squawk_words.Words.{Text}
 use Rattle.server_command.specs.Asked.{is_taken}
 
 one_by : (b : Bool) (word : Text) (words : List Text) → (if b then word ∷ [] else []) ++ words ≡ (if b then word ∷ words else words)

@@ -1,8 +1,8 @@
 -- What words ask for.
 use Rattle.std.specs.Prelude.{Bool, false, not, List, Option, Some, None, codes, drop, filter, slice_get}
 use Rattle.std.specs.Str.{bytes_eq}
-use Rattle.help_words.specs.Help as help
-use Rattle.squawk_words.specs.Words.{Text}
+use Rattle.refused_word.specs.help_words.Help as help
+use Rattle.refused_word.specs.squawk_words.Words.{Text}
 
 abbrev pub is_server_word : Option Text → Bool
 is_server_word None = false

@@ -1,20 +1,20 @@
 -- What a run does that words ask for.
 use Rattle.std.specs.Prelude.{◌≡◌, ℕ, Bool, true, false, List, Option}
 use Rattle.std.specs.Io.KnownBytes.{Appends, Keeps}
-use Rattle.check_config.specs.Config.{empty}
-use Rattle.file_store.specs.Contents.{Content}
+use Rattle.config_file.specs.check_config.Config.{empty}
+use Rattle.refused_word.specs.devices.Contents.{Content}
 use Rattle.lsp_serve.specs.declared.end.End.{End}
 use Rattle.lsp_serve.specs.Served.{Served as HasServed, Streams}
-use Rattle.lsp_session.specs.Entry.{IsTakenAs}
+use Rattle.lsp_serve.specs.lsp_session.Entry.{IsTakenAs}
 use Rattle.server_command.specs.declared.outcome.Outcome.{Outcome}
 use Rattle.server_command.specs.declared.outcome.Outcome.TheVariants.{Printed, Served, Refused, Failed}
 use Rattle.server_command.specs.declared.workspace.Workspace.{Workspace}
 use Rattle.server_command.specs.Workspace.{Enters, IsFirst, Refuses, WorkspaceShows}
 use Rattle.server_command.specs.Settled.{IsUnchosen}
-use Rattle.squawk_run.specs.declared.stop.Stop.TheVariants.{BadArguments, NotUtf8, TooLong, ReadFault, WriteFault, NoMemory}
-use Rattle.squawk_stream.specs.Faults.{Rose}
-use Rattle.squawk_stream.specs.Parts.{AppendsPart}
-use Rattle.squawk_words.specs.Words.{Text}
+use Rattle.refused_word.specs.squawk_run.declared.stop.Stop.TheVariants.{BadArguments, NotUtf8, TooLong, ReadFault, WriteFault, NoMemory}
+use Rattle.refused_word.specs.devices.Faults.{Rose}
+use Rattle.refused_word.specs.devices.Parts.{AppendsPart}
+use Rattle.refused_word.specs.squawk_words.Words.{Text}
 
 -- The files, what is left of the input, and the streams before and after.
 pub record Devices (F : Type 0) : Type 0 where

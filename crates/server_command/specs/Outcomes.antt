@@ -5,7 +5,7 @@ use Rattle.server_command.specs.declared.outcome.Refusal.{Refusal}
 use Rattle.server_command.specs.declared.outcome.Refusal.TheVariants as refusal
 use Rattle.server_command.specs.declared.outcome.Outcome.{Outcome}
 use Rattle.server_command.specs.declared.outcome.Outcome.TheVariants.{Printed, Served, Refused, Failed}
-use Rattle.squawk_run.specs.Stops as stops
+use Rattle.refused_word.specs.squawk_run.Stops as stops
 
 -- the line of a refusal
 abbrev pub refusal_line : Refusal → List ℕ

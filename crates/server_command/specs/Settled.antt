@@ -1,19 +1,19 @@
 -- The linter that the words and the configuration of a folder choose.
 use Rattle.std.specs.Prelude.{◌≡◌, ◌⊎◌, ℕ, List, [], ◌++◌, ◌-◌, Option, Some, None, codes, length, take}
 use Rattle.std.specs.Str.{IsUtf8}
-use Rattle.check_config.specs.declared.config.Config.{Config}
-use Rattle.check_config.specs.Config.{empty}
-use Rattle.check_config.specs.Defaults.{linter_words}
-use Rattle.code_choice.specs.Choices.{code_choices_of}
-use Rattle.code_choice.specs.declared.choices.CodeChoices.{CodeChoices}
+use Rattle.config_file.specs.check_config.declared.config.Config.{Config}
+use Rattle.config_file.specs.check_config.Config.{empty}
+use Rattle.config_file.specs.check_config.Defaults.{linter_words}
+use Rattle.refused_word.specs.code_choice.Choices.{code_choices_of}
+use Rattle.refused_word.specs.code_choice.declared.choices.CodeChoices.{CodeChoices}
 use Rattle.config_file.specs.Loaded.{IsLoadedIn, IsRefusedIn}
-use Rattle.file_store.specs.Contents.{Content}
+use Rattle.refused_word.specs.devices.Contents.{Content}
 use Rattle.lsp_linter.specs.declared.linting.Linting.{Linting}
 use Rattle.refused_word.specs.Messages.{words_line}
 use Rattle.server_command.specs.declared.outcome.Refusal.{Refusal}
 use Rattle.server_command.specs.declared.outcome.Refusal.TheVariants as refusal
 use Rattle.server_command.specs.Outcomes.{refusal_line}
-use Rattle.squawk_words.specs.Words.{Text}
+use Rattle.refused_word.specs.squawk_words.Words.{Text}
 
 -- what finds reports with what is chosen
 abbrev pub linting_by : CodeChoices → Linting

@@ -1,12 +1,12 @@
 -- The linter of a workspace, and how it is entered.
 use Rattle.std.specs.Prelude.{◌≡◌, ◌≤◌, ℕ, List, Option}
-use Rattle.file_store.specs.Contents.{Content, KeepsContents}
+use Rattle.refused_word.specs.devices.Contents.{Content, KeepsContents}
 use Rattle.lsp_linter.specs.Shown.{Shows}
-use Rattle.lsp_report.specs.declared.report.Report.{Report}
+use Rattle.lsp_serve.specs.lsp_session.declared.report.Report.{Report}
 use Rattle.server_command.specs.declared.outcome.Refusal.{Refusal}
 use Rattle.server_command.specs.declared.workspace.Workspace.{Workspace}
 use Rattle.server_command.specs.Settled.{IsChosenAlone, IsRefusedFor, IsSaidOf, IsSettled, folder_of}
-use Rattle.squawk_words.specs.Words.{Text}
+use Rattle.refused_word.specs.squawk_words.Words.{Text}
 
 -- what it shows of a text
 abbrev pub WorkspaceShows : {F : Type 0} → Workspace F → List ℕ → List Report → Type 0

@@ -2,9 +2,8 @@
 ghost use Rattle.std.specs.Prelude.{◌≡◌, ◌++◌, ◌∷◌, [], IfOk, OnOk, filter};
 ghost use Rattle.server_command.specs.Asked as spec;
 
-use squawk_words::Words;
+use refused_word::{NoMemory, Words};
 use std::alloc::Global;
-use text_pos::NoMemory;
 
 /// Whether words ask for a server: whether the first one is `server`.
 pub fn is_server(words: &Words) -> bool
@@ -17,7 +16,7 @@ pub fn is_server(words: &Words) -> bool
 pub(crate) fn asks_for_help(words: &Words) -> bool
     ensures { result ≡ spec.asks_for_help words.now }
 {
-    help_words::asks_for_help(words)
+    refused_word::asks_for_help(words)
 }
 
 // Adds a word, unless it is `--stdio`, which some editors add.

@@ -3,20 +3,16 @@ ghost use Rattle.std.specs.Io.KnownBytes.{Appends};
 ghost use Rattle.server_command.specs.Asked.{asks_for_help, linter_words};
 ghost use Rattle.server_command.specs.Command.{HasHelped, HasRun, HasRunFor};
 ghost use Rattle.server_command.specs.Outcomes.{line_of};
-ghost use Rattle.squawk_stream.specs.Faults.{Rose};
-ghost use Rattle.squawk_stream.specs.Parts.{AppendsPart};
+ghost use Rattle.refused_word.specs.devices.Faults.{Rose};
+ghost use Rattle.refused_word.specs.devices.Parts.{AppendsPart};
 
 use crate::asked::asks_for_help;
 use crate::help::HELP;
 use crate::outcome::Outcome;
 use crate::workspace::first_linter;
-use file_store::FileStore;
 use lsp_serve::serve;
-use squawk_run::Stop;
-use squawk_stream::{Sink, Source, write_all};
-use squawk_words::Words;
+use refused_word::{FileStore, NoMemory, Sink, Source, Stop, Words, write_all};
 use std::alloc::Global;
-use text_pos::NoMemory;
 
 // Writes the help.
 fn write_help<K: Sink>(out: &mut K) -> Outcome

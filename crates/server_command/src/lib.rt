@@ -16,3 +16,6 @@ pub use command::run;
 pub use help::HELP;
 pub use outcome::{Outcome, Refusal};
 pub use workspace::Workspace;
+
+// What crates above reach through this one.
+pub use lsp_serve::{Frames, push_frame};

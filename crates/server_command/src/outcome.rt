@@ -3,7 +3,7 @@ ghost use Rattle.std.specs.Prelude.{◌≡◌};
 ghost use Rattle.server_command.specs.Outcomes as spec;
 
 use lsp_serve::End;
-use squawk_run::Stop;
+use refused_word::Stop;
 
 /// Why no linter is chosen in a workspace.
 #[derive(Debug, Drop)]

@@ -2,21 +2,14 @@
 ghost use Rattle.std.specs.Prelude.{◌≡◌, ◌≤◌, IfErr, IfOk};
 ghost use Rattle.server_command.specs.Settled as spec;
 ghost use Rattle.server_command.specs.Settled.{IsChosenAlone, IsChosenBy, IsRefusedFor, IsSettled, IsUnchosen};
-ghost use Rattle.check_config.specs.Config.{empty};
-ghost use Rattle.file_store.specs.Contents.{KeepsContents};
+ghost use Rattle.config_file.specs.check_config.Config.{empty};
+ghost use Rattle.refused_word.specs.devices.Contents.{KeepsContents};
 
 use crate::outcome::Refusal;
-use check_config::{Config, linter_words};
-use code_choice::{CodeChoices, read_code_choices};
-use config_file::{LoadError, folder_config};
-use file_store::FileStore;
-use lsp_linter::Linting;
-use refused_word::words_line;
-use squawk_linter::Linter;
-use squawk_words::Words;
+use config_file::{Config, LoadError, folder_config, linter_words};
+use lsp_linter::{Linter, Linting, TextLinter};
+use refused_word::{CodeChoices, FileStore, NoMemory, Words, read_code_choices, words_line};
 use std::alloc::Global;
-use text_pos::NoMemory;
-use text_reports::TextLinter;
 
 // What finds reports with what is chosen.
 fn linting_by(chosen: CodeChoices) -> Linting

@@ -1,23 +1,18 @@
 //! The linter of a workspace.
 ghost use Rattle.std.specs.Prelude.{◌≡◌, ◌≤◌, IfErr, IfOk, string_bytes};
-ghost use Rattle.file_store.specs.Contents.{KeepsContents};
+ghost use Rattle.refused_word.specs.devices.Contents.{KeepsContents};
 ghost use Rattle.server_command.specs.Workspace.{Enters, IsFirst, Refuses, WorkspaceShows};
 ghost use Rattle.server_command.specs.Settled.{IsRefusedFor, IsSaidOf, IsSettled, IsText, IsUnchosen, folder_of};
-ghost use Rattle.check_config.specs.Config.{empty};
+ghost use Rattle.config_file.specs.check_config.Config.{empty};
 ghost use Rattle.server_command.specs.Asked.{linter_words};
 
 use crate::asked::linter_words;
 use crate::outcome::Refusal;
 use crate::settled::{alone, settled_in};
-use file_store::FileStore;
-use lint_base::Text;
 use lsp_linter::Linting;
-use lsp_report::{Checker, Report};
-use lsp_session::Enter;
-use squawk_run::text_in;
-use squawk_words::Words;
+use lsp_serve::{Checker, Enter, Report};
+use refused_word::{FileStore, NoMemory, Text, Words, text_in};
 use std::alloc::Global;
-use text_pos::NoMemory;
 
 /// What finds the reports of a workspace: a linter that the words choose, and from the entry of the workspace on the configuration too.
 #[derive(Drop)]

@@ -2,9 +2,8 @@
 ghost use Rattle.std.specs.Prelude.{◌≡◌, ◌++◌, OnOk};
 ghost use Rattle.shown_words.specs.Shown.{word_part, words_part};
 
-use source_file::push_escaped;
+use source_file::{NoMemory, push_escaped};
 use squawk_words::Words;
-use text_pos::NoMemory;
 
 /// Adds a blank, and the word with escapes for what a line can't have. The error comes when memory runs out.
 pub fn push_word(to: &mut Vec<u8>, word: &str) -> Result<(), NoMemory>

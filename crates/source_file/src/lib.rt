@@ -21,3 +21,6 @@ pub use line::{block, front, line_end, line_start, lines};
 pub use place::Place;
 pub use refusal::Refusal;
 pub use shown::push_shown;
+
+// What crates above reach through this one.
+pub use text_pos::{NoMemory, TextSize};

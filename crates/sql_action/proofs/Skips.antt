@@ -2,7 +2,7 @@
 use Rattle.std.proofs.Common.{◌≡◌, ◌∙◌, sym, ◌<◌, ◌+◌, ◌-◌, ℕ, zero, suc, List, [], ◌∷◌, length, take, drop, refl, ap, arith, length-drop, ◌==◌, Bool, true, Some, None}
 use Rattle.std.proofs.lemmas.Bool.{eqb-true}
 use Rattle.std.proofs.Math.Seq.{take-length}
-use Rattle.sql_token.specs.declared.terminal.Terminal.{Terminal}
+use Rattle.sql_tree.specs.sql_token.declared.terminal.Terminal.{Terminal}
 use Rattle.sql_tree.specs.declared.actions.PieceList.{PieceList}
 use Rattle.sql_tree.specs.Split.{uncons, chunks}
 use Rattle.sql_tree.proofs.Chunks.{chunks_skipped}

@@ -1,7 +1,7 @@
 -- Which tails of ALTER statements have actions.
 use Rattle.std.specs.Prelude.{◌≡◌, Bool, true, false, if◌then◌else◌, List, [], ◌∷◌, is_some}
 use Rattle.std.specs.List.{list_all}
-use Rattle.sql_token.specs.declared.terminal.Terminal.{Terminal}
+use Rattle.sql_tree.specs.sql_token.declared.terminal.Terminal.{Terminal}
 use Rattle.sql_tree.specs.declared.kinds.StmtKind.{StmtKind}
 use Rattle.sql_tree.specs.Split.{comma, split}
 use Rattle.sql_tree.specs.Action.{has_several, actions_of}

@@ -8,17 +8,17 @@ ghost use Rattle.sql_action.specs.Puts.{put_after};
 use crate::pieces::{read_attributes, read_column_option, read_pieces};
 use crate::starts::{first_symbol, own_part, skip_word, takes_constraint};
 use crate::tables::{first_rows_at, general_rows_at, own_rows};
-use sql_column::read_column;
-use sql_constraint::{make_room, read_table_constraint};
-use sql_form::{after_word, nothing_kept, read_whole};
-use sql_mark::{Mark, Parts, span_of};
-use sql_token::{Keyword, Terminal};
+use sql_column::{
+    Mark, Parts, after_word, make_room, nothing_kept, read_column, read_table_constraint,
+    read_whole, span_of,
+};
 use sql_tree::actions::{OPTIONS, OTHER, PieceList};
 use sql_tree::forms::{ActionRows, Captures};
-use sql_tree::{Action, ActionKind, Column, Constraint, Piece, StmtKind};
+use sql_tree::{
+    Action, ActionKind, Column, Constraint, Keyword, NoMemory, Piece, StmtKind, Terminal,
+};
 use sqlite_items::Items;
 use std::alloc::Global;
-use text_pos::NoMemory;
 
 // ---- ADD and a table constraint
 

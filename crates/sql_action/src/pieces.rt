@@ -5,20 +5,18 @@ ghost use Rattle.std.specs.Option.{option_copied};
 ghost use Rattle.sql_tree.specs.ActionPieces as spec;
 ghost use Rattle.sql_tree.specs.Split.{chunks, uncons};
 
-use sql_constraint::{make_room, put};
-use sql_form::{nothing_kept, read_whole};
-use sql_mark::{Mark, Parts, begins_with, closing, span_of, terminals_before};
-use sql_token::{Keyword, Symbol, Terminal};
+use sql_column::{
+    Mark, Parts, begins_with, closing, column_type, make_room, nothing_kept, put, read_whole,
+    span_of, terminals_before, type_len,
+};
 use sql_tree::actions::{
     ATTRIBUTE, COLUMN_OPTION, CONSTRAINT_OPTION, IDENTITY_OPTION, OTHER_OPTION, POLICY_PART,
     PieceList, PieceRows, SEQUENCE_OPTION,
 };
-use sql_tree::{ColType, Piece, PieceKind};
-use sql_type::{column_type, type_len};
+use sql_tree::{ColType, Keyword, NoMemory, Piece, PieceKind, Symbol, Terminal};
 use sqlite_items::Items;
 use std::alloc::Global;
 use std::marker::Model;
-use text_pos::NoMemory;
 
 // ---- how long a piece is
 
@@ -134,7 +132,7 @@ struct Pieces<'a> {
 
 impl<'a> Model for Pieces<'a> {
     ghost use Rattle.std.specs.Prelude.{List};
-    ghost use Rattle.sql_token.specs.declared.terminal.Terminal.{Terminal};
+    ghost use Rattle.sql_tree.specs.sql_token.declared.terminal.Terminal.{Terminal};
     ghost use Rattle.sql_tree.specs.ActionPieces.{piece_len};
     ghost use Rattle.sql_tree.specs.Split.{chunks};
 

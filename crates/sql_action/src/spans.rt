@@ -1,18 +1,16 @@
 //! The actions of a span of the tokens of a text.
 
 ghost use Rattle.std.specs.Prelude.{◌≡◌, ◌<◌, ◌^◌, length, IfOk};
-ghost use Rattle.sql_lex.specs.Inside.{IsSpan, terminals_in};
-ghost use Rattle.sql_token.specs.Token.{Lexed};
+ghost use Rattle.sql_column.specs.sql_lex.Inside.{IsSpan, terminals_in};
+ghost use Rattle.sql_tree.specs.sql_token.Token.{Lexed};
 ghost use Rattle.sql_tree.specs.Action.{actions_alone};
 
 use crate::actions::read_actions_of;
 use crate::starts::begins_tail;
-use sql_lex::terminals_in;
-use sql_token::{Span, Tok};
-use sql_tree::{Action, StmtKind};
+use sql_column::terminals_in;
+use sql_tree::{Action, NoMemory, Span, StmtKind, Tok};
 use sqlite_items::Items;
 use std::alloc::Global;
-use text_pos::NoMemory;
 
 /// The actions of an ALTER statement of this kind, by the tokens that its form leaves open, without the semicolon.
 /// `Ok(None)` where they are none: where no token is significant, or none between two commas that part actions, or where

@@ -5,10 +5,8 @@ ghost use Rattle.std.specs.Option.{option_copied};
 ghost use Rattle.sql_tree.specs.Action as spec;
 ghost use Rattle.sql_tree.specs.Forms.{after_word};
 
-use sql_form::{after_any_name, after_two, after_word};
-use sql_mark::begins_with;
-use sql_token::{Keyword, Symbol, Terminal};
-use sql_tree::StmtKind;
+use sql_column::{after_any_name, after_two, after_word, begins_with};
+use sql_tree::{Keyword, StmtKind, Symbol, Terminal};
 
 pub(crate) fn first_symbol(terminals: &[Terminal]) -> Symbol
     ensures { result ≡ spec.first_symbol terminals.now }

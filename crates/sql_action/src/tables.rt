@@ -3,14 +3,13 @@
 ghost use Rattle.std.specs.Prelude.{◌≡◌, map};
 ghost use Rattle.sql_tree.specs.ActionRows as spec;
 
-use sql_token::{Keyword, Symbol};
-use sql_tree::StmtKind;
 use sql_tree::actions::{
     ADD, ALTER, CLUSTER, CONFIG, DETACH, DISABLE, DOMAIN, DROP, ENABLE, EXTENSION, FORCE, FUNCTION,
     GROUP, NO, OWNER, POLICY, PRIVILEGES, PUBLICATION, RENAME, RENAME_COLUMN, REPLICA, RESET,
     SCHEMA, SEQUENCE, SET, TYPE, VALIDATE,
 };
 use sql_tree::forms::ActionRows;
+use sql_tree::{Keyword, StmtKind, Symbol};
 
 #[tactic(auto, unfolding(sql_tree::specs::ActionRows::first_rows))]
 fn first_rows(word: Keyword) -> ActionRows

@@ -1,9 +1,9 @@
 -- One name that is no key word: what it is as a type, and that no constraint begins there.
 use Rattle.std.proofs.Common.{◌≡◌, ◌∙◌, sym, ℕ, ◌<◌, ◌≤◌, Bool, true, List, [], ◌∷◌, length, get_or, refl, arith, Option, Some}
-use Rattle.sql_token.specs.declared.terminal.Symbol.{Symbol}
-use Rattle.sql_token.specs.declared.terminal.Symbol.TheVariants as s
-use Rattle.sql_token.specs.declared.terminal.Terminal.{Terminal}
-use Rattle.sql_token.specs.Terminal.{is_keyword, is_name, is_opener, is_closer}
+use Rattle.sql_tree.specs.sql_token.declared.terminal.Symbol.{Symbol}
+use Rattle.sql_tree.specs.sql_token.declared.terminal.Symbol.TheVariants as s
+use Rattle.sql_tree.specs.sql_token.declared.terminal.Terminal.{Terminal}
+use Rattle.sql_tree.specs.sql_token.Terminal.{is_keyword, is_name, is_opener, is_closer}
 use Rattle.sql_tree.specs.declared.nodes.ColType.{ColType}
 use Rattle.sql_tree.specs.Split.{before}
 use Rattle.sql_tree.specs.Groups.{path_first}

@@ -1,8 +1,8 @@
 -- A type that is one name, and no key word.
 use Rattle.std.specs.Prelude.{◌≡◌, ℕ, Bool, true, false, List, [], Option, Some, None}
-use Rattle.sql_token.specs.declared.terminal.Symbol.{Symbol}
-use Rattle.sql_token.specs.declared.terminal.Symbol.TheVariants as s
-use Rattle.sql_token.specs.declared.terminal.Terminal.{Terminal}
+use Rattle.sql_tree.specs.sql_token.declared.terminal.Symbol.{Symbol}
+use Rattle.sql_tree.specs.sql_token.declared.terminal.Symbol.TheVariants as s
+use Rattle.sql_tree.specs.sql_token.declared.terminal.Terminal.{Terminal}
 use Rattle.sql_tree.specs.declared.nodes.ColType.{ColType}
 use Rattle.sql_tree.specs.declared.nodes.TyKind.TheVariants.{Path}
 use Rattle.sql_tree.specs.ColumnType.{plain_of, column_type}

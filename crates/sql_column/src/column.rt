@@ -5,12 +5,10 @@ ghost use Rattle.sql_tree.specs.Column as spec;
 ghost use Rattle.sql_column.specs.OneWord.{is_plain_symbol, path_of_one, OneWord};
 
 use sql_constraint::read_column_constraints;
-use sql_token::{Span, Symbol, Terminal};
-use sql_tree::{ColType, Column, Constraint, TyKind};
+use sql_tree::{ColType, Column, Constraint, NoMemory, Span, Symbol, Terminal, TyKind};
 use sql_type::{column_type, type_len};
 use sqlite_items::Items;
 use std::alloc::Global;
-use text_pos::NoMemory;
 
 /// Whether this is a name and no key word.
 fn is_plain(symbol: Symbol) -> bool

@@ -6,13 +6,12 @@ ghost use Rattle.sql_tree.specs.Groups.{is_empty};
 ghost use Rattle.sql_tree.specs.Constraint.{table_constraint};
 
 use crate::column::read_column;
-use sql_constraint::{is_exclusion, make_room, read_table_constraint};
-use sql_mark::{Mark, Parts, has_mark, inside_list};
-use sql_token::{Keyword, Symbol, Terminal};
-use sql_tree::Elem;
+use sql_constraint::{
+    Mark, Parts, has_mark, inside_list, is_exclusion, make_room, read_table_constraint,
+};
+use sql_tree::{Elem, Keyword, NoMemory, Symbol, Terminal};
 use sqlite_items::Items;
 use std::alloc::Global;
-use text_pos::NoMemory;
 
 fn is_constraint_word(word: Keyword) -> bool
     ensures { result ≡ spec.is_constraint_word word }

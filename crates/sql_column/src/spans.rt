@@ -2,17 +2,15 @@
 
 ghost use Rattle.std.specs.Prelude.{◌≡◌, ◌<◌, ◌^◌, length, IfOk};
 ghost use Rattle.sql_lex.specs.Inside.{IsSpan, terminals_in};
-ghost use Rattle.sql_token.specs.Token.{Lexed};
+ghost use Rattle.sql_tree.specs.sql_token.Token.{Lexed};
 ghost use Rattle.sql_tree.specs.Column.{elements, domain_constraints};
 
 use crate::column::read_domain_constraints;
 use crate::element::read_elements;
 use sql_lex::terminals_in;
-use sql_token::{Span, Tok};
-use sql_tree::{Constraint, Elem};
+use sql_tree::{Constraint, Elem, NoMemory, Span, Tok};
 use sqlite_items::Items;
 use std::alloc::Global;
-use text_pos::NoMemory;
 
 /// The elements of a table's list, by its tokens, the brackets among them. There are none where the first significant
 /// token is no round bracket.

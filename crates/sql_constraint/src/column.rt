@@ -7,12 +7,10 @@ ghost use Rattle.sql_constraint.specs.Views.{beside};
 
 use crate::constraint::{constraint_in, constraint_name};
 use crate::list::put;
-use sql_mark::{Mark, Pieces, kind_led};
-use sql_token::Terminal;
-use sql_tree::{ConKind, Constraint};
+use sql_form::{Mark, Pieces, kind_led};
+use sql_tree::{ConKind, Constraint, NoMemory, Terminal};
 use sqlite_items::Items;
 use std::alloc::Global;
-use text_pos::NoMemory;
 
 fn after_kind(kind: ConKind, rest: &[Terminal]) -> &[Terminal]
     ensures { result.now ≡ spec.after_kind kind rest.now }

@@ -6,12 +6,9 @@ ghost use Rattle.sql_tree.specs.Constraint as spec;
 ghost use Rattle.sql_constraint.specs.Views.{beside};
 
 use crate::value::{value_in, value_of, value_span};
-use sql_form::{after_two, after_word};
-use sql_mark::{Mark, has_mark, span_of};
-use sql_token::{Keyword, Symbol, Terminal};
-use sql_tree::{ConKind, Constraint};
+use sql_form::{Mark, after_two, after_word, has_mark, span_of};
+use sql_tree::{ConKind, Constraint, Keyword, NoMemory, Symbol, Terminal};
 use std::alloc::Global;
-use text_pos::NoMemory;
 
 // ---- its name
 

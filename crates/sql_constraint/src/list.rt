@@ -2,8 +2,7 @@
 
 ghost use Rattle.std.specs.Prelude.{◌≡◌, [], ◌∷◌, ◌++◌, OnOk};
 
-use sql_token::Terminal;
-use text_pos::NoMemory;
+use sql_tree::{NoMemory, Terminal};
 
 /// Makes room for the first item of a list, and for as many more as are between commas if each is as long as its
 /// `part`. Room for more than eight is left to the pushes, since one short part may come before a very long one.

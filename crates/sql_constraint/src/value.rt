@@ -4,11 +4,9 @@ ghost use Rattle.std.specs.Prelude.{◌≡◌, IfOk};
 ghost use Rattle.sql_tree.specs.Constraint as spec;
 
 use sql_expr::read_expression;
-use sql_mark::{Mark, before_after_head, inside_list, span_of};
-use sql_token::{Span, Terminal};
-use sql_tree::{ConKind, Expr};
+use sql_form::{Mark, before_after_head, inside_list, span_of};
+use sql_tree::{ConKind, Expr, NoMemory, Span, Terminal};
 use std::alloc::Global;
-use text_pos::NoMemory;
 
 /// The expression of a DEFAULT, by what follows that word. Its first terminal belongs to it, whatever it is.
 #[tactic(auto, unfolding(sql_tree::specs::Constraint::default_value))]

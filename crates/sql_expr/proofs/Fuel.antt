@@ -3,10 +3,10 @@ use Rattle.std.proofs.Common.{◌≡◌, ℕ, suc, zero, ◌+◌, ◌-◌, ◌<�
 use borrow.Author.Tests.{ltb-true}
 use Rattle.std.proofs.lemmas.List.{length-take}
 use Rattle.std.proofs.lemmas.Grind.{common_steps}
-use Rattle.sql_token.specs.declared.token.Span.{Span}
-use Rattle.sql_token.specs.declared.terminal.Terminal.{Terminal}
-use Rattle.sql_token.specs.Terminal.{is_opener, is_closer}
-use Rattle.sql_token.specs.Depth.{one_if, onto}
+use Rattle.sql_tree.specs.sql_token.declared.token.Span.{Span}
+use Rattle.sql_tree.specs.sql_token.declared.terminal.Terminal.{Terminal}
+use Rattle.sql_tree.specs.sql_token.Terminal.{is_opener, is_closer}
+use Rattle.sql_tree.specs.sql_token.Depth.{one_if, onto}
 use Rattle.sql_tree.specs.Split.{Test, before_from, before, split_from, split, operator, cast}
 use Rattle.sql_tree.specs.Groups.{path_first}
 use Rattle.sql_tree.specs.declared.nodes.Expr.{Expr}

@@ -7,11 +7,9 @@ ghost use Rattle.sql_tree.specs.Expression as spec;
 use crate::level::{Level, all_around};
 use crate::shape::shape_of;
 use sql_mark::{Mark, Parts};
-use sql_token::Terminal;
-use sql_tree::{Expr, Shape};
+use sql_tree::{Expr, NoMemory, Shape, Terminal};
 use sqlite_items::Items;
 use std::alloc::Global;
-use text_pos::NoMemory;
 
 /// The expression that these terminals are, all of them.
 #[tactic(auto, unfolding(sql_tree::specs::Expression::expression_of))]

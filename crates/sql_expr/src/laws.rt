@@ -1,7 +1,7 @@
 //! Laws of the definitions.
 
 ghost use Rattle.std.specs.Prelude.{◌≡◌, List};
-ghost use Rattle.sql_token.specs.declared.terminal.Terminal.{Terminal};
+ghost use Rattle.sql_tree.specs.sql_token.declared.terminal.Terminal.{Terminal};
 ghost use Rattle.sql_tree.specs.Expression as spec;
 
 /// The equation of an expression, which no number bounds: it is that of its shape, over the expressions in it.

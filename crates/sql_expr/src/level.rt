@@ -3,10 +3,9 @@
 ghost use Rattle.std.specs.Prelude.{◌≡◌, IfOk};
 ghost use Rattle.sql_expr.specs.Levels as spec;
 
-use sql_tree::Expr;
+use sql_tree::{Expr, NoMemory};
 use sqlite_items::{Boxed, Items};
 use std::alloc::Global;
-use text_pos::NoMemory;
 
 /// A kind of expression that holds one other expression.
 #[derive(Clone, Copy)]

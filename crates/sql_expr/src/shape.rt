@@ -7,8 +7,7 @@ ghost use Rattle.sql_tree.specs.Expression as spec;
 use sql_mark::{
     Mark, Parts, has_mark, inside_list, is_list, is_square, path_first, terminals_before,
 };
-use sql_token::{Keyword, Span, Symbol, Terminal};
-use sql_tree::Shape;
+use sql_tree::{Keyword, Shape, Span, Symbol, Terminal};
 
 // ---- IS NOT NULL
 

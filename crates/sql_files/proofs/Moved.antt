@@ -1,6 +1,6 @@
 -- Names from a store that was used before.
 use Rattle.std.proofs.Common.{◌≤◌, arith, inl, inr, subst, ℕ, List, [], ◌∷◌}
-use Rattle.file_store.specs.Contents.{Content, KeepsContents, Unknown, Missing, File, Folder}
+use Rattle.devices.specs.Contents.{Content, KeepsContents, Unknown, Missing, File, Folder}
 use Rattle.squawk_words.specs.Words.{Text}
 use Rattle.sql_files.specs.Named.{AreNamed, StandFor}
 

@@ -4,11 +4,11 @@ use Rattle.std.proofs.lemmas.List.{drop_all}
 use Rattle.std.proofs.lemmas.Option.{slice_get_within}
 use Rattle.std.specs.Prelude.{slice_get, String}
 use Rattle.std.specs.declared.alloc.Global.{Global}
-use Rattle.file_store.specs.Contents.{Content, IsListed, KeepsContents, Unknown, Missing, File, Folder}
-use Rattle.file_store.specs.Refused.{RefusedFits}
-use Rattle.file_store.specs.SqlNames.{AreSqlNames}
-use Rattle.file_store.specs.declared.store.FileError.{FileError}
-use Rattle.file_store.specs.declared.store.FileError.TheVariants as error
+use Rattle.devices.specs.Contents.{Content, IsListed, KeepsContents, Unknown, Missing, File, Folder}
+use Rattle.devices.specs.Refused.{RefusedFits}
+use Rattle.devices.specs.SqlNames.{AreSqlNames}
+use Rattle.devices.specs.declared.store.FileError.{FileError}
+use Rattle.devices.specs.declared.store.FileError.TheVariants as error
 use Rattle.squawk_words.specs.Words.{Text}
 use Rattle.sql_files.specs.Named.{Adds, AreNamed, StandFor}
 

@@ -1,9 +1,9 @@
 -- Which files words stand for.
 use Rattle.std.specs.Prelude.{◌≡◌, ◌≤◌, ◌⊎◌, ℕ, List, [], ◌∷◌, ◌++◌, String, map, string_bytes, ⊤}
 use Rattle.std.specs.declared.alloc.Global.{Global}
-use Rattle.file_store.specs.Contents.{Content, Unknown, Missing, File, Folder}
-use Rattle.file_store.specs.SqlNames.{AreSqlNames}
-use Rattle.squawk_stream.specs.Faults.{Rose}
+use Rattle.devices.specs.Contents.{Content, Unknown, Missing, File, Folder}
+use Rattle.devices.specs.SqlNames.{AreSqlNames}
+use Rattle.devices.specs.Faults.{Rose}
 use Rattle.squawk_words.specs.Words.{Text}
 
 -- those of the names in a folder that end in `.sql`, in order

@@ -1,12 +1,11 @@
 //! The files that words stand for.
 ghost use Rattle.std.specs.Prelude.{◌≡◌, ◌≤◌, ◌++◌, IfOk, OnOk, map, string_bytes};
-ghost use Rattle.file_store.specs.Contents.{KeepsContents};
+ghost use Rattle.devices.specs.Contents.{KeepsContents};
 ghost use Rattle.sql_files.specs.Named.{Adds, AreNamed};
 
-use file_store::{FileError, FileStore, sql_names};
+use devices::{FileError, FileStore, NoMemory, sql_names};
 use squawk_words::Words;
 use std::alloc::Global;
-use text_pos::NoMemory;
 
 // Adds names.
 fn push_all(names: &mut Words, more: &[String]) -> Result<(), NoMemory>

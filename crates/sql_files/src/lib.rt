@@ -6,3 +6,7 @@
 mod expand;
 
 pub use expand::expanded;
+
+// What crates above reach through this one.
+pub use devices::{FileError, FileStore, Sink, Source, write_all};
+pub use squawk_words::Words;

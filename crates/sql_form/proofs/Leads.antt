@@ -1,8 +1,8 @@
 -- A row is refused where its first word does not match, or the first after one that is missing.
 use Rattle.std.proofs.Common.{◌≡◌, ◌≤◌, Bool, true, false, List, [], ◌∷◌, length, get_or, drop, ◌||◌, not, refl, sym, ap, arith, Some, None}
 use Rattle.std.specs.Bool.{OnFalse, OnTrue}
-use Rattle.sql_keyword.specs.declared.words.Keyword.{Keyword}
-use Rattle.sql_token.specs.declared.terminal.Terminal.{Terminal}
+use Rattle.sql_tree.specs.sql_keyword.declared.words.Keyword.{Keyword}
+use Rattle.sql_tree.specs.sql_token.declared.terminal.Terminal.{Terminal}
 use Rattle.sql_tree.specs.declared.forms.Part.{Part}
 use Rattle.sql_tree.specs.declared.forms.Part.TheVariants as p
 use Rattle.sql_tree.specs.Forms.{at, fresh, in_turn, take_part, take_mods, is_temp, is_other_mod}

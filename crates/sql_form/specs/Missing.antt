@@ -1,6 +1,6 @@
 -- Words that a part may take.
 use Rattle.std.specs.Prelude.{Bool, false, ◌||◌, List, [], ◌∷◌}
-use Rattle.sql_token.specs.declared.terminal.Terminal.{Terminal}
+use Rattle.sql_tree.specs.sql_token.declared.terminal.Terminal.{Terminal}
 use Rattle.sql_tree.specs.Forms.{is_temp, is_other_mod}
 
 -- whether one of the words of Mods comes first

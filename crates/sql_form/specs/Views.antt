@@ -1,6 +1,6 @@
 -- What the reader's own values show: lists of terminals in place of slices.
 use Rattle.std.specs.Prelude.{List}
-use Rattle.sql_token.specs.declared.terminal.Terminal.{Terminal}
+use Rattle.sql_tree.specs.sql_token.declared.terminal.Terminal.{Terminal}
 use Rattle.sql_tree.specs.declared.forms.Captures.{Captures}
 use Rattle.sql_tree.specs.Forms.{State, at}
 use denote.Bor.{Bor}

@@ -5,8 +5,8 @@
 
 ghost use Rattle.std.specs.Prelude.{◌≡◌, ◌==◌, ◌&&◌, ◌||◌, not, length};
 ghost use Rattle.std.specs.Option.{option_map, option_copied};
-ghost use Rattle.sql_keyword.specs.declared.words.TheConstants.Keyword as keyword;
-ghost use Rattle.sql_token.specs.Terminal.{is_keyword, is_name};
+ghost use Rattle.sql_tree.specs.sql_keyword.declared.words.TheConstants.Keyword as keyword;
+ghost use Rattle.sql_tree.specs.sql_token.Terminal.{is_keyword, is_name};
 ghost use Rattle.sql_tree.specs.declared.forms.Captures.{Captures};
 ghost use Rattle.sql_tree.specs.Forms.{at, one, nothing_kept, word_kept, name_kept, concurrently_kept, is_temp, is_other_mod, take_path, take_mods, record_fact, take_index_name, take_chain, take_concurrently, take_star, take_into, take_rest, take_list, some_left, is_str_symbol, words_of, after_word, after_words, or_here, take_phrase, take_part};
 ghost use Rattle.sql_tree.specs.Action.{after_name};
@@ -18,8 +18,8 @@ ghost use Rattle.sql_form.specs.Missing.{begins_with_mod};
 ghost use Rattle.sql_form.specs.Views.{after};
 
 use sql_mark::{after_list, from_mark, is_of_class, path_first};
-use sql_token::{Keyword, Span, Symbol, Terminal};
 use sql_tree::forms::{Captures, Fact, Part, Phrase, WordClass};
+use sql_tree::{Keyword, Span, Symbol, Terminal};
 
 fn tell(mark: Fact, kept: &mut Captures)
     ensures { kept.new ≡ record_fact mark kept.old }

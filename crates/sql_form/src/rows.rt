@@ -9,9 +9,8 @@ ghost use Rattle.sql_form.specs.Views.{after, front};
 use crate::reader::{begins_with_mod, is_all_taken, take_part};
 use crate::tables::{one_word_kind, rows_of};
 use sql_mark::begins_with;
-use sql_token::{Keyword, Terminal};
-use sql_tree::StmtKind;
 use sql_tree::forms::{Captures, Part, Rows};
+use sql_tree::{Keyword, StmtKind, Terminal};
 
 /// What is kept before anything is read.
 pub fn nothing_kept() -> Captures

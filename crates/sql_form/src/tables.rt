@@ -3,8 +3,6 @@
 ghost use Rattle.std.specs.Prelude.{◌≡◌, map};
 ghost use Rattle.sql_tree.specs.Forms as spec;
 
-use sql_token::{Keyword, Symbol, Terminal};
-use sql_tree::StmtKind;
 use sql_tree::alter_forms::{
     ALTER_CODE, ALTER_DATA_TYPE, ALTER_OTHER, ALTER_RELATION, ALTER_SERVICE,
 };
@@ -17,6 +15,7 @@ use sql_tree::other_forms::{
     ABORT, CLUSTER, COMMENT, COMMIT, END, IMPORT, INSERT, MERGE, PREPARE, REFRESH, RESET, ROLLBACK,
     SECURITY, SELECT, SET, START, UPDATE,
 };
+use sql_tree::{Keyword, StmtKind, Symbol, Terminal};
 
 /// The family of the object that this word names, or that may come before it.
 #[inline(always)]

@@ -9,3 +9,4 @@ pub mod SignLaws
 pub mod Stacks
 pub mod Tables
 pub mod Walk
+pub use Rattle.sql_token.proofs as of_sql_token

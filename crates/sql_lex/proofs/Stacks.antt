@@ -6,7 +6,7 @@ use Rattle.std.proofs.lemmas.List.{take_rest}
 use Rattle.sql_token.specs.declared.terminal.Symbol.{Symbol}
 use Rattle.sql_token.specs.declared.terminal.Symbol.TheVariants as s
 use Rattle.sql_token.specs.declared.terminal.Terminal.{Terminal}
-use Rattle.sql_keyword.specs.declared.words.TheConstants.Keyword.{BEGIN}
+use Rattle.sql_token.specs.sql_keyword.declared.words.TheConstants.Keyword.{BEGIN}
 use Rattle.sql_token.specs.Terminal.{is_keyword, is_opener, is_closer, is_round, is_unicode_name, is_opener_symbol, is_closer_symbol}
 use Rattle.sql_token.specs.Sound.{partner, matches, opened, closed, sound_from, is_sound, begins_atomic}
 use Rattle.sql_lex.specs.Stack.{StandsAnywhere, nests, popped, none_open}

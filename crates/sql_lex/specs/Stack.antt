@@ -1,7 +1,7 @@
 -- Soundness by a stack, which has of each open bracket, the innermost first, whether it is round.
 use Rattle.std.specs.Prelude.{◌≡◌, Bool, true, false, ◌&&◌, nat_le, if◌then◌else◌, List, [], ◌∷◌, length}
 use Rattle.sql_token.specs.declared.terminal.Terminal.{Terminal}
-use Rattle.sql_keyword.specs.declared.words.TheConstants.Keyword.{BEGIN}
+use Rattle.sql_token.specs.sql_keyword.declared.words.TheConstants.Keyword.{BEGIN}
 use Rattle.sql_token.specs.Terminal.{is_opener, is_closer, is_round, is_unicode_name, is_keyword}
 use Rattle.sql_token.specs.Sound.{same, begins_atomic}
 

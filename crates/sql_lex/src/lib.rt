@@ -24,3 +24,7 @@ pub use sound::is_sound;
 pub use spans::cut;
 pub use sql_token::span_of;
 pub use statements::Statements;
+
+// What crates above reach through this one.
+pub use sql_token::TokKind;
+pub use text_pos::NoMemory;

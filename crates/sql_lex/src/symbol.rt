@@ -1,11 +1,10 @@
 //! What a token is to the grammar.
 
 ghost use Rattle.std.specs.Prelude.{◌≡◌, ◌≢◌, slice_index};
-ghost use Rattle.sql_keyword.specs.Find.{keyword_of};
+ghost use Rattle.sql_token.specs.sql_keyword.Find.{keyword_of};
 ghost use Rattle.sql_token.specs.Terminal as spec;
 
-use sql_keyword::keyword_of;
-use sql_token::{Symbol, TokKind};
+use sql_token::{Symbol, TokKind, keyword_of};
 
 /// What a word is to the grammar.
 #[tactic(auto, unfolding(sql_token::specs::Terminal::symbol_of))]

@@ -1,7 +1,7 @@
 -- A symbol that opens no mark.
 use Rattle.std.proofs.Common.{◌≡◌, false, List, refl, Option, Some, None}
-use Rattle.sql_keyword.specs.declared.words.Keyword.{Keyword}
-use Rattle.sql_keyword.specs.declared.words.TheConstants.Keyword as keyword
+use Rattle.sql_token.specs.sql_keyword.declared.words.Keyword.{Keyword}
+use Rattle.sql_token.specs.sql_keyword.declared.words.TheConstants.Keyword as keyword
 use Rattle.sql_token.specs.declared.terminal.Symbol.{Symbol}
 use Rattle.sql_token.specs.declared.terminal.Symbol.TheVariants as s
 use Rattle.sql_token.specs.declared.terminal.Terminal.{Terminal}

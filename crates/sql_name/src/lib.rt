@@ -7,3 +7,6 @@ mod name;
 
 pub use full_name::FullName;
 pub use name::Name;
+
+// What crates above reach through this one.
+pub use text_pos::{LineEnding, LineIndex, NoMemory, TextRange, TextSize, line_ending};

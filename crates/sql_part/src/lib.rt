@@ -2,5 +2,4 @@
 //! constraints of a domain, the actions of an ALTER statement. This crate only passes them on, and nothing is built on it.
 #![tactic(auto)]
 
-pub use sql_action::read_actions;
-pub use sql_column::{read_domain, read_elems};
+pub use sql_action::{read_actions, read_domain, read_elems};

@@ -1,8 +1,8 @@
 -- Where one bracket list is all that follows the path of CREATE TABLE, no mark of its tail is at depth 0.
 use Rattle.std.proofs.Common.{◌≡◌, ℕ, suc, ◌+◌, ◌==◌, nat_lt, Bool, true, false, if◌then◌else◌, List, [], ◌∷◌, length, refl, arith, Option, Some, None}
 use Rattle.std.proofs.lemmas.Bool.{eqb-true, le-ltb}
-use Rattle.sql_keyword.specs.declared.words.Keyword.{Keyword}
-use Rattle.sql_keyword.specs.declared.words.TheConstants.Keyword as keyword
+use Rattle.sql_tree.specs.sql_keyword.declared.words.Keyword.{Keyword}
+use Rattle.sql_tree.specs.sql_keyword.declared.words.TheConstants.Keyword as keyword
 use Rattle.sql_token.specs.declared.terminal.Symbol.{Symbol}
 use Rattle.sql_token.specs.declared.terminal.Symbol.TheVariants as s
 use Rattle.sql_token.specs.declared.terminal.Terminal.{Terminal}

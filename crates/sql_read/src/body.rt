@@ -7,19 +7,18 @@ ghost use Rattle.sql_tree.specs.Statement as spec;
 ghost use Rattle.sql_tree.specs.Tails as tails;
 ghost use Rattle.sql_read.specs.Table.{table_of};
 
-use sql_action::read_actions_of;
-use sql_column::{drops_on_commit, read_domain_constraints, read_elements};
-use sql_mark::has_keyword;
+use sql_action::{
+    drops_on_commit, has_keyword, read_actions_of, read_domain_constraints, read_elements,
+};
 use sql_tail::{
     is_full_vacuum, last_cascade, lock_mode, parameter, read_paths, reindex, vacuum_tables,
 };
 use sql_token::{Keyword, Terminal};
 use sql_tree::forms::{BodyShape, Captures};
-use sql_tree::{Body, Elem, StmtKind};
+use sql_tree::{Body, Elem, NoMemory, StmtKind};
 use sql_write::{read_table_write, read_targets, read_view_definition};
 use sqlite_items::{Boxed, Items};
 use std::alloc::Global;
-use text_pos::NoMemory;
 
 /// What is kept of the statements of a kind.
 #[inline(always)]

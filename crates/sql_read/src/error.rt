@@ -1,6 +1,6 @@
 //! Why a text is not read.
 
-use text_pos::NoMemory;
+use sql_tree::NoMemory;
 use thiserror::Error;
 
 /// Why a text has no answer.

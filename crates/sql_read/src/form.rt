@@ -4,22 +4,21 @@ ghost use Rattle.std.specs.Prelude.{◌≡◌, IfOk};
 ghost use Rattle.std.specs.Option.{option_map};
 ghost use Rattle.sql_tree.specs.Forms.{at};
 ghost use Rattle.sql_tree.specs.Statement as spec;
-ghost use Rattle.sql_form.specs.Views.{front};
+ghost use Rattle.sql_action.specs.sql_form.Views.{front};
 ghost use Rattle.sql_read.specs.Pushes.{Pushes, stmt_of, form_with};
 
 use crate::body::{
     body_shape_of, end_body, final_kind, index_body, read_body, table_body, table_kind, table_of,
 };
-use sql_column::elements_inside;
-use sql_form::{nothing_kept, read_anything, read_front};
-use sql_lex::{is_sound, span_of};
-use sql_mark::{Mark, from_mark, inside_alone};
+use sql_action::{
+    Mark, elements_inside, from_mark, inside_alone, is_sound, nothing_kept, read_anything,
+    read_front, span_of,
+};
 use sql_token::{Keyword, Span, Symbol, Terminal};
 use sql_tree::forms::{BodyShape, Captures};
-use sql_tree::{Body, Stmt, StmtKind};
+use sql_tree::{Body, NoMemory, Stmt, StmtKind};
 use sqlite_items::Items;
 use std::alloc::Global;
-use text_pos::NoMemory;
 
 /// The terminals of a statement without its semicolon.
 #[tactic(auto, unfolding(sql_token::specs::Terminal::is_semicolon))]

@@ -7,12 +7,11 @@ ghost use Rattle.sql_read.specs.Cause.{Reads, IsCause, IsTreeOf, OkOrNoMemory, E
 
 use crate::error::LintError;
 use crate::form::push_statement;
-use sql_lex::{LexError, Statements, lex, span_of};
+use sql_action::{LexError, Statements, lex, span_of};
 use sql_token::{Terminal, Tok};
-use sql_tree::{Parse, SourceFile, Stmt};
+use sql_tree::{NoMemory, Parse, SourceFile, Stmt};
 use sqlite_items::Items;
 use std::alloc::{AllocError, Global};
-use text_pos::NoMemory;
 
 /// Why reading stopped: at the statement that begins with this token, or because memory ran out.
 #[derive(Clone, Copy, Debug, PartialEq, Eq)]

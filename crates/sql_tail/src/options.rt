@@ -4,7 +4,7 @@ ghost use Rattle.std.specs.Prelude.{◌≡◌};
 ghost use Rattle.sql_tree.specs.Tails as spec;
 ghost use Rattle.sql_tail.specs.Options.{test_of};
 
-use sql_mark::{Mark, Parts, begins_list, begins_with, closing};
+use sql_form::{Mark, Parts, begins_list, begins_with, closing};
 use sql_token::{Keyword, Symbol, Terminal};
 
 /// What an option is tested for.

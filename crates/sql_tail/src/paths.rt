@@ -5,11 +5,11 @@ ghost use Rattle.std.specs.Option.{option_map};
 ghost use Rattle.sql_tree.specs.Tails as spec;
 ghost use Rattle.sql_tail.specs.Paths.{next_name, beside};
 
-use sql_mark::path_first;
+use sql_form::path_first;
 use sql_token::{Span, Symbol, Terminal};
+use sql_tree::NoMemory;
 use sqlite_items::Items;
 use std::alloc::Global;
-use text_pos::NoMemory;
 
 /// The name after a comma or a dot: whether it is a comma, the number of the name, and what follows.
 #[tactic(auto, unfolding(crate::specs::Paths::next_name))]

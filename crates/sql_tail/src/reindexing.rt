@@ -5,7 +5,7 @@ ghost use Rattle.sql_tree.specs.Tails as spec;
 
 use crate::options::{OptionTest, after_flag, after_options, any_option};
 use crate::paths::whole_path;
-use sql_mark::{begins_with, inside_list};
+use sql_form::{begins_with, inside_list};
 use sql_token::{Keyword, Symbol, Terminal};
 use sql_tree::{Body, ReindexTarget};
 

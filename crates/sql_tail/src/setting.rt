@@ -3,7 +3,7 @@
 ghost use Rattle.std.specs.Prelude.{◌≡◌};
 ghost use Rattle.sql_tree.specs.Tails as spec;
 
-use sql_mark::path_first;
+use sql_form::path_first;
 use sql_token::{Keyword, Span, Symbol, Terminal};
 
 #[tactic(auto, unfolding(sql_tree::specs::Tails::begins_value))]

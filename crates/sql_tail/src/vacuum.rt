@@ -4,7 +4,7 @@ ghost use Rattle.std.specs.Prelude.{◌≡◌};
 ghost use Rattle.sql_tree.specs.Tails as spec;
 
 use crate::options::{OptionTest, after_flag, after_options, any_option};
-use sql_mark::{begins_with, inside_list};
+use sql_form::{begins_with, inside_list};
 use sql_token::{Keyword, Span, Terminal};
 
 /// Whether VACUUM is full, by what follows the word.

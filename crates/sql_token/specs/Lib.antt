@@ -6,3 +6,4 @@ pub mod Quote
 pub mod Sound
 pub mod Terminal
 pub mod Token
+pub use Rattle.sql_keyword.specs as sql_keyword

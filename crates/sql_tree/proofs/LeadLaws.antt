@@ -1,9 +1,9 @@
 -- The order of the rows, by computation.
 use Rattle.std.proofs.Common.{◌≡◌, true, refl}
-use Rattle.sql_keyword.specs.declared.words.Keyword.TheVariants as k
-use Rattle.sql_keyword.specs.declared.words.Verb.TheVariants as verbs
-use Rattle.sql_keyword.specs.declared.words.Other.TheVariants as others
-use Rattle.sql_keyword.specs.Same.{same_keyword}
+use Rattle.sql_token.specs.sql_keyword.declared.words.Keyword.TheVariants as k
+use Rattle.sql_token.specs.sql_keyword.declared.words.Verb.TheVariants as verbs
+use Rattle.sql_token.specs.sql_keyword.declared.words.Other.TheVariants as others
+use Rattle.sql_token.specs.sql_keyword.Same.{same_keyword}
 use Rattle.sql_tree.specs.declared.forms.Family.{Family}
 use Rattle.sql_tree.specs.declared.forms.Family.TheVariants as family
 use Rattle.sql_tree.specs.Forms.{words_of, family_of, family_first, create_rows, alter_rows, drop_rows, rows_of}

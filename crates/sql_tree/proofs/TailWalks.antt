@@ -2,13 +2,13 @@
 use Rattle.std.proofs.Common.{◌≡◌, ◌∙◌, ◌≤◌, ◌&&◌, if◌then◌else◌, cond, ℕ, zero, suc, Bool, true, false, List, [], ◌∷◌, length, map, refl, sym, ap, arith, rules, not, Option, Some, None}
 use Rattle.std.specs.Option.{option_and_then}
 use denote.Enum.Bare.{same_true}
-use Rattle.sql_keyword.specs.contracts.words.Verb as verb
-use Rattle.sql_keyword.specs.contracts.words.Object as object
-use Rattle.sql_keyword.specs.contracts.words.Other as other
-use Rattle.sql_keyword.specs.Same.{same_keyword}
-use Rattle.sql_keyword.specs.declared.words.Keyword.{Keyword}
-use Rattle.sql_keyword.specs.declared.words.Keyword.TheVariants as k
-use Rattle.sql_keyword.specs.declared.words.TheConstants.Keyword as keyword
+use Rattle.sql_token.specs.sql_keyword.contracts.words.Verb as verb
+use Rattle.sql_token.specs.sql_keyword.contracts.words.Object as object
+use Rattle.sql_token.specs.sql_keyword.contracts.words.Other as other
+use Rattle.sql_token.specs.sql_keyword.Same.{same_keyword}
+use Rattle.sql_token.specs.sql_keyword.declared.words.Keyword.{Keyword}
+use Rattle.sql_token.specs.sql_keyword.declared.words.Keyword.TheVariants as k
+use Rattle.sql_token.specs.sql_keyword.declared.words.TheConstants.Keyword as keyword
 use Rattle.sql_token.specs.declared.token.Span.{Span}
 use Rattle.sql_token.specs.declared.terminal.Symbol.{Symbol}
 use Rattle.sql_token.specs.declared.terminal.Symbol.TheVariants as s

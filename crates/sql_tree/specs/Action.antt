@@ -1,7 +1,7 @@
 -- The actions of ALTER statements (PostgreSQL manual, part VI, SQL Commands).
 use Rattle.std.specs.Prelude.{Bool, true, false, ◌||◌, if◌then◌else◌, List, [], ◌∷◌, map, Option, Some, None, is_some}
 use Rattle.std.specs.Option.{option_and_then}
-use Rattle.sql_keyword.specs.declared.words.TheConstants.Keyword as keyword
+use Rattle.sql_token.specs.sql_keyword.declared.words.TheConstants.Keyword as keyword
 use Rattle.sql_token.specs.declared.terminal.Symbol.{Symbol}
 use Rattle.sql_token.specs.declared.terminal.Symbol.TheVariants as s
 use Rattle.sql_token.specs.declared.terminal.Terminal.{Terminal}

@@ -1,9 +1,9 @@
 -- The rows that an ALTER action is read by.
 use Rattle.std.specs.Prelude.{List, [], map}
-use Rattle.sql_keyword.specs.declared.words.Keyword.{Keyword}
-use Rattle.sql_keyword.specs.declared.words.Keyword.TheVariants as k
-use Rattle.sql_keyword.specs.declared.words.Verb.TheVariants as verbs
-use Rattle.sql_keyword.specs.declared.words.Other.TheVariants as others
+use Rattle.sql_token.specs.sql_keyword.declared.words.Keyword.{Keyword}
+use Rattle.sql_token.specs.sql_keyword.declared.words.Keyword.TheVariants as k
+use Rattle.sql_token.specs.sql_keyword.declared.words.Verb.TheVariants as verbs
+use Rattle.sql_token.specs.sql_keyword.declared.words.Other.TheVariants as others
 use Rattle.sql_token.specs.declared.terminal.Symbol.{Symbol}
 use Rattle.sql_token.specs.declared.terminal.Symbol.TheVariants as s
 use Rattle.sql_tree.specs.declared.actions.TheConstants.{OWNER, SCHEMA, RENAME, TYPE, DOMAIN, SEQUENCE, FUNCTION, CONFIG, EXTENSION, POLICY, PUBLICATION, GROUP, PRIVILEGES, ADD, DROP, ALTER, RENAME_COLUMN, VALIDATE, DETACH, ENABLE, DISABLE, FORCE, NO, REPLICA, SET, RESET, CLUSTER}

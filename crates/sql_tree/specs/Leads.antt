@@ -5,9 +5,9 @@ use Rattle.std.specs.Prelude.{◌≡◌, Bool, true, false, not, ◌&&◌, List,
 use Rattle.std.specs.List.{flat_map, list_any, list_all}
 use Rattle.std.specs.Cmp.Lexicographic.{pointwise}
 use denote.Enum.Bare.{sameb}
-use Rattle.sql_keyword.specs.Same.{same_keyword}
-use Rattle.sql_keyword.specs.declared.words.Keyword.{Keyword}
-use Rattle.sql_keyword.specs.declared.words.TheConstants.Keyword as keyword
+use Rattle.sql_token.specs.sql_keyword.Same.{same_keyword}
+use Rattle.sql_token.specs.sql_keyword.declared.words.Keyword.{Keyword}
+use Rattle.sql_token.specs.sql_keyword.declared.words.TheConstants.Keyword as keyword
 use Rattle.sql_token.specs.declared.terminal.Terminal.{Terminal}
 use Rattle.sql_tree.specs.contracts.kinds.StmtKind as kinds
 use Rattle.sql_tree.specs.declared.forms.Family.{Family}

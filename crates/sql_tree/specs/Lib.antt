@@ -19,3 +19,7 @@ pub mod Write
 pub mod Tails
 pub mod Nodes
 pub mod Leads
+pub use Rattle.sql_token.specs.sql_keyword
+pub use Rattle.sql_name.specs as sql_name
+pub use Rattle.sql_token.specs as sql_token
+pub use Rattle.sql_name.specs.text_pos

@@ -1,6 +1,6 @@
 -- Ranges of statements and of slices of tokens, in bytes.
 use Rattle.std.specs.Prelude.{ℕ, List, max, slice_index_or}
-use Rattle.text_pos.specs.Range.{Range}
+use Rattle.sql_name.specs.text_pos.Range.{Range}
 use Rattle.sql_token.specs.declared.token.Tok.{Tok}
 use Rattle.sql_tree.specs.declared.nodes.Stmt.{Stmt}
 use Rattle.sql_tree.specs.Statement.{no_token}

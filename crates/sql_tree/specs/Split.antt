@@ -1,12 +1,12 @@
 -- Lists of terminals, split at marks of depth 0.
 -- Depth is counted from the start of the list, by the two counts of openers and closers.
 use Rattle.std.specs.Prelude.{◌≡◌, ◌≤◌, ℕ, suc, ◌+◌, ◌==◌, nat_lt, Bool, true, false, not, ◌&&◌, ◌||◌, if◌then◌else◌, List, [], ◌∷◌, length, take, drop, Option, Some, None}
-use Rattle.sql_keyword.specs.declared.words.Keyword.{Keyword}
-use Rattle.sql_keyword.specs.declared.words.Keyword.TheVariants as k
-use Rattle.sql_keyword.specs.declared.words.Verb.TheVariants as verbs
-use Rattle.sql_keyword.specs.declared.words.Object.TheVariants as objects
-use Rattle.sql_keyword.specs.declared.words.Other.TheVariants as others
-use Rattle.sql_keyword.specs.declared.words.TheConstants.Keyword as keyword
+use Rattle.sql_token.specs.sql_keyword.declared.words.Keyword.{Keyword}
+use Rattle.sql_token.specs.sql_keyword.declared.words.Keyword.TheVariants as k
+use Rattle.sql_token.specs.sql_keyword.declared.words.Verb.TheVariants as verbs
+use Rattle.sql_token.specs.sql_keyword.declared.words.Object.TheVariants as objects
+use Rattle.sql_token.specs.sql_keyword.declared.words.Other.TheVariants as others
+use Rattle.sql_token.specs.sql_keyword.declared.words.TheConstants.Keyword as keyword
 use Rattle.sql_token.specs.declared.terminal.Symbol.{Symbol}
 use Rattle.sql_token.specs.declared.terminal.Symbol.TheVariants as s
 use Rattle.sql_token.specs.declared.terminal.Terminal.{Terminal}

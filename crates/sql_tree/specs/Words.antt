@@ -1,10 +1,10 @@
 -- Classes of words (PostgreSQL manual, ALTER SEQUENCE and ALTER FUNCTION).
 use Rattle.std.specs.Prelude.{Bool, true, false}
-use Rattle.sql_keyword.specs.declared.words.Keyword.{Keyword}
-use Rattle.sql_keyword.specs.declared.words.Keyword.TheVariants as k
-use Rattle.sql_keyword.specs.declared.words.Verb.TheVariants as verbs
-use Rattle.sql_keyword.specs.declared.words.Object.TheVariants as objects
-use Rattle.sql_keyword.specs.declared.words.Other.TheVariants as others
+use Rattle.sql_token.specs.sql_keyword.declared.words.Keyword.{Keyword}
+use Rattle.sql_token.specs.sql_keyword.declared.words.Keyword.TheVariants as k
+use Rattle.sql_token.specs.sql_keyword.declared.words.Verb.TheVariants as verbs
+use Rattle.sql_token.specs.sql_keyword.declared.words.Object.TheVariants as objects
+use Rattle.sql_token.specs.sql_keyword.declared.words.Other.TheVariants as others
 use Rattle.sql_token.specs.declared.terminal.Symbol.{Symbol}
 use Rattle.sql_token.specs.declared.terminal.Symbol.TheVariants as s
 use Rattle.sql_token.specs.declared.terminal.Terminal.{Terminal}

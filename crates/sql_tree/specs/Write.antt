@@ -2,11 +2,11 @@
 use Rattle.std.specs.Prelude.{ℕ, ◌-◌, ◌==◌, Bool, true, false, not, ◌&&◌, ◌||◌, if◌then◌else◌, List, [], ◌∷◌, length, drop, map, option_to_list, Option, Some, None}
 use Rattle.std.specs.List.{filter_map}
 use Rattle.std.specs.Option.{option_and_then}
-use Rattle.sql_keyword.specs.declared.words.Keyword.{Keyword}
-use Rattle.sql_keyword.specs.declared.words.Keyword.TheVariants as k
-use Rattle.sql_keyword.specs.declared.words.Verb.TheVariants as verbs
-use Rattle.sql_keyword.specs.declared.words.Object.TheVariants as objects
-use Rattle.sql_keyword.specs.declared.words.TheConstants.Keyword as keyword
+use Rattle.sql_token.specs.sql_keyword.declared.words.Keyword.{Keyword}
+use Rattle.sql_token.specs.sql_keyword.declared.words.Keyword.TheVariants as k
+use Rattle.sql_token.specs.sql_keyword.declared.words.Verb.TheVariants as verbs
+use Rattle.sql_token.specs.sql_keyword.declared.words.Object.TheVariants as objects
+use Rattle.sql_token.specs.sql_keyword.declared.words.TheConstants.Keyword as keyword
 use Rattle.sql_token.specs.declared.token.Span.{Span}
 use Rattle.sql_token.specs.declared.terminal.Symbol.{Symbol}
 use Rattle.sql_token.specs.declared.terminal.Symbol.TheVariants as s

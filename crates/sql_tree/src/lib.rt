@@ -24,3 +24,7 @@ pub use path::NamePath;
 pub use shape::Shape;
 pub use sql_name::{FullName, Name};
 pub use sql_token::{Keyword, Span, Symbol, Terminal, Tok, TokKind};
+
+// What crates above reach through this one.
+pub use sql_name::{LineEnding, LineIndex, NoMemory, TextRange, TextSize, line_ending};
+pub use sql_token::{first_significant, keyword_of, same_keyword};

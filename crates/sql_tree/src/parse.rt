@@ -1,15 +1,15 @@
 //! A text with its tokens and its tree.
 
 ghost use Rattle.std.specs.Prelude.{◌≡◌, ◌<◌, ◌≤◌, ◌-◌, length, slice_get, Some, take, drop};
-ghost use Rattle.text_pos.specs.Range.{Range};
+ghost use Rattle.sql_name.specs.text_pos.Range.{Range};
 ghost use Rattle.sql_token.specs.Token.{text_of};
 ghost use Rattle.sql_tree.specs.Statement.{Tree, IsTree};
 ghost use Rattle.sql_tree.specs.Range.{token_at, span_range_of, stmt_range_of};
 
 use crate::nodes::{SourceFile, Stmt};
+use sql_name::{TextRange, TextSize};
 use sql_token::{Tok, TokKind};
 use std::marker::Model;
-use text_pos::{TextRange, TextSize};
 
 /// A text, its tokens and its tree: the one tree that the text has.
 #[derive(Drop)]

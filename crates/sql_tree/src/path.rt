@@ -8,12 +8,11 @@ ghost use Rattle.sql_tree.specs.PathNames.{names_of};
 
 use crate::parse::Parse;
 use smallvec::SmallVec;
-use sql_name::Name;
+use sql_name::{Name, NoMemory};
 use sql_token::Span;
 use std::alloc::Global;
 use std::cmp::Ordering;
 use std::hash::{Hash, Hasher};
-use text_pos::NoMemory;
 
 /// The names of a path, which borrow from the text. Two paths are equal where their names are, one by one; paths are ordered
 /// by the first names that differ. Only what PostgreSQL tells names apart by counts.

@@ -1,8 +1,8 @@
 -- The bracket groups [ .. ] that end a list, told in one walk.
 use Rattle.std.proofs.Common.{◌≡◌, ◌<◌, ◌≤◌, ◌+◌, ◌==◌, ℕ, suc, nat_lt, Bool, true, false, not, ◌&&◌, ◌||◌, if◌then◌else◌, cond, List, [], ◌∷◌, length, refl, ap, arith, Option, Some, None}
-use Rattle.sql_token.specs.declared.terminal.Terminal.{Terminal}
-use Rattle.sql_token.specs.Terminal.{is_opener, is_closer}
-use Rattle.sql_token.specs.Depth.{one_if}
+use Rattle.sql_tree.specs.sql_token.declared.terminal.Terminal.{Terminal}
+use Rattle.sql_tree.specs.sql_token.Terminal.{is_opener, is_closer}
+use Rattle.sql_tree.specs.sql_token.Depth.{one_if}
 use Rattle.sql_tree.specs.Groups.{is_open_square_symbol}
 use Rattle.sql_tree.specs.Split.{Test, before_from, before, has}
 use Rattle.sql_tree.specs.ColumnType.{no_group, only_groups, before_groups}

@@ -6,8 +6,7 @@ ghost use Rattle.sql_tree.specs.Groups.{is_open_square_symbol};
 
 use crate::plain::plain_type;
 use sql_mark::{Mark, begins_with, closing, span_of, terminals_before};
-use sql_token::{Keyword, Symbol, Terminal};
-use sql_tree::ColType;
+use sql_tree::{ColType, Keyword, Symbol, Terminal};
 
 /// How many terminals of a column after its name are its type.
 #[tactic(auto, unfolding(sql_tree::specs::ColumnType::type_len))]

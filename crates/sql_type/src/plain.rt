@@ -5,8 +5,7 @@ ghost use Rattle.std.specs.Option.{option_map};
 ghost use Rattle.sql_tree.specs.ColumnType as spec;
 
 use sql_mark::{begins_list, begins_with, closing, is_list, path_first, span_of};
-use sql_token::{Keyword, Span, Symbol, Terminal};
-use sql_tree::{ColType, TyKind};
+use sql_tree::{ColType, Keyword, Span, Symbol, Terminal, TyKind};
 
 fn plain_of(kind: TyKind, name: u32, place: Span, args: Option<Span>, with_zone: bool) -> ColType
     ensures { result ≡ spec.plain_of kind name place args with_zone }

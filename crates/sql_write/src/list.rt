@@ -4,13 +4,10 @@ ghost use Rattle.std.specs.Prelude.{◌≡◌, IfOk, drop};
 ghost use Rattle.sql_tree.specs.Write as spec;
 
 use crate::target::targets_between;
-use sql_constraint::put;
-use sql_mark::{Mark, Parts, WriteMark, begins_list, inside_list};
-use sql_token::{Keyword, Symbol, Terminal};
-use sql_tree::{StmtKind, Target};
+use sql_constraint::{Mark, Parts, WriteMark, begins_list, inside_list, put};
+use sql_tree::{Keyword, NoMemory, StmtKind, Symbol, Target, Terminal};
 use sqlite_items::Items;
 use std::alloc::Global;
-use text_pos::NoMemory;
 
 fn is_query_word(word: Keyword) -> bool
     ensures { result ≡ spec.is_query_word word }

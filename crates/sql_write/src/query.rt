@@ -2,19 +2,17 @@
 
 ghost use Rattle.std.specs.Prelude.{◌≡◌, IfOk};
 ghost use Rattle.std.specs.Option.{option_and_then};
-ghost use Rattle.sql_keyword.specs.declared.words.TheConstants.Keyword as keyword;
+ghost use Rattle.sql_tree.specs.sql_keyword.declared.words.TheConstants.Keyword as keyword;
 ghost use Rattle.sql_tree.specs.Forms.{after_word};
 ghost use Rattle.sql_tree.specs.Split.{after_list};
 ghost use Rattle.sql_tree.specs.Write as spec;
 
-use sql_constraint::make_room;
-use sql_form::after_word;
-use sql_mark::{Mark, Parts, WriteMark, after_list, names_from, until};
-use sql_token::{Keyword, Terminal};
-use sql_tree::Target;
+use sql_constraint::{
+    Mark, Parts, WriteMark, after_list, after_word, make_room, names_from, until,
+};
+use sql_tree::{Keyword, NoMemory, Target, Terminal};
 use sqlite_items::Items;
 use std::alloc::Global;
-use text_pos::NoMemory;
 
 fn name_after_as(terminals: &[Terminal]) -> Option<u32>
     ensures { result ≡ spec.name_after_as terminals.now }

@@ -1,19 +1,17 @@
 //! SET clauses (PostgreSQL manual, UPDATE, INSERT and MERGE).
 
 ghost use Rattle.std.specs.Prelude.{◌≡◌, IfOk, drop};
-ghost use Rattle.sql_mark.specs.Marks.{test_of};
+ghost use Rattle.sql_constraint.specs.sql_mark.Marks.{test_of};
 ghost use Rattle.sql_tree.specs.Write as spec;
 
 use crate::target::{target, targets_between};
-use sql_constraint::{make_room, put};
-use sql_mark::{
-    Mark, Parts, WriteMark, from_mark, inside_list, is_list, span_of, terminals_before, until,
+use sql_constraint::{
+    Mark, Parts, WriteMark, from_mark, inside_list, is_list, make_room, put, span_of,
+    terminals_before, until,
 };
-use sql_token::{Keyword, Terminal};
-use sql_tree::{SetPart, StmtKind, Target};
+use sql_tree::{Keyword, NoMemory, SetPart, StmtKind, Target, Terminal};
 use sqlite_items::Items;
 use std::alloc::Global;
-use text_pos::NoMemory;
 
 /// What comes before the first `=`; nothing, where there is none.
 #[tactic(auto, unfolding(sql_tree::specs::Write::assigned))]

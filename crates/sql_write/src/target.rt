@@ -4,13 +4,10 @@ ghost use Rattle.std.specs.Prelude.{◌≡◌, not, IfOk};
 ghost use Rattle.sql_tree.specs.Split.{has};
 ghost use Rattle.sql_tree.specs.Write as spec;
 
-use sql_constraint::make_room;
-use sql_mark::{Mark, Parts};
-use sql_token::{Symbol, Terminal};
-use sql_tree::Target;
+use sql_constraint::{Mark, Parts, make_room};
+use sql_tree::{NoMemory, Symbol, Target, Terminal};
 use sqlite_items::Items;
 use std::alloc::Global;
-use text_pos::NoMemory;
 
 fn is_after_dot(earlier: Option<Terminal>) -> bool
     ensures { result ≡ spec.is_after_dot earlier }

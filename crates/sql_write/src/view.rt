@@ -5,13 +5,10 @@ ghost use Rattle.sql_tree.specs.Split.{all_of, split, comma};
 ghost use Rattle.sql_tree.specs.Write as spec;
 
 use crate::query::read_targets;
-use sql_constraint::make_room;
-use sql_mark::{Mark, Parts, begins_list, from_mark, inside_list};
-use sql_token::{Keyword, Terminal};
-use sql_tree::{Target, ViewDefinition};
+use sql_constraint::{Mark, Parts, begins_list, from_mark, inside_list, make_room};
+use sql_tree::{Keyword, NoMemory, Target, Terminal, ViewDefinition};
 use sqlite_items::Items;
 use std::alloc::Global;
-use text_pos::NoMemory;
 
 #[tactic(auto, unfolding(sql_tree::specs::Write::column_name))]
 fn column_name(terminals: &[Terminal]) -> Option<Target>

@@ -5,10 +5,8 @@ ghost use Rattle.sql_tree.specs.Write as spec;
 
 use crate::list::lists_of;
 use crate::set::sets_of;
-use sql_token::{Span, Terminal};
-use sql_tree::{StmtKind, TableWrite};
+use sql_tree::{NoMemory, Span, StmtKind, TableWrite, Terminal};
 use std::alloc::Global;
-use text_pos::NoMemory;
 
 /// What INSERT, UPDATE or MERGE writes, by its table and what follows: each SET clause, and each list of columns. Of
 /// any other kind, nothing.

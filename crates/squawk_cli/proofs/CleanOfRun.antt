@@ -2,7 +2,7 @@
 use Rattle.std.proofs.Common.{◌≡◌, ◌∙◌, ℕ, Bool, true, false, List, [], ap, sym, subst, Option, Some, None, IfSome}
 use Rattle.std.specs.Prelude.{is_some}
 use Rattle.std.specs.Str.{IsUtf8}
-use Rattle.sql_tree.specs.Statement.{Tree}
+use Rattle.squawk_linter.specs.sql_tree.Statement.{Tree}
 use Rattle.squawk_linter.specs.Assessments.{Assessment, assessment}
 use Rattle.squawk_linter.specs.CleanAnswers.{CleanAnswersWorkAlone, IsCleanAnswer, WorksAlone}
 use Rattle.squawk_cli.specs.declared.config.Config.{Config}

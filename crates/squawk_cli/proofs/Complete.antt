@@ -2,13 +2,13 @@
 use Rattle.std.proofs.Common.{◌≡◌, ℕ, ◌≤◌, ◌^◌, List, length, None, Some, IfSome, ap, refl, subst, arith}
 use Rattle.std.specs.declared.option.Option.{Option}
 use Rattle.std.specs.Str.{IsUtf8}
-use Rattle.squawk_stream.specs.Faults.{Rose}
-use Rattle.squawk_words.specs.Choices.{IsAccepted}
-use Rattle.squawk_generate.specs.Made.{made}
-use Rattle.sql_token.specs.Token.{Text, Lexed}
-use Rattle.sql_token.proofs.TokenLaws as tokens
-use Rattle.sql_tree.specs.Statement.{IsValid}
-use Rattle.sql_tree.proofs.TreeLaws as tree
+use Rattle.squawk_run.specs.devices.Faults.{Rose}
+use Rattle.squawk_run.specs.squawk_words.Choices.{IsAccepted}
+use Rattle.law_made_texts.specs.squawk_generate.Made.{made}
+use Rattle.squawk_linter.specs.sql_token.Token.{Text, Lexed}
+use Rattle.squawk_linter.proofs.of_sql_token.TokenLaws as tokens
+use Rattle.squawk_linter.specs.sql_tree.Statement.{IsValid}
+use Rattle.squawk_linter.proofs.of_sql_tree.TreeLaws as tree
 use Rattle.squawk_run.proofs.Runs.{took_fits}
 use Rattle.squawk_run.specs.Ends as ends
 use Rattle.squawk_run.specs.Statuses.{end_of}

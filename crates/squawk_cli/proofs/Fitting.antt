@@ -2,16 +2,16 @@
 use Rattle.std.proofs.Common.{◌≡◌, ◌<◌, ◌≤◌, ◌^◌, ℕ, List, [], ◌∷◌, length, arith, Option, Some, None, IfSome}
 use Rattle.std.proofs.lemmas.List.Elements.{All-head, All-tail}
 use Rattle.std.specs.Prelude.{All}
-use Rattle.sql_token.specs.Token.{Text}
-use Rattle.text_pos.specs.Range.{Range}
-use Rattle.lint_base.specs.declared.edit.Edit.{Edit}
-use Rattle.lint_base.specs.declared.violation.Violation.{Violation}
-use Rattle.lint_base.specs.Fixes.{FixValue}
-use Rattle.lint_ignore.specs.Places.{IsPlace}
-use Rattle.lint_pass.specs.Laws.{AreEdits}
+use Rattle.squawk_linter.specs.sql_token.Token.{Text}
+use Rattle.squawk_linter.specs.text_pos.Range.{Range}
+use Rattle.squawk_linter.specs.lint_base.declared.edit.Edit.{Edit}
+use Rattle.squawk_linter.specs.lint_base.declared.violation.Violation.{Violation}
+use Rattle.squawk_linter.specs.lint_base.Fixes.{FixValue}
+use Rattle.squawk_linter.specs.lint_ignore.Places.{IsPlace}
+use Rattle.squawk_linter.specs.lint_pass.Laws.{AreEdits}
 use Rattle.squawk_linter.specs.Answers.{reports}
 use Rattle.squawk_linter.specs.Placed.{AnswersPlaced, IsPlaced}
-use Rattle.squawk_print.specs.PrintedForm.{AllFit, EditsFit, FixFits, PrintedTellsApart, RangeFits}
+use Rattle.squawk_print_locks.specs.squawk_print.PrintedForm.{AllFit, EditsFit, FixFits, PrintedTellsApart, RangeFits}
 use Rattle.squawk_cli.specs.PrintedAnswers.{AnswersFit, PrintedAnswersTellApart}
 
 place_fits : (text : Text) (range : Range) → length text < 2 ^ 32 → IsPlace text range → RangeFits range

@@ -3,8 +3,8 @@ use Rattle.std.proofs.Common.{◌≡◌, ◌≤◌, ℕ, List, Bool, true, false
 use Rattle.std.specs.Prelude.{nat_le, option_map, option_and_then}
 use Rattle.std.specs.Str.Parse.{digits_value}
 use Rattle.std.proofs.lemmas.Bool.{and_parts}
-use Rattle.squawk_words.specs.Choices.{Said, choices_by, choices_of, groups, groups_by, is_numeral, names_by, rules_by, said_of, version_by}
-use Rattle.squawk_words.specs.Words.{Text}
+use Rattle.squawk_run.specs.squawk_words.Choices.{Said, choices_by, choices_of, groups, groups_by, is_numeral, names_by, rules_by, said_of, version_by}
+use Rattle.squawk_run.specs.squawk_words.Words.{Text}
 use Rattle.squawk_cli.specs.declared.config.Config.{Config}
 use Rattle.squawk_cli.specs.Config.{config_by, config_of}
 

@@ -1,9 +1,9 @@
 -- A run prints the headline: of a text there is one tree, and of the words one configuration.
 use Rattle.std.proofs.Common.{◌≡◌, ◌∙◌, ℕ, Bool, true, false, List, [], refl, ap, sym, Option, Some, None, IfSome}
 use Rattle.std.specs.Prelude.{is_some}
-use Rattle.sql_tree.proofs.TreeLaws.{one_tree}
-use Rattle.sql_tree.specs.Statement.{Tree}
-use Rattle.lint_base.specs.declared.violation.Violation.{Violation}
+use Rattle.squawk_linter.proofs.of_sql_tree.TreeLaws.{one_tree}
+use Rattle.squawk_linter.specs.sql_tree.Statement.{Tree}
+use Rattle.squawk_linter.specs.lint_base.declared.violation.Violation.{Violation}
 use Rattle.squawk_linter.specs.Answers.{reports}
 use Rattle.squawk_linter.specs.Assessments.{Assessment, assessment}
 use Rattle.squawk_linter.specs.Headline.{headline_of}

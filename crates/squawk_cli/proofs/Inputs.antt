@@ -1,12 +1,12 @@
 -- What is found in an input, and what that says of a run.
 use Rattle.std.proofs.Common.{◌≡◌, ◌≢◌, ◌∙◌, ◌<◌, ◌^◌, sym, ap, refl, subst, ℕ, Bool, true, false, true≢false, List, [], Option, Some, None}
 use Rattle.std.specs.Prelude.{◌↔◌, IfSome, IsTrue, length, option_and_then}
-use Rattle.sql_tree.specs.Statement.{IsValid}
+use Rattle.squawk_linter.specs.sql_tree.Statement.{IsValid}
 use Rattle.std.specs.Io.KnownBytes.{Appends}
-use Rattle.squawk_stream.specs.Parts.{AppendsPart}
-use Rattle.lint_base.specs.declared.settings.LinterSettings.{LinterSettings}
-use Rattle.lint_base.specs.declared.violation.Violation.{Violation}
-use Rattle.lint_base.specs.RuleSets.{Rules}
+use Rattle.squawk_run.specs.devices.Parts.{AppendsPart}
+use Rattle.squawk_linter.specs.lint_base.declared.settings.LinterSettings.{LinterSettings}
+use Rattle.squawk_linter.specs.lint_base.declared.violation.Violation.{Violation}
+use Rattle.squawk_linter.specs.lint_base.RuleSets.{Rules}
 use Rattle.squawk_linter.specs.Answers.{IsAnswer}
 use Rattle.squawk_run.proofs.Runs.{where_same}
 use Rattle.squawk_cli.specs.declared.config.Config.{Config}

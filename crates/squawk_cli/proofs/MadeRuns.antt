@@ -2,14 +2,14 @@
 use Rattle.std.proofs.Common.{◌≡◌, ◌≤◌, ℕ, List, Option, Some, None, IfSome, IsSome, refl, ap, subst, sym, arith}
 use Rattle.std.specs.Prelude.{option_and_then, option_map}
 use Rattle.std.specs.Str.{IsUtf8}
-use Rattle.sql_token.specs.Token.{Text, Lexed}
-use Rattle.sql_token.proofs.TokenLaws as tokens
-use Rattle.sql_tree.specs.Statement.{IsValid}
-use Rattle.sql_tree.proofs.TreeLaws as tree
-use Rattle.squawk_generate.specs.Made.{made}
+use Rattle.squawk_linter.specs.sql_token.Token.{Text, Lexed}
+use Rattle.squawk_linter.proofs.of_sql_token.TokenLaws as tokens
+use Rattle.squawk_linter.specs.sql_tree.Statement.{IsValid}
+use Rattle.squawk_linter.proofs.of_sql_tree.TreeLaws as tree
+use Rattle.law_made_texts.specs.squawk_generate.Made.{made}
 use Rattle.law_made_texts.specs.Valid.{MadeIsValid}
-use Rattle.squawk_words.specs.declared.choices.Choices.{Choices}
-use Rattle.squawk_words.specs.Choices.{IsAccepted, choices_of}
+use Rattle.squawk_run.specs.squawk_words.declared.choices.Choices.{Choices}
+use Rattle.squawk_run.specs.squawk_words.Choices.{IsAccepted, choices_of}
 use Rattle.squawk_cli.specs.declared.config.Config.{Config}
 use Rattle.squawk_run.specs.declared.status.Status.{Status}
 use Rattle.squawk_run.specs.declared.status.Status.TheVariants.{Clean, Found, BadArguments, NotUtf8, TooLong, Unterminated, Syntax, ReadFault, WriteFault, NoMemory}

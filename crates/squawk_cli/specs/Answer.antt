@@ -1,7 +1,7 @@
 -- What a run reports and finds: what the linter answers that its words name.
 use Rattle.std.specs.Prelude.{◌≡◌, ℕ, List, Some}
-use Rattle.sql_token.specs.Token.{Text}
-use Rattle.lint_base.specs.declared.violation.Violation.{Violation}
+use Rattle.squawk_linter.specs.sql_token.Token.{Text}
+use Rattle.squawk_linter.specs.lint_base.declared.violation.Violation.{Violation}
 use Rattle.squawk_linter.specs.Answers.{IsAnswer}
 use Rattle.squawk_cli.specs.declared.config.Config.{Config}
 use Rattle.squawk_cli.specs.Config.{config_of}

@@ -2,9 +2,9 @@
 use Rattle.std.specs.Prelude.{◌≡◌, ℕ, List, [], Some, IfSome, is_some, ⊤}
 use Rattle.std.specs.declared.option.Option.{Option}
 use Rattle.std.specs.Io.KnownBytes.{Appends}
-use Rattle.sql_token.specs.Token.{Text}
-use Rattle.sql_tree.specs.Statement.{Tree}
-use Rattle.sql_read.specs.Cause.{IsTreeOf}
+use Rattle.squawk_linter.specs.sql_token.Token.{Text}
+use Rattle.squawk_linter.specs.sql_tree.Statement.{Tree}
+use Rattle.squawk_linter.specs.sql_read.Cause.{IsTreeOf}
 use Rattle.squawk_linter.specs.CleanAnswers.{IsCleanAnswer, WorksAlone}
 use Rattle.squawk_cli.specs.declared.config.Config.{Config}
 use Rattle.squawk_run.specs.declared.status.Status.{Status}

@@ -1,7 +1,7 @@
 -- The configuration that words name.
 use Rattle.std.specs.Prelude.{ℕ, List, Option, option_map}
-use Rattle.squawk_words.specs.declared.choices.Choices.{Choices}
-use Rattle.squawk_words.specs.Choices.{choices_of}
+use Rattle.squawk_run.specs.squawk_words.declared.choices.Choices.{Choices}
+use Rattle.squawk_run.specs.squawk_words.Choices.{choices_of}
 use Rattle.squawk_cli.specs.declared.config.Config.{Config}
 
 -- the linter with what is chosen

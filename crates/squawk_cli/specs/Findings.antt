@@ -1,12 +1,12 @@
 -- What a run finds in a text.
 use Rattle.std.specs.Prelude.{◌≡◌, Bool, List, Option, Some, None, if◌then◌else◌}
-use Rattle.sql_token.specs.Token.{Text}
-use Rattle.sql_tree.specs.Statement.{Tree}
-use Rattle.sql_read.specs.Cause.{IsTreeOf}
-use Rattle.lint_base.specs.declared.settings.LinterSettings.{LinterSettings}
-use Rattle.lint_base.specs.declared.violation.Violation.{Violation}
-use Rattle.lint_base.specs.RuleSets.{Rules}
-use Rattle.lock_machine.specs.declared.work.Work.{Work}
+use Rattle.squawk_linter.specs.sql_token.Token.{Text}
+use Rattle.squawk_linter.specs.sql_tree.Statement.{Tree}
+use Rattle.squawk_linter.specs.sql_read.Cause.{IsTreeOf}
+use Rattle.squawk_linter.specs.lint_base.declared.settings.LinterSettings.{LinterSettings}
+use Rattle.squawk_linter.specs.lint_base.declared.violation.Violation.{Violation}
+use Rattle.squawk_linter.specs.lint_base.RuleSets.{Rules}
+use Rattle.squawk_linter.specs.lock_machine.declared.work.Work.{Work}
 use Rattle.squawk_linter.specs.Assessments.{Assessment, assessment}
 
 -- the work of a text under locks, in order, and whether the text is plain

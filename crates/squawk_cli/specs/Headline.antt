@@ -2,10 +2,10 @@
 use Rattle.std.specs.Prelude.{◌≡◌, ◌≢◌, ℕ, List, [], Some, is_some, ⊤}
 use Rattle.std.specs.declared.option.Option.{Option}
 use Rattle.std.specs.Io.KnownBytes.{Appends}
-use Rattle.sql_token.specs.Token.{Text}
-use Rattle.sql_tree.specs.Statement.{Tree}
-use Rattle.sql_read.specs.Cause.{IsTreeOf}
-use Rattle.lint_base.specs.declared.violation.Violation.{Violation}
+use Rattle.squawk_linter.specs.sql_token.Token.{Text}
+use Rattle.squawk_linter.specs.sql_tree.Statement.{Tree}
+use Rattle.squawk_linter.specs.sql_read.Cause.{IsTreeOf}
+use Rattle.squawk_linter.specs.lint_base.declared.violation.Violation.{Violation}
 use Rattle.squawk_linter.specs.Headline.{HasNoIgnoreComment, headline_of, headline_reports}
 use Rattle.squawk_linter.specs.Reports.{cleared}
 use Rattle.squawk_cli.specs.declared.config.Config.{Config}

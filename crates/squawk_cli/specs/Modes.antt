@@ -2,12 +2,12 @@
 -- `--locks` the work under locks after the printed reports.
 use Rattle.std.specs.Prelude.{ℕ, List, ◌++◌, Some, None, option_and_then}
 use Rattle.std.specs.declared.option.Option.{Option}
-use Rattle.sql_token.specs.Token.{Text}
-use Rattle.lint_base.specs.declared.violation.Violation.{Violation}
-use Rattle.squawk_generate.specs.Made.{made}
-use Rattle.squawk_generate.specs.Summary.{summary}
+use Rattle.squawk_linter.specs.sql_token.Token.{Text}
+use Rattle.squawk_linter.specs.lint_base.declared.violation.Violation.{Violation}
+use Rattle.law_made_texts.specs.squawk_generate.Made.{made}
+use Rattle.law_made_texts.specs.squawk_generate.Summary.{summary}
 use Rattle.squawk_print_locks.specs.PrintedLocks.{printed_locks}
-use Rattle.squawk_print.specs.Printed.{printed}
+use Rattle.squawk_print_locks.specs.squawk_print.Printed.{printed}
 use Rattle.squawk_cli.specs.Config.{config_of}
 use Rattle.squawk_cli.specs.Findings.{FindingsValue, LocksValue}
 

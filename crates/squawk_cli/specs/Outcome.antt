@@ -3,11 +3,11 @@ use Rattle.std.specs.Prelude.{◌≡◌, ◌≢◌, ℕ, ◌^◌, ◌<◌, List,
 use Rattle.std.specs.declared.option.Option.{Option}
 use Rattle.std.specs.Str.{IsUtf8}
 use Rattle.std.specs.Io.KnownBytes.{Appends}
-use Rattle.squawk_stream.specs.Parts.{AppendsPart}
-use Rattle.sql_token.specs.Token.{OpenAt}
-use Rattle.sql_tree.specs.Statement.{IsValid, IsSyntaxAt}
-use Rattle.lint_base.specs.declared.violation.Violation.{Violation}
-use Rattle.squawk_words.specs.Choices.{IsAccepted}
+use Rattle.squawk_run.specs.devices.Parts.{AppendsPart}
+use Rattle.squawk_linter.specs.sql_token.Token.{OpenAt}
+use Rattle.squawk_linter.specs.sql_tree.Statement.{IsValid, IsSyntaxAt}
+use Rattle.squawk_linter.specs.lint_base.declared.violation.Violation.{Violation}
+use Rattle.squawk_run.specs.squawk_words.Choices.{IsAccepted}
 use Rattle.squawk_run.specs.Ends as ends
 use Rattle.squawk_run.specs.Statuses.{end_of}
 use Rattle.squawk_cli.specs.Answer.{AreFindings, AreReports}

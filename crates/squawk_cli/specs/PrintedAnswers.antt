@@ -1,12 +1,12 @@
 -- The printed form of an answer determines the answer.
 use Rattle.std.specs.Prelude.{◌≡◌, ℕ, List, ◌++◌}
-use Rattle.sql_tree.specs.Statement.{Tree}
-use Rattle.lint_base.specs.declared.settings.LinterSettings.{LinterSettings}
-use Rattle.lint_base.specs.RuleSets.{Rules}
-use Rattle.lint_pass.specs.Laws.{IsRead}
+use Rattle.squawk_linter.specs.sql_tree.Statement.{Tree}
+use Rattle.squawk_linter.specs.lint_base.declared.settings.LinterSettings.{LinterSettings}
+use Rattle.squawk_linter.specs.lint_base.RuleSets.{Rules}
+use Rattle.squawk_linter.specs.lint_pass.Laws.{IsRead}
 use Rattle.squawk_linter.specs.Answers.{reports}
-use Rattle.squawk_print.specs.Printed.{printed}
-use Rattle.squawk_print.specs.PrintedForm.{AllFit}
+use Rattle.squawk_print_locks.specs.squawk_print.Printed.{printed}
+use Rattle.squawk_print_locks.specs.squawk_print.PrintedForm.{AllFit}
 
 -- The numbers of an answer are those of the types.
 abbrev pub AnswersFit : Type 0

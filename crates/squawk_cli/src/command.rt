@@ -2,10 +2,10 @@
 ghost use Rattle.std.specs.Prelude.{◌≡◌, ◌⊎◌, IfSome, IsSome};
 ghost use Rattle.std.specs.Str.{IsUtf8};
 ghost use Rattle.std.specs.Io.KnownBytes.{Appends};
-ghost use Rattle.squawk_stream.specs.Faults.{Rose};
-ghost use Rattle.squawk_stream.specs.Parts.{AppendsPart};
-ghost use Rattle.squawk_words.specs.Choices.{IsAccepted};
-ghost use Rattle.sql_tree.specs.Statement.{IsValid};
+ghost use Rattle.squawk_run.specs.devices.Faults.{Rose};
+ghost use Rattle.squawk_run.specs.devices.Parts.{AppendsPart};
+ghost use Rattle.squawk_run.specs.squawk_words.Choices.{IsAccepted};
+ghost use Rattle.squawk_linter.specs.sql_tree.Statement.{IsValid};
 ghost use Rattle.squawk_run.specs.Statuses.{line_of};
 ghost use Rattle.squawk_cli.specs.Modes.{given_text, groups_to_make};
 ghost use Rattle.squawk_cli.specs.CleanRun.{CleanFor};
@@ -18,10 +18,8 @@ use crate::modes::{text_for, write_found};
 use law_made_texts::laws::made_is_valid;
 use squawk_linter::clean::clean_answers;
 use squawk_linter::laws::headline;
-use squawk_print::WriteError;
-use squawk_run::{Status, say};
-use squawk_stream::{Sink, Source};
-use squawk_words::Words;
+use squawk_print_locks::WriteError;
+use squawk_run::{Sink, Source, Status, Words, say};
 use std::alloc::Global;
 
 /// All of a run but the line on the error sink.

@@ -1,12 +1,11 @@
 //! The configuration that words name.
 ghost use Rattle.std.specs.Prelude.{◌≡◌, ◌≤◌, ◌↔◌, IfOk, IfSome, IsSome};
-ghost use Rattle.squawk_words.specs.Choices.{IsAccepted};
+ghost use Rattle.squawk_run.specs.squawk_words.Choices.{IsAccepted};
 ghost use Rattle.squawk_cli.specs.Config.{config_by, config_of};
 
-use squawk_linter::Linter;
-use squawk_words::{Choices, Words, read_choices};
+use squawk_linter::{Linter, NoMemory};
+use squawk_run::{Choices, Words, read_choices};
 use std::alloc::Global;
-use text_pos::NoMemory;
 
 /// What the words of a command line ask for.
 #[derive(Debug, Drop)]

@@ -1,11 +1,9 @@
 //! What a run finds in a text.
 ghost use Rattle.std.specs.Prelude.{◌≡◌, ◌↔◌, [], IsTrue, IfOk, IfErr, true, false};
-ghost use Rattle.sql_read.specs.Cause.{IsCause};
+ghost use Rattle.squawk_linter.specs.sql_read.Cause.{IsCause};
 ghost use Rattle.squawk_cli.specs.Findings.{AreFoundIn};
 
-use lint_base::Violation;
-use lock_machine::Work;
-use squawk_linter::{LintError, Linter, assess, lint_text};
+use squawk_linter::{LintError, Linter, Violation, Work, assess, lint_text};
 use std::alloc::Global;
 use std::marker::Model;
 

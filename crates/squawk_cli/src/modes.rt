@@ -1,9 +1,9 @@
 //! What `--generate` and `--locks` change of a run: which text is linted, and what is written of what is found in it.
 ghost use Rattle.std.specs.Prelude.{◌≡◌, ◌<◌, ◌≤◌, ◌^◌, length, IfOk, IfErr, IfSome, IsSome, OnOk, Err};
 ghost use Rattle.std.specs.Io.KnownBytes.{Appends};
-ghost use Rattle.squawk_stream.specs.Faults.{Rose};
-ghost use Rattle.squawk_stream.specs.Parts.{AppendsPart};
-ghost use Rattle.squawk_print.specs.declared.write.WriteError.TheVariants as WriteError;
+ghost use Rattle.squawk_run.specs.devices.Faults.{Rose};
+ghost use Rattle.squawk_run.specs.devices.Parts.{AppendsPart};
+ghost use Rattle.squawk_print_locks.specs.squawk_print.declared.write.WriteError.TheVariants as WriteError;
 ghost use Rattle.squawk_run.specs.declared.status.Status.TheVariants as Status;
 ghost use Rattle.squawk_run.specs.Statuses.{of_stop};
 ghost use Rattle.squawk_run.specs.Stops.{IsReadStop};
@@ -11,13 +11,11 @@ ghost use Rattle.squawk_cli.specs.Modes.{printed_findings, text_by, shown_by};
 ghost use Rattle.squawk_cli.specs.Outcome.{ReadBy, SourceCause};
 
 use crate::findings::Findings;
-use squawk_generate::{made_text, write_summary};
-use squawk_print::{WriteError, write_violations};
-use squawk_print_locks::write_works_after_reports;
-use squawk_run::{Stop, read_input};
-use squawk_stream::{Sink, Source};
+use law_made_texts::{made_text, write_summary};
+use squawk_linter::NoMemory;
+use squawk_print_locks::{WriteError, write_violations, write_works_after_reports};
+use squawk_run::{Sink, Source, Stop, read_input};
 use std::alloc::Global;
-use text_pos::NoMemory;
 
 /// The made text of so many groups, for which nothing is read, or else all of the input.
 pub(crate) fn text_for<S: Source>(

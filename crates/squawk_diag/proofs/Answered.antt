@@ -3,7 +3,7 @@ use Rattle.std.proofs.Common.{◌≡◌, ◌≢◌, ◌<◌, ◌^◌, subst, ℕ
 use Rattle.std.specs.Str.{IsUtf8}
 use Rattle.std.specs.Io.KnownBytes.{Appends}
 use Rattle.squawk_linter.specs.declared.linter.Linter.{Linter}
-use Rattle.diag_json.specs.declared.diagnostic.Diagnostic.{Diagnostic}
+use Rattle.diag_report.specs.diag_json.declared.diagnostic.Diagnostic.{Diagnostic}
 use Rattle.squawk_diag.specs.Written.{WroteAs, printed, status_by}
 use Rattle.squawk_run.specs.declared.status.Status.{Status}
 use Rattle.squawk_run.specs.declared.status.Status.TheVariants.{Clean, Found, BadArguments, NotUtf8, TooLong, Unterminated, Syntax, ReadFault, WriteFault, NoMemory}

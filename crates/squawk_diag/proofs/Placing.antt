@@ -1,12 +1,12 @@
 -- Reports at places of a text are in the text.
 use Rattle.std.proofs.Common.{ℕ, List, Option, None, Some, IfSome, All}
 use Rattle.std.proofs.lemmas.List.Elements.{All-weaker}
-use Rattle.lint_base.specs.declared.edit.Edit.{Edit}
-use Rattle.lint_base.specs.declared.violation.Violation.{Violation}
-use Rattle.lint_base.specs.Fixes.{FixValue}
-use Rattle.lint_ignore.specs.Places.{IsPlace}
-use Rattle.lint_pass.specs.Laws.{AreEdits}
-use Rattle.text_pos.specs.Range.{Range}
+use Rattle.squawk_linter.specs.lint_base.declared.edit.Edit.{Edit}
+use Rattle.squawk_linter.specs.lint_base.declared.violation.Violation.{Violation}
+use Rattle.squawk_linter.specs.lint_base.Fixes.{FixValue}
+use Rattle.squawk_linter.specs.lint_ignore.Places.{IsPlace}
+use Rattle.squawk_linter.specs.lint_pass.Laws.{AreEdits}
+use Rattle.squawk_linter.specs.text_pos.Range.{Range}
 use Rattle.squawk_linter.specs.Placed.{IsPlaced}
 use Rattle.diag_report.specs.Places.{EditIn, EditsIn, RangeIn, ReportIn}
 

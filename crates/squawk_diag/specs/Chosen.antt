@@ -1,6 +1,6 @@
 -- The linter that words name.
 use Rattle.std.specs.Prelude.{ℕ, List, Option, option_map}
-use Rattle.squawk_words.specs.declared.choices.Choices.{Choices}
+use Rattle.squawk_run.specs.squawk_words.declared.choices.Choices.{Choices}
 use Rattle.squawk_linter.specs.declared.linter.Linter.{Linter}
 use Rattle.squawk_run.specs.TextChoices.{text_choices_of}
 

@@ -1,11 +1,11 @@
 -- The diagnostics of a text.
 use Rattle.std.specs.Prelude.{◌≡◌, All, List}
-use Rattle.sql_token.specs.Token.{Text}
-use Rattle.lint_base.specs.declared.settings.LinterSettings.{LinterSettings}
-use Rattle.lint_base.specs.declared.violation.Violation.{Violation}
-use Rattle.lint_base.specs.RuleSets.{Rules}
+use Rattle.squawk_linter.specs.sql_token.Token.{Text}
+use Rattle.squawk_linter.specs.lint_base.declared.settings.LinterSettings.{LinterSettings}
+use Rattle.squawk_linter.specs.lint_base.declared.violation.Violation.{Violation}
+use Rattle.squawk_linter.specs.lint_base.RuleSets.{Rules}
 use Rattle.squawk_linter.specs.Answers.{IsAnswer}
-use Rattle.diag_json.specs.declared.diagnostic.Diagnostic.{Diagnostic}
+use Rattle.diag_report.specs.diag_json.declared.diagnostic.Diagnostic.{Diagnostic}
 use Rattle.diag_report.specs.Diagnostics.{diagnostics_of}
 use Rattle.diag_report.specs.Places.{ReportIn}
 

@@ -2,11 +2,11 @@
 use Rattle.std.specs.Prelude.{◌≡◌, ◌≢◌, ℕ, ◌^◌, ◌<◌, List, [], length, Option, Some, ⊤}
 use Rattle.std.specs.Str.{IsUtf8}
 use Rattle.std.specs.Io.KnownBytes.{Appends}
-use Rattle.squawk_stream.specs.Parts.{AppendsPart}
-use Rattle.sql_token.specs.Token.{OpenAt}
-use Rattle.sql_tree.specs.Statement.{IsSyntaxAt}
+use Rattle.squawk_run.specs.devices.Parts.{AppendsPart}
+use Rattle.squawk_linter.specs.sql_token.Token.{OpenAt}
+use Rattle.squawk_linter.specs.sql_tree.Statement.{IsSyntaxAt}
 use Rattle.squawk_linter.specs.declared.linter.Linter.{Linter}
-use Rattle.diag_json.specs.declared.diagnostic.Diagnostic.{Diagnostic}
+use Rattle.diag_report.specs.diag_json.declared.diagnostic.Diagnostic.{Diagnostic}
 use Rattle.squawk_diag.specs.Written.{printed}
 use Rattle.squawk_run.specs.declared.status.Status.{Status}
 use Rattle.squawk_run.specs.declared.status.Status.TheVariants.{Clean, Found, NotUtf8, Unterminated, Syntax, WriteFault, NoMemory}

@@ -1,9 +1,9 @@
 -- What is written of some diagnostics.
 use Rattle.std.specs.Prelude.{◌≡◌, ℕ, List, [], ◌∷◌, ◌++◌, Option, codes, ⊤}
 use Rattle.std.specs.Io.KnownBytes.{Appends}
-use Rattle.squawk_stream.specs.Parts.{AppendsPart}
-use Rattle.diag_json.specs.declared.diagnostic.Diagnostic.{Diagnostic}
-use Rattle.diag_json.specs.Json.{json_text}
+use Rattle.squawk_run.specs.devices.Parts.{AppendsPart}
+use Rattle.diag_report.specs.diag_json.declared.diagnostic.Diagnostic.{Diagnostic}
+use Rattle.diag_report.specs.diag_json.Json.{json_text}
 use Rattle.squawk_run.specs.declared.status.Status.{Status}
 use Rattle.squawk_run.specs.declared.status.Status.TheVariants.{Clean, Found, WriteFault, NoMemory}
 

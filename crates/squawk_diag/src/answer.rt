@@ -7,8 +7,7 @@ ghost use Rattle.squawk_diag.specs.Outcome.{AnsweredAs};
 use crate::text::diagnose;
 use crate::write::write_diagnostics;
 use squawk_linter::{LintError, Linter};
-use squawk_run::{Status, text_in};
-use squawk_stream::Sink;
+use squawk_run::{Sink, Status, text_in};
 use std::alloc::Global;
 
 /// Writes the diagnostics of a text.

@@ -3,11 +3,9 @@ ghost use Rattle.std.specs.Prelude.{◌≡◌, ◌↔◌, IfOk, IsSome};
 ghost use Rattle.squawk_run.specs.TextChoices.{AreTaken};
 ghost use Rattle.squawk_diag.specs.Chosen.{linter_by, linter_of};
 
-use squawk_linter::Linter;
-use squawk_run::read_text_choices;
-use squawk_words::{Choices, Words};
+use squawk_linter::{Linter, NoMemory};
+use squawk_run::{Choices, Words, read_text_choices};
 use std::alloc::Global;
-use text_pos::NoMemory;
 
 fn linter_by(choices: Choices) -> Linter
     ensures { result ≡ linter_by choices }

@@ -2,10 +2,10 @@
 ghost use Rattle.std.specs.Prelude.{◌≡◌, IfSome};
 ghost use Rattle.std.specs.Str.{IsUtf8};
 ghost use Rattle.std.specs.Io.KnownBytes.{Appends};
-ghost use Rattle.squawk_stream.specs.Faults.{Rose};
-ghost use Rattle.squawk_stream.specs.Parts.{AppendsPart};
+ghost use Rattle.squawk_run.specs.devices.Faults.{Rose};
+ghost use Rattle.squawk_run.specs.devices.Parts.{AppendsPart};
 ghost use Rattle.squawk_run.specs.Ends.{IsDone, KeptFor, ReadFor, SinkCause, SourceCause, WordsFor};
-ghost use Rattle.sql_tree.specs.Statement.{IsValid};
+ghost use Rattle.squawk_linter.specs.sql_tree.Statement.{IsValid};
 ghost use Rattle.squawk_run.specs.declared.status.Status.TheVariants as Status;
 ghost use Rattle.squawk_run.specs.TextChoices.{AreTaken};
 ghost use Rattle.squawk_run.specs.Statuses.{end_of, line_of};
@@ -13,11 +13,9 @@ ghost use Rattle.squawk_diag.specs.Outcome.{AnsweredFor};
 
 use crate::answer::answer_input;
 use crate::choose::linter_of;
-use squawk_run::{Status, read_input, say};
-use squawk_stream::{Sink, Source};
-use squawk_words::Words;
+use squawk_linter::NoMemory;
+use squawk_run::{Sink, Source, Status, Words, read_input, say};
 use std::alloc::Global;
-use text_pos::NoMemory;
 
 /// All of a run but the line on the error sink.
 fn work<S: Source, K: Sink>(alloc: Global, words: &Words, src: &mut S, out: &mut K) -> Status

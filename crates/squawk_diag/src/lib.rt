@@ -13,10 +13,14 @@ mod text;
 mod write;
 
 pub use command::diag_run;
-pub use diag_json::{DiagEdit, DiagError, DiagFix, Diagnostic, read_json, write_json};
+pub use diag_report::{
+    DiagEdit, DiagError, DiagFix, Diagnostic, Pos, PosIndex, read_json, write_json,
+};
 pub use squawk_linter::{LintError, Linter};
-pub use squawk_run::{Status, say};
-pub use squawk_stream::{MemSink, MemSource, Sink, SliceSource, Source, StdSink, StdSource};
-pub use squawk_words::Words;
+pub use squawk_run::{
+    MemSink, MemSource, Sink, SliceSource, Source, Status, StdSink, StdSource, Words, say,
+};
 pub use text::diagnose;
-pub use text_utf16::{Pos, PosIndex};
+
+// What crates above reach through this one.
+pub use squawk_run::take_words;

@@ -1,18 +1,16 @@
 //! The diagnostics of a text.
 ghost use Rattle.std.specs.Prelude.{◌≡◌, ◌↔◌, ◌≤◌, ◌<◌, ◌^◌, ℕ, length, Err, IfOk, IfErr};
-ghost use Rattle.sql_token.specs.Token.{OpenAt};
-ghost use Rattle.sql_tree.specs.Statement.{IsSyntaxAt, Tree};
-ghost use Rattle.sql_read.specs.declared.error.LintError.TheVariants as LintError;
-ghost use Rattle.sql_read.specs.Cause.{ErrOrNoMemory, IsCause, IsTreeOf, OkOrNoMemory};
+ghost use Rattle.squawk_linter.specs.sql_token.Token.{OpenAt};
+ghost use Rattle.squawk_linter.specs.sql_tree.Statement.{IsSyntaxAt, Tree};
+ghost use Rattle.squawk_linter.specs.sql_read.declared.error.LintError.TheVariants as LintError;
+ghost use Rattle.squawk_linter.specs.sql_read.Cause.{ErrOrNoMemory, IsCause, IsTreeOf, OkOrNoMemory};
 ghost use Rattle.squawk_linter.specs.Answers.{SettingsAfter, reports};
 ghost use Rattle.diag_report.specs.Diagnostics.{diagnostics_of};
 ghost use Rattle.squawk_diag.specs.Diagnosed.{AreDiagnostics};
 
-use diag_json::Diagnostic;
-use diag_report::diagnostics_of;
-use squawk_linter::{LintError, Linter, lint_text};
+use diag_report::{Diagnostic, diagnostics_of};
+use squawk_linter::{LintError, Linter, NoMemory, lint_text};
 use std::alloc::Global;
-use text_pos::NoMemory;
 
 /// Lints a text, and gives its reports with positions as editors count them.
 ///

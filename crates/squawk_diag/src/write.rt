@@ -4,11 +4,10 @@ ghost use Rattle.squawk_run.specs.Ends.{KeptFor, SinkCause};
 ghost use Rattle.squawk_run.specs.Statuses.{end_of};
 ghost use Rattle.squawk_diag.specs.Written.{WroteAs, printed, status_by};
 
-use diag_json::{Diagnostic, write_json};
-use squawk_run::Status;
-use squawk_stream::{Failed, Sink, write_all};
+use diag_report::{Diagnostic, write_json};
+use squawk_linter::NoMemory;
+use squawk_run::{Failed, Sink, Status, write_all};
 use std::alloc::Global;
-use text_pos::NoMemory;
 
 fn status_by(diagnostics: &[Diagnostic]) -> Status
     ensures { result ≡ status_by diagnostics.now }

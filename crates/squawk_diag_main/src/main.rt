@@ -1,8 +1,7 @@
 //! The program: it takes the words after its name, reads a migration from standard input, and writes its diagnostics as JSON.
 #![tactic(auto)]
 
-use squawk_diag::{Status, StdSink, StdSource, Words, diag_run, say};
-use squawk_run::take_words;
+use squawk_diag::{Status, StdSink, StdSource, Words, diag_run, say, take_words};
 use std::process::ExitCode;
 
 fn main(rt: HostRuntime) -> ExitCode {

@@ -1,7 +1,7 @@
 -- From a text that was fixed and written to what is known of an input.
 use Rattle.std.proofs.Common.{◌≡◌, ◌<◌, ◌^◌, ℕ, List, length, None, Option, Some, IfSome, refl}
 use Rattle.std.specs.Str.{IsUtf8}
-use Rattle.squawk_linter.specs.declared.linter.Linter.{Linter}
+use Rattle.law_next_fix.specs.squawk_linter.declared.linter.Linter.{Linter}
 use Rattle.squawk_run.specs.declared.status.Status.{Status}
 use Rattle.squawk_run.specs.declared.status.Status.TheVariants.{Clean, Found, BadArguments, NotUtf8, TooLong, Unterminated, Syntax, ReadFault, WriteFault, NoMemory}
 use Rattle.squawk_fix.specs.Chosen.{linter_of}

@@ -6,19 +6,19 @@ use Rattle.std.proofs.lemmas.List.{length-drop, length-take-le}
 use Rattle.std.proofs.lemmas.List.Elements.{All-cons, All-contains, All-head, All-nil, All-tail, All-weaker}
 use Rattle.std.specs.Option.{option_map, option_or}
 use Rattle.std.specs.Prelude.{All, Contains, ◌&&◌, nat_le, nat_lt, slice_range}
-use Rattle.sql_token.specs.Token.{Text}
-use Rattle.lint_base.specs.declared.edit.Edit.{Edit}
-use Rattle.lint_base.specs.declared.rule.Rule.{Rule}
-use Rattle.lint_base.specs.declared.rule.Rule.TheVariants as rule
-use Rattle.lint_base.specs.declared.violation.Violation.{Violation}
-use Rattle.lint_base.specs.Fixes.{FixValue}
-use Rattle.law_fixes.specs.Edited.{edited, place_moved, put_by}
-use Rattle.law_fix_steps.specs.Leaves.{is_followed}
-use Rattle.law_fix_steps.specs.Left.{EditFollows, EditsFollow, FixFollows}
-use Rattle.law_fix_steps.specs.Listed.{is_listed}
-use Rattle.law_answer_steps.specs.Leaves.{Ascend, Comes}
-use Rattle.fix_choice.specs.Fits.{first_fitting, fits, fitting, listed_fix, made_by, with_fix}
-use Rattle.squawk_linter.specs.Reports.{start_of}
+use Rattle.law_next_fix.specs.sql_token.Token.{Text}
+use Rattle.squawk_run.specs.lint_base.declared.edit.Edit.{Edit}
+use Rattle.squawk_run.specs.lint_base.declared.rule.Rule.{Rule}
+use Rattle.squawk_run.specs.lint_base.declared.rule.Rule.TheVariants as rule
+use Rattle.squawk_run.specs.lint_base.declared.violation.Violation.{Violation}
+use Rattle.squawk_run.specs.lint_base.Fixes.{FixValue}
+use Rattle.law_next_fix.specs.law_fixes.Edited.{edited, place_moved, put_by}
+use Rattle.law_next_fix.specs.law_fix_steps.Leaves.{is_followed}
+use Rattle.law_next_fix.specs.law_fix_steps.Left.{EditFollows, EditsFollow, FixFollows}
+use Rattle.law_next_fix.specs.law_fix_steps.Listed.{is_listed}
+use Rattle.law_next_fix.specs.law_answer_steps.Leaves.{Ascend, Comes}
+use Rattle.law_next_fix.specs.fix_choice.Fits.{first_fitting, fits, fitting, listed_fix, made_by, with_fix}
+use Rattle.law_next_fix.specs.squawk_linter.Reports.{start_of}
 use Rattle.squawk_fix.specs.Round.{HasOnly, IsMoved, comes_first}
 
 -- ---- members

@@ -3,13 +3,13 @@ use Rattle.std.proofs.Common.{◌≡◌, ◌∙◌, ℕ, false, List, [], ◌∷
 use Rattle.std.proofs.lemmas.List.{nil_from_length}
 use Rattle.std.specs.List.{cons_option, filter_map, list_any}
 use Rattle.std.specs.Prelude.{◌||◌, is_some}
-use Rattle.sql_token.specs.declared.token.Tok.{Tok}
-use Rattle.sql_tree.specs.Statement.{Tree}
-use Rattle.lint_ignore.specs.declared.ignore.IgnoreKind.{IgnoreKind}
-use Rattle.lint_ignore.specs.Comment.{ignore_in_token}
-use Rattle.lint_ignore.specs.Found.{Lists, all_said, followed_by, found_from, ignore_comments, nothing}
-use Rattle.lint_ignore.specs.Part.{Part}
-use Rattle.law_fix_steps.specs.Step.{has_ignore_comment}
+use Rattle.law_next_fix.specs.sql_token.declared.token.Tok.{Tok}
+use Rattle.law_next_fix.specs.sql_tree.Statement.{Tree}
+use Rattle.law_next_fix.specs.lint_ignore.declared.ignore.IgnoreKind.{IgnoreKind}
+use Rattle.law_next_fix.specs.lint_ignore.Comment.{ignore_in_token}
+use Rattle.law_next_fix.specs.lint_ignore.Found.{Lists, all_said, followed_by, found_from, ignore_comments, nothing}
+use Rattle.law_next_fix.specs.lint_ignore.Part.{Part}
+use Rattle.law_next_fix.specs.law_fix_steps.Step.{has_ignore_comment}
 
 none_said : (number : ℕ) (cs : List (Part × IgnoreKind)) → (all_said number cs).ignores ≡ [] → cs ≡ []
 none_said number [] e = refl

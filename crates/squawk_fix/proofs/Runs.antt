@@ -5,23 +5,23 @@ use Rattle.std.proofs.lemmas.List.Elements.{All-contains, All-contains_itself, A
 use Rattle.std.specs.List.{list_all}
 use Rattle.std.specs.Prelude.{All, Contains, ◌&&◌, nat_lt}
 use Rattle.std.specs.Str.{IsUtf8}
-use Rattle.sql_token.specs.Token.{Text}
-use Rattle.sql_tree.specs.Statement.{Tree}
-use Rattle.lint_base.specs.declared.edit.Edit.{Edit}
-use Rattle.lint_base.specs.declared.violation.Violation.{Violation}
-use Rattle.lint_base.specs.Fixes.{FixValue}
-use Rattle.lint_ignore.specs.Places.{IsPlace}
-use Rattle.lint_pass.specs.Laws.{AreEdits, IsRead}
-use Rattle.law_fixes.specs.Edited.{edited, place_moved}
-use Rattle.law_fix_steps.specs.Leaves.{is_followed}
-use Rattle.law_fix_steps.specs.Listed.{is_listed}
-use Rattle.law_answer_steps.specs.Leaves.{AnswerLeaves, AnswersAscend, AnswersLeave, Ascend, Comes, ComesFrom, FixLeavesAnswer, IsLeft}
-use Rattle.law_answer_steps.proofs.Leaving.{has_none, none_has}
-use Rattle.fix_edit.specs.Faults.{AreGood}
-use Rattle.fix_choice.specs.Fits.{CanBeTried, ListedCanBeTried, first_fitting, fits, joins_no_word}
-use Rattle.squawk_linter.specs.Answers.{reports}
-use Rattle.squawk_linter.specs.Headline.{HasNoIgnoreComment}
-use Rattle.squawk_linter.specs.Placed.{AnswersPlaced, IsPlaced}
+use Rattle.law_next_fix.specs.sql_token.Token.{Text}
+use Rattle.law_next_fix.specs.sql_tree.Statement.{Tree}
+use Rattle.squawk_run.specs.lint_base.declared.edit.Edit.{Edit}
+use Rattle.squawk_run.specs.lint_base.declared.violation.Violation.{Violation}
+use Rattle.squawk_run.specs.lint_base.Fixes.{FixValue}
+use Rattle.law_next_fix.specs.lint_ignore.Places.{IsPlace}
+use Rattle.law_next_fix.specs.lint_pass.Laws.{AreEdits, IsRead}
+use Rattle.law_next_fix.specs.law_fixes.Edited.{edited, place_moved}
+use Rattle.law_next_fix.specs.law_fix_steps.Leaves.{is_followed}
+use Rattle.law_next_fix.specs.law_fix_steps.Listed.{is_listed}
+use Rattle.law_next_fix.specs.law_answer_steps.Leaves.{AnswerLeaves, AnswersAscend, AnswersLeave, Ascend, Comes, ComesFrom, FixLeavesAnswer, IsLeft}
+use Rattle.law_next_fix.proofs.of_law_answer_steps.Leaving.{has_none, none_has}
+use Rattle.law_next_fix.specs.fix_edit.Faults.{AreGood}
+use Rattle.law_next_fix.specs.fix_choice.Fits.{CanBeTried, ListedCanBeTried, first_fitting, fits, joins_no_word}
+use Rattle.law_next_fix.specs.squawk_linter.Answers.{reports}
+use Rattle.law_next_fix.specs.squawk_linter.Headline.{HasNoIgnoreComment}
+use Rattle.law_next_fix.specs.squawk_linter.Placed.{AnswersPlaced, IsPlaced}
 use Rattle.law_next_fix.specs.Fitting.{AnswersCanBeTried, FittingFixesMayStep, IfFitting, MayStep}
 use Rattle.squawk_fix.specs.Fixing.{IsStep, Reached}
 use Rattle.squawk_fix.specs.Round.{Answered, IsNextFix, IsNextText, Ran}

@@ -4,21 +4,21 @@ use Rattle.std.proofs.lemmas.Bool.{false≢true}
 use Rattle.std.specs.Prelude.{All, MatchOption}
 use Rattle.std.specs.Option.{option_map}
 use Rattle.std.specs.Str.{IsUtf8}
-use Rattle.sql_token.specs.Token.{Text}
-use Rattle.sql_tree.specs.Statement.{Tree, IsTree, IsValid}
-use Rattle.sql_tree.proofs.TreeLaws.{one_tree}
-use Rattle.sql_read.specs.Cause.{IsTreeOf}
-use Rattle.lint_base.specs.declared.settings.LinterSettings.{LinterSettings}
-use Rattle.lint_base.specs.declared.violation.Violation.{Violation}
-use Rattle.lint_base.specs.Fixes.{FixValue}
-use Rattle.lint_base.specs.RuleSets.{Rules}
-use Rattle.law_fixes.specs.Edited.{edited}
-use Rattle.law_fix_steps.specs.Step.{Steps, has_ignore_comment, load}
-use Rattle.law_answer_steps.proofs.Leaving.{stays}
-use Rattle.fix_choice.specs.Fits.{ListedCanBeTried, first_fitting, next_text, with_fix}
-use Rattle.squawk_linter.specs.Answers.{IsAnswer, reports}
-use Rattle.squawk_linter.specs.Laws.{SecondAnswer}
-use Rattle.squawk_linter.specs.Reports.{cleared}
+use Rattle.law_next_fix.specs.sql_token.Token.{Text}
+use Rattle.law_next_fix.specs.sql_tree.Statement.{Tree, IsTree, IsValid}
+use Rattle.law_next_fix.proofs.of_sql_tree.TreeLaws.{one_tree}
+use Rattle.law_next_fix.specs.sql_read.Cause.{IsTreeOf}
+use Rattle.squawk_run.specs.lint_base.declared.settings.LinterSettings.{LinterSettings}
+use Rattle.squawk_run.specs.lint_base.declared.violation.Violation.{Violation}
+use Rattle.squawk_run.specs.lint_base.Fixes.{FixValue}
+use Rattle.squawk_run.specs.lint_base.RuleSets.{Rules}
+use Rattle.law_next_fix.specs.law_fixes.Edited.{edited}
+use Rattle.law_next_fix.specs.law_fix_steps.Step.{Steps, has_ignore_comment, load}
+use Rattle.law_next_fix.proofs.of_law_answer_steps.Leaving.{stays}
+use Rattle.law_next_fix.specs.fix_choice.Fits.{ListedCanBeTried, first_fitting, next_text, with_fix}
+use Rattle.law_next_fix.specs.squawk_linter.Answers.{IsAnswer, reports}
+use Rattle.law_next_fix.specs.squawk_linter.Laws.{SecondAnswer}
+use Rattle.law_next_fix.specs.squawk_linter.Reports.{cleared}
 use Rattle.law_next_fix.specs.Fitting.{AnswersCanBeTried, FittingFixesStep}
 use Rattle.law_next_fix.proofs.First.{chosen, cleared_again, of_first}
 use Rattle.squawk_fix.specs.Fixing.{IsFixed, IsStep, Reached}

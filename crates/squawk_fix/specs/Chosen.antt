@@ -1,7 +1,7 @@
 -- The linter that words name.
 use Rattle.std.specs.Prelude.{◌≡◌, ℕ, List, Option, Some, option_map}
-use Rattle.squawk_words.specs.declared.choices.Choices.{Choices}
-use Rattle.squawk_linter.specs.declared.linter.Linter.{Linter}
+use Rattle.squawk_run.specs.squawk_words.declared.choices.Choices.{Choices}
+use Rattle.law_next_fix.specs.squawk_linter.declared.linter.Linter.{Linter}
 use Rattle.squawk_run.specs.TextChoices.{text_choices_of}
 
 -- the linter with what is chosen

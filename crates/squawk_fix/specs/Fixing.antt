@@ -1,17 +1,17 @@
 -- Repeated fixing: which texts are reached from a text, and when it has ended.
 use Rattle.std.specs.Prelude.{◌≡◌, ◌≤◌, ℕ, zero, suc, List, Some, None}
-use Rattle.sql_token.specs.Token.{Text}
-use Rattle.sql_tree.specs.Statement.{Tree}
-use Rattle.sql_read.specs.Cause.{IsTreeOf}
-use Rattle.lint_base.specs.declared.settings.LinterSettings.{LinterSettings}
-use Rattle.lint_base.specs.declared.violation.Violation.{Violation}
-use Rattle.lint_base.specs.Fixes.{FixValue}
-use Rattle.lint_base.specs.RuleSets.{Rules}
-use Rattle.law_fixes.specs.Edited.{edited}
-use Rattle.law_fix_steps.specs.Step.{load}
-use Rattle.fix_choice.specs.Fits.{first_fitting}
-use Rattle.squawk_linter.specs.Answers.{IsAnswer}
-use Rattle.squawk_linter.specs.Reports.{cleared}
+use Rattle.law_next_fix.specs.sql_token.Token.{Text}
+use Rattle.law_next_fix.specs.sql_tree.Statement.{Tree}
+use Rattle.law_next_fix.specs.sql_read.Cause.{IsTreeOf}
+use Rattle.squawk_run.specs.lint_base.declared.settings.LinterSettings.{LinterSettings}
+use Rattle.squawk_run.specs.lint_base.declared.violation.Violation.{Violation}
+use Rattle.squawk_run.specs.lint_base.Fixes.{FixValue}
+use Rattle.squawk_run.specs.lint_base.RuleSets.{Rules}
+use Rattle.law_next_fix.specs.law_fixes.Edited.{edited}
+use Rattle.law_next_fix.specs.law_fix_steps.Step.{load}
+use Rattle.law_next_fix.specs.fix_choice.Fits.{first_fitting}
+use Rattle.law_next_fix.specs.squawk_linter.Answers.{IsAnswer}
+use Rattle.law_next_fix.specs.squawk_linter.Reports.{cleared}
 
 -- The text s is t with the first fix made that is of a listed rule and fits, in the order of the reports of t.
 pub record IsStep (rules : Rules) (settings : LinterSettings) (t s : Text) : Type 0 where

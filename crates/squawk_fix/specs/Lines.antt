@@ -1,7 +1,7 @@
 -- The line of each status, and what an error sink gets of it.
 use Rattle.std.specs.Prelude.{ℕ, List, Option, codes}
 use Rattle.std.specs.Io.KnownBytes.{Appends}
-use Rattle.squawk_stream.specs.Parts.{AppendsPart}
+use Rattle.squawk_run.specs.devices.Parts.{AppendsPart}
 use Rattle.squawk_run.specs.declared.status.Status.{Status}
 use Rattle.squawk_run.specs.declared.status.Status.TheVariants.{Clean, Found}
 use Rattle.squawk_run.specs.Lines.{numbered}

@@ -2,11 +2,11 @@
 use Rattle.std.specs.Prelude.{◌≡◌, ℕ, ◌^◌, ◌<◌, List, [], ◌∷◌, length, Option, ⊤}
 use Rattle.std.specs.Str.{IsUtf8}
 use Rattle.std.specs.Io.KnownBytes.{Appends}
-use Rattle.squawk_stream.specs.Parts.{AppendsPart}
-use Rattle.sql_token.specs.Token.{OpenAt}
-use Rattle.sql_tree.specs.Statement.{IsSyntaxAt}
-use Rattle.lint_base.specs.declared.violation.Violation.{Violation}
-use Rattle.squawk_linter.specs.declared.linter.Linter.{Linter}
+use Rattle.squawk_run.specs.devices.Parts.{AppendsPart}
+use Rattle.law_next_fix.specs.sql_token.Token.{OpenAt}
+use Rattle.law_next_fix.specs.sql_tree.Statement.{IsSyntaxAt}
+use Rattle.squawk_run.specs.lint_base.declared.violation.Violation.{Violation}
+use Rattle.law_next_fix.specs.squawk_linter.declared.linter.Linter.{Linter}
 use Rattle.squawk_run.specs.declared.status.Status.{Status}
 use Rattle.squawk_run.specs.declared.status.Status.TheVariants.{Clean, Found, NotUtf8, Unterminated, Syntax, WriteFault, NoMemory}
 use Rattle.squawk_fix.specs.Chosen.{NamesLinter}

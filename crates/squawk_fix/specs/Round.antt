@@ -1,19 +1,19 @@
 -- Many fixes of one answer.
 use Rattle.std.specs.Prelude.{◌≡◌, ◌⊎◌, ◌≤◌, ◌<◌, ℕ, ◌+◌, Bool, true, false, ◌&&◌, nat_le, nat_lt, if◌then◌else◌, List, [], ◌∷◌, Some}
-use Rattle.sql_token.specs.Token.{Text}
-use Rattle.sql_tree.specs.Statement.{Tree}
-use Rattle.sql_read.specs.Cause.{IsTreeOf}
-use Rattle.lint_base.specs.declared.edit.Edit.{Edit}
-use Rattle.lint_base.specs.declared.settings.LinterSettings.{LinterSettings}
-use Rattle.lint_base.specs.declared.violation.Violation.{Violation}
-use Rattle.lint_base.specs.Fixes.{FixValue}
-use Rattle.lint_base.specs.RuleSets.{Rules}
-use Rattle.law_fix_steps.specs.Leaves.{is_followed}
-use Rattle.law_fix_steps.specs.Listed.{is_listed}
-use Rattle.law_fix_steps.specs.Step.{has_ignore_comment, load}
-use Rattle.fix_choice.specs.Fits.{made_by, next_text}
-use Rattle.squawk_linter.specs.Answers.{reports}
-use Rattle.squawk_linter.specs.Reports.{cleared}
+use Rattle.law_next_fix.specs.sql_token.Token.{Text}
+use Rattle.law_next_fix.specs.sql_tree.Statement.{Tree}
+use Rattle.law_next_fix.specs.sql_read.Cause.{IsTreeOf}
+use Rattle.squawk_run.specs.lint_base.declared.edit.Edit.{Edit}
+use Rattle.squawk_run.specs.lint_base.declared.settings.LinterSettings.{LinterSettings}
+use Rattle.squawk_run.specs.lint_base.declared.violation.Violation.{Violation}
+use Rattle.squawk_run.specs.lint_base.Fixes.{FixValue}
+use Rattle.squawk_run.specs.lint_base.RuleSets.{Rules}
+use Rattle.law_next_fix.specs.law_fix_steps.Leaves.{is_followed}
+use Rattle.law_next_fix.specs.law_fix_steps.Listed.{is_listed}
+use Rattle.law_next_fix.specs.law_fix_steps.Step.{has_ignore_comment, load}
+use Rattle.law_next_fix.specs.fix_choice.Fits.{made_by, next_text}
+use Rattle.law_next_fix.specs.squawk_linter.Answers.{reports}
+use Rattle.law_next_fix.specs.squawk_linter.Reports.{cleared}
 use Rattle.squawk_fix.specs.Fixing.{Reached}
 
 -- ---- which fix is next

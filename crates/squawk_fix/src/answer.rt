@@ -5,10 +5,8 @@ ghost use Rattle.squawk_run.specs.Statuses.{end_of};
 ghost use Rattle.squawk_fix.specs.Outcome.{AnsweredAs, WroteAs, status_by};
 
 use crate::fixed::{Fixed, fix_all};
-use lint_base::Violation;
-use squawk_linter::{LintError, Linter};
-use squawk_run::{Status, text_in};
-use squawk_stream::{Failed, Sink, write_all};
+use law_next_fix::{LintError, Linter};
+use squawk_run::{Failed, Sink, Status, Violation, text_in, write_all};
 use std::alloc::Global;
 
 /// How a run ended, and how many fixes it made. The count is 0 where no text was fixed.

@@ -1,9 +1,9 @@
 //! The run of the program, over any source and sinks.
 ghost use Rattle.std.specs.Prelude.{◌≡◌, ℕ, IfSome};
 ghost use Rattle.std.specs.Str.{IsUtf8};
-ghost use Rattle.squawk_stream.specs.Faults.{Rose};
+ghost use Rattle.squawk_run.specs.devices.Faults.{Rose};
 ghost use Rattle.squawk_run.specs.Ends.{IsDone, KeptFor, ReadFor, SinkCause, SourceCause, WordsFor};
-ghost use Rattle.sql_tree.specs.Statement.{IsValid};
+ghost use Rattle.law_next_fix.specs.sql_tree.Statement.{IsValid};
 ghost use Rattle.squawk_run.specs.declared.status.Status.TheVariants as Status;
 ghost use Rattle.squawk_run.specs.Statuses.{end_of};
 ghost use Rattle.squawk_run.specs.TextChoices.{AreTaken};
@@ -12,11 +12,8 @@ ghost use Rattle.squawk_fix.specs.Outcome.{AnsweredFor};
 
 use crate::answer::{Ended, answer_input, unfixed};
 use crate::choose::linter_of;
-use squawk_run::{Status, read_input, say, say_count};
-use squawk_stream::{Sink, Source};
-use squawk_words::Words;
+use squawk_run::{NoMemory, Sink, Source, Status, Words, read_input, say, say_count};
 use std::alloc::Global;
-use text_pos::NoMemory;
 
 /// All of a run but the line on the error sink.
 fn work<S: Source, K: Sink>(alloc: Global, words: &Words, src: &mut S, out: &mut K) -> Ended

@@ -1,24 +1,21 @@
 //! Fixing a text until no fix is left that fits.
 ghost use Rattle.std.specs.Prelude.{◌≡◌, ◌↔◌, ◌≤◌, ◌<◌, ◌^◌, ℕ, length, Err, IfOk, IfErr, string_bytes};
-ghost use Rattle.sql_token.specs.Token.{OpenAt};
-ghost use Rattle.sql_tree.specs.Statement.{IsSyntaxAt, IsValid, Tree};
-ghost use Rattle.sql_read.specs.declared.error.LintError.TheVariants as LintError;
-ghost use Rattle.sql_read.specs.Cause.{ErrOrNoMemory, IsCause, IsTreeOf, OkOrNoMemory};
-ghost use Rattle.squawk_linter.specs.Answers.{IsAnswer, SettingsAfter};
-ghost use Rattle.squawk_linter.specs.Reports.{cleared};
+ghost use Rattle.law_next_fix.specs.sql_token.Token.{OpenAt};
+ghost use Rattle.law_next_fix.specs.sql_tree.Statement.{IsSyntaxAt, IsValid, Tree};
+ghost use Rattle.law_next_fix.specs.sql_read.declared.error.LintError.TheVariants as LintError;
+ghost use Rattle.law_next_fix.specs.sql_read.Cause.{ErrOrNoMemory, IsCause, IsTreeOf, OkOrNoMemory};
+ghost use Rattle.law_next_fix.specs.squawk_linter.Answers.{IsAnswer, SettingsAfter};
+ghost use Rattle.law_next_fix.specs.squawk_linter.Reports.{cleared};
 ghost use Rattle.squawk_fix.specs.Fixing.{IsFixed, IsFixedText};
 
 use crate::round::{is_plain, next_round};
-use law_fix_steps::laws::load_is_small;
 use law_next_fix::laws::fitting_fixes_step;
-use lint_base::Violation;
-use sql_read::parse;
-use sql_tree::Parse;
-use squawk_linter::laws::second_answer;
-use squawk_linter::{LintError, Linter, lint_text};
+use law_next_fix::{
+    LintError, Linter, Parse, lint_text, load_is_small, second_answer, sql_read_parse as parse,
+};
+use squawk_run::{NoMemory, Violation};
 use std::alloc::Global;
 use std::marker::Model;
-use text_pos::NoMemory;
 
 /// What fixing makes of a text.
 #[derive(Debug, Drop)]

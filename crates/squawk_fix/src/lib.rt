@@ -18,7 +18,11 @@ mod round;
 
 pub use command::fix_run;
 pub use fixed::{Fixed, fix_all};
-pub use squawk_linter::{LintError, Linter};
-pub use squawk_run::{Status, say};
-pub use squawk_stream::{MemSink, MemSource, Sink, SliceSource, Source, StdSink, StdSource};
-pub use squawk_words::Words;
+pub use law_next_fix::{LintError, Linter};
+pub use squawk_run::{
+    MemSink, MemSource, Sink, SliceSource, Source, Status, StdSink, StdSource, Words, say,
+};
+
+// What crates above reach through this one.
+pub use law_next_fix::lint_text;
+pub use squawk_run::{LinterSettings, Names, take_words};

@@ -3,21 +3,18 @@
 //! What a fix does to the other reports is known (`law_fix_steps`), if the text has no ignore comment and the rule's fixes are followed. So
 //! such fixes are made one after another without linting the text again, each at its place in the text as it is then.
 ghost use Rattle.std.specs.Prelude.{◌≡◌, ◌≤◌, ◌<◌, ◌^◌, ◌+◌, [], ◌∷◌, All, IfOk, IfSome, MatchOption, drop, length, string_bytes, true, false};
-ghost use Rattle.lint_base.specs.Fixes.{FixValue};
-ghost use Rattle.law_fix_steps.specs.Step.{has_ignore_comment};
-ghost use Rattle.fix_choice.specs.Fits.{CanBeTried, ListedCanBeTried, next_text};
+ghost use Rattle.squawk_run.specs.lint_base.Fixes.{FixValue};
+ghost use Rattle.law_next_fix.specs.law_fix_steps.Step.{has_ignore_comment};
+ghost use Rattle.law_next_fix.specs.fix_choice.Fits.{CanBeTried, ListedCanBeTried, next_text};
 ghost use Rattle.squawk_fix.specs.Round as spec;
 
-use fix_choice::{is_followed, is_listed, made_by, next_text};
-use law_answer_steps::laws::{answers_ascend, answers_leave};
-use law_fix_steps::laws::load_is_small;
 use law_next_fix::laws::fitting_fixes_step;
-use lint_base::{Edit, Fix, Text, Violation};
-use lint_ignore::{Found, find_ignores};
-use sql_tree::Parse;
-use squawk_linter::laws::answers_placed;
+use law_next_fix::{
+    Found, Parse, answers_ascend, answers_leave, answers_placed, find_ignores, is_followed,
+    is_listed, load_is_small, made_by, next_text,
+};
+use squawk_run::{Edit, Fix, NoMemory, Text, TextRange, TextSize, Violation};
 use std::alloc::Global;
-use text_pos::{NoMemory, TextRange, TextSize};
 
 /// A text in which fixes were made, and how many.
 #[derive(Drop)]

@@ -1,8 +1,7 @@
 //! The program: it takes the words after its name, reads a migration from standard input, fixes it, and writes what it became.
 #![tactic(auto)]
 
-use squawk_fix::{Status, StdSink, StdSource, Words, fix_run, say};
-use squawk_run::take_words;
+use squawk_fix::{Status, StdSink, StdSource, Words, fix_run, say, take_words};
 use std::process::ExitCode;
 
 fn main(rt: HostRuntime) -> ExitCode {

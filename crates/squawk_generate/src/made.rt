@@ -3,8 +3,8 @@ ghost use Rattle.std.specs.Prelude.{◌≡◌, ◌++◌, ◌*◌, ◌≤◌, len
 ghost use Rattle.squawk_generate.specs.Made as spec;
 
 use itoa::Buffer;
+use lint_base::NoMemory;
 use std::alloc::Global;
-use text_pos::NoMemory;
 
 /// How many bytes are kept ready for each group. Four in turn take less for each, while their numbers have nine digits at
 /// most.

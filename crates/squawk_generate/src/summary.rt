@@ -2,18 +2,16 @@
 ghost use Rattle.std.specs.Prelude.{◌≡◌, ◌≤◌, ◌++◌, flat_map, slice_index, IfOk, OnOk, Err};
 ghost use Rattle.std.specs.Io.KnownBytes.{Appends};
 ghost use Rattle.lint_base.specs.Rules.{number_of};
-ghost use Rattle.squawk_stream.specs.Faults.{Rose};
-ghost use Rattle.squawk_stream.specs.Parts.{AppendsPart};
+ghost use Rattle.squawk_print.specs.devices.Faults.{Rose};
+ghost use Rattle.squawk_print.specs.devices.Parts.{AppendsPart};
 ghost use Rattle.squawk_print.specs.declared.write.WriteError.TheVariants as WriteError;
 ghost use Rattle.squawk_generate.specs.Summary as spec;
 
 use crate::counts::{Counts, counts_of, number};
 use itoa::Buffer;
-use lint_base::{Rule, Violation};
-use squawk_print::WriteError;
-use squawk_stream::{Failed, Sink, write_all};
+use lint_base::{NoMemory, Rule, Violation};
+use squawk_print::{Failed, Sink, WriteError, write_all};
 use std::alloc::Global;
-use text_pos::NoMemory;
 
 fn push_counted(text: &mut Vec<u8>, name: &[u8], count: usize) -> Result<(), NoMemory>
     ensures { OnOk result (text.new.items ≡ text.old.items ++ spec.counted name.now count) }

@@ -5,21 +5,21 @@ use Rattle.std.proofs.lemmas.Bool.{ltb-true}
 use Rattle.std.proofs.lemmas.Bool.Decides.{nat_tests}
 use Rattle.std.specs.Option.{option_map}
 use Rattle.std.specs.Prelude.{◌==◌, ◌&&◌, nat_lt}
-use Rattle.sql_token.specs.declared.token.Tok.{Tok}
-use Rattle.sql_token.specs.declared.terminal.Terminal.{Terminal}
-use Rattle.sql_token.specs.Depth.{one_if, onto, span_of, statements, statements_from}
-use Rattle.sql_token.specs.Terminal.{is_closer, is_opener, is_semicolon, is_significant, symbol_of, terminals, terminals_from}
-use Rattle.sql_token.specs.Token.{Text, text_of}
-use Rattle.sql_token.proofs.Statements.{by_counts}
-use Rattle.sql_tree.specs.declared.nodes.Action.{Action}
-use Rattle.sql_tree.specs.declared.nodes.Body.{Body}
-use Rattle.sql_tree.specs.declared.nodes.Body.TheVariants as body
-use Rattle.sql_tree.specs.declared.nodes.Stmt.{Stmt}
-use Rattle.sql_tree.specs.Nodes.{actions_in}
-use Rattle.sql_tree.specs.Statement.{Tree, IsTree, all_statements, and_then_all, read_tokens, statement}
-use Rattle.law_renumber.specs.Moved.{action_moved, body_moved, stmt_moved}
-use Rattle.law_renumber.specs.Renumber.{renumber}
-use Rattle.law_renumber.proofs.Statements.{statement_renumbers}
+use Rattle.sql_read.specs.sql_token.declared.token.Tok.{Tok}
+use Rattle.sql_read.specs.sql_token.declared.terminal.Terminal.{Terminal}
+use Rattle.sql_read.specs.sql_token.Depth.{one_if, onto, span_of, statements, statements_from}
+use Rattle.sql_read.specs.sql_token.Terminal.{is_closer, is_opener, is_semicolon, is_significant, symbol_of, terminals, terminals_from}
+use Rattle.sql_read.specs.sql_token.Token.{Text, text_of}
+use Rattle.sql_read.proofs.of_sql_token.Statements.{by_counts}
+use Rattle.sql_read.specs.sql_tree.declared.nodes.Action.{Action}
+use Rattle.sql_read.specs.sql_tree.declared.nodes.Body.{Body}
+use Rattle.sql_read.specs.sql_tree.declared.nodes.Body.TheVariants as body
+use Rattle.sql_read.specs.sql_tree.declared.nodes.Stmt.{Stmt}
+use Rattle.sql_read.specs.sql_tree.Nodes.{actions_in}
+use Rattle.sql_read.specs.sql_tree.Statement.{Tree, IsTree, all_statements, and_then_all, read_tokens, statement}
+use Rattle.fix_edit.specs.law_renumber.Moved.{action_moved, body_moved, stmt_moved}
+use Rattle.fix_edit.specs.law_renumber.Renumber.{renumber}
+use Rattle.fix_edit.proofs.of_law_renumber.Statements.{statement_renumbers}
 use Rattle.squawk_linter.proofs.Members.{Member}
 
 -- ---- numbers below a bound

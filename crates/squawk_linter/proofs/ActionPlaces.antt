@@ -5,14 +5,14 @@ use Rattle.std.proofs.lemmas.List.{map-append}
 use Rattle.std.proofs.lemmas.List.Kept.{AllPairs-from_increasing}
 use Rattle.std.specs.List.{flat_map, list_any}
 use Rattle.std.specs.Prelude.{AllPairs, ◌==◌, ◌&&◌}
-use Rattle.sql_token.specs.declared.token.Tok.{Tok}
-use Rattle.sql_token.specs.Token.{Text, Leads, Lexed}
-use Rattle.sql_tree.specs.declared.nodes.Action.{Action}
-use Rattle.sql_tree.specs.declared.nodes.Stmt.{Stmt}
-use Rattle.sql_tree.specs.Nodes.{actions_in, action_starts}
-use Rattle.sql_tree.specs.Range.{span_range_of, token_at}
-use Rattle.sql_tree.specs.Statement.{Tree, IsTree, no_token}
-use Rattle.law_renumber.specs.Order.{ActionsAscend}
+use Rattle.sql_read.specs.sql_token.declared.token.Tok.{Tok}
+use Rattle.sql_read.specs.sql_token.Token.{Text, Leads, Lexed}
+use Rattle.sql_read.specs.sql_tree.declared.nodes.Action.{Action}
+use Rattle.sql_read.specs.sql_tree.declared.nodes.Stmt.{Stmt}
+use Rattle.sql_read.specs.sql_tree.Nodes.{actions_in, action_starts}
+use Rattle.sql_read.specs.sql_tree.Range.{span_range_of, token_at}
+use Rattle.sql_read.specs.sql_tree.Statement.{Tree, IsTree, no_token}
+use Rattle.fix_edit.specs.law_renumber.Order.{ActionsAscend}
 use Rattle.squawk_linter.specs.Headline.{adds_on, is_adding, is_alter_table, same_range}
 use Rattle.squawk_linter.proofs.ActionNumbers.{action_within}
 use Rattle.squawk_linter.proofs.Members.{Member, any_has, member_flat}

@@ -3,17 +3,17 @@ use Rattle.std.proofs.Common.{◌≡◌, ◌∙◌, sym, ap, refl, arith, ℕ, �
 use Rattle.std.proofs.lemmas.Bool.{eq-eqb}
 use Rattle.std.proofs.lemmas.List.Elements.{All-head}
 use Rattle.std.specs.Prelude.{All, ◌==◌, filter, if◌then◌else◌}
-use Rattle.sql_tree.specs.Statement.{Tree}
-use Rattle.lint_base.specs.declared.violation.Violation.{Violation}
-use Rattle.lint_base.specs.RuleSets.{Rules}
-use Rattle.lint_base.specs.declared.settings.LinterSettings.{LinterSettings}
-use Rattle.lint_ignore.specs.Comment.{has_disable_comment}
-use Rattle.lint_pass.specs.Cleared.{IsCleared}
-use Rattle.lint_pass.specs.Ranges.{AllLieIn}
+use Rattle.sql_read.specs.sql_tree.Statement.{Tree}
+use Rattle.fix_edit.specs.lint_base.declared.violation.Violation.{Violation}
+use Rattle.fix_edit.specs.lint_base.RuleSets.{Rules}
+use Rattle.fix_edit.specs.lint_base.declared.settings.LinterSettings.{LinterSettings}
+use Rattle.fix_edit.specs.lint_ignore.Comment.{has_disable_comment}
+use Rattle.fix_edit.specs.lint_pass.Cleared.{IsCleared}
+use Rattle.fix_edit.specs.lint_pass.Ranges.{AllLieIn}
 use Rattle.law_clean.specs.Clean.{IsClean}
 use Rattle.law_clean.specs.Laws.{CleanAnswersHaveNoOldWork, CleanAnswersValidateApart}
 use Rattle.law_clean.proofs.Nothing.{empty-pieces, not_both, some_is_none}
-use Rattle.pass_groups.specs.OwnTable.{own_table}
+use Rattle.law_answers.specs.pass_groups.OwnTable.{own_table}
 use Rattle.squawk_linter.specs.ByStart.{by_key}
 use Rattle.squawk_linter.specs.CleanAnswers.{CleanAnswersWorkAlone, ReportsLie}
 use Rattle.squawk_linter.specs.Headline.{HasNoIgnoreComment}

@@ -5,26 +5,26 @@ use Rattle.std.proofs.lemmas.List.Elements.{All-append, All-cons, All-filter, Al
 use Rattle.std.specs.List.{flat_map}
 use Rattle.std.specs.Prelude.{All, ◌&&◌, filter, not, if◌then◌else◌}
 use Rattle.std.specs.Str.{IsUtf8}
-use Rattle.sql_tree.specs.Statement.{Tree, IsTree}
-use Rattle.text_pos.specs.Range.{Range}
-use Rattle.lint_base.specs.declared.rule.Rule.{Rule}
-use Rattle.lint_base.specs.declared.rule.Rule.TheVariants as rule
-use Rattle.lint_base.specs.declared.violation.Violation.{Violation}
-use Rattle.lint_base.specs.Fixes.{FixValue}
-use Rattle.lint_base.specs.RuleNames.{rule_named}
-use Rattle.lint_base.specs.RuleSets.{Rules, has}
-use Rattle.lint_base.specs.Violations.{violation}
-use Rattle.lint_ignore.specs.declared.ignore.Ignore.{Ignore}
-use Rattle.lint_ignore.specs.declared.ignore.IgnoreKind.{IgnoreKind}
-use Rattle.lint_ignore.specs.declared.ignore.IgnorePiece.{IgnorePiece}
-use Rattle.lint_ignore.specs.Part.{Part, range_of}
-use Rattle.lint_ignore.specs.Found.{Lists, all_said, followed_by, found_from, found_in, ignore_comments, nothing, said}
-use Rattle.lint_ignore.specs.Names.{names_in, unknown_by, unknown_message, unknown_name}
-use Rattle.lint_ignore.specs.Places.{IsPlace, NamesLie}
-use Rattle.lint_ignore.specs.Unused.{counting, is_unused, unused_among, unused_name, unused_names}
-use Rattle.lint_ignore.proofs.Places.{names_lie_in}
-use Rattle.lint_pass.specs.Laws.{AreEdits}
-use Rattle.lint_pass.specs.Ranges.{AllLieIn, LiesIn}
+use Rattle.sql_read.specs.sql_tree.Statement.{Tree, IsTree}
+use Rattle.sql_read.specs.text_pos.Range.{Range}
+use Rattle.fix_edit.specs.lint_base.declared.rule.Rule.{Rule}
+use Rattle.fix_edit.specs.lint_base.declared.rule.Rule.TheVariants as rule
+use Rattle.fix_edit.specs.lint_base.declared.violation.Violation.{Violation}
+use Rattle.fix_edit.specs.lint_base.Fixes.{FixValue}
+use Rattle.fix_edit.specs.lint_base.RuleNames.{rule_named}
+use Rattle.fix_edit.specs.lint_base.RuleSets.{Rules, has}
+use Rattle.fix_edit.specs.lint_base.Violations.{violation}
+use Rattle.fix_edit.specs.lint_ignore.declared.ignore.Ignore.{Ignore}
+use Rattle.fix_edit.specs.lint_ignore.declared.ignore.IgnoreKind.{IgnoreKind}
+use Rattle.fix_edit.specs.lint_ignore.declared.ignore.IgnorePiece.{IgnorePiece}
+use Rattle.fix_edit.specs.lint_ignore.Part.{Part, range_of}
+use Rattle.fix_edit.specs.lint_ignore.Found.{Lists, all_said, followed_by, found_from, found_in, ignore_comments, nothing, said}
+use Rattle.fix_edit.specs.lint_ignore.Names.{names_in, unknown_by, unknown_message, unknown_name}
+use Rattle.fix_edit.specs.lint_ignore.Places.{IsPlace, NamesLie}
+use Rattle.fix_edit.specs.lint_ignore.Unused.{counting, is_unused, unused_among, unused_name, unused_names}
+use Rattle.fix_edit.proofs.of_lint_ignore.Places.{names_lie_in}
+use Rattle.fix_edit.specs.lint_pass.Laws.{AreEdits}
+use Rattle.fix_edit.specs.lint_pass.Ranges.{AllLieIn, LiesIn}
 use Rattle.squawk_linter.proofs.Sorting.{by_key_all}
 use Rattle.squawk_linter.specs.Placed.{IsPlaced}
 use Rattle.squawk_linter.specs.Reports.{gathered, has_bare_file_ignore, is_left, reports_from, start_of, unused_of, with_unknown_names}

@@ -5,45 +5,45 @@ use Rattle.std.proofs.lemmas.List.{append-nil, map-append}
 use Rattle.std.proofs.lemmas.List.Elements.{All-head, All-tail, All-weaker, filter-append}
 use Rattle.std.specs.List.{cons_option, flat_map, list_any}
 use Rattle.std.specs.Prelude.{All, ◌==◌, ◌&&◌, ◌||◌, filter, slice_get, if◌then◌else◌}
-use Rattle.sql_token.specs.declared.token.Span.{Span}
-use Rattle.sql_token.specs.declared.token.Tok.{Tok}
-use Rattle.text_pos.specs.Range.{Range}
-use Rattle.sql_tree.specs.declared.kinds.StmtKind.{StmtKind}
-use Rattle.sql_tree.specs.declared.kinds.StmtKind.TheVariants.{AlterTable}
-use Rattle.sql_tree.specs.declared.kinds.ActionKind.{ActionKind}
-use Rattle.sql_tree.specs.declared.kinds.ActionKind.TheVariants.{AddConstraint, ValidateConstraint}
-use Rattle.sql_tree.specs.declared.nodes.Action.{Action}
-use Rattle.sql_tree.specs.declared.nodes.Body.{Body}
-use Rattle.sql_tree.specs.declared.nodes.Body.TheVariants as body
-use Rattle.sql_tree.specs.declared.nodes.Constraint.{Constraint}
-use Rattle.sql_tree.specs.declared.nodes.Stmt.{Stmt}
-use Rattle.sql_tree.specs.Nodes.{actions_in}
-use Rattle.sql_tree.specs.Path.{path_cuts}
-use Rattle.sql_tree.specs.Range.{span_range_of, stmt_range_of}
-use Rattle.sql_tree.specs.Statement.{Tree, IsTree}
-use Rattle.lint_base.specs.declared.rule.Rule.{Rule}
-use Rattle.lint_base.specs.declared.rule.Rule.TheVariants as rule
-use Rattle.lint_base.specs.declared.settings.LinterSettings.{LinterSettings}
-use Rattle.lint_base.specs.declared.violation.Violation.{Violation}
-use Rattle.lint_base.specs.RuleSets.{Rules, has}
-use Rattle.lint_ignore.specs.Comment.{ignore_in_token}
-use Rattle.lint_ignore.specs.Found.{all_said, found_in, ignore_comments, nothing}
-use Rattle.lint_transaction.specs.Earlier.{concat_below}
-use Rattle.lint_transaction.specs.Transaction.{stmt_at, is_new, is_new_table, is_open, no_stmt}
-use Rattle.lint_node.specs.Altered.{path_in}
-use Rattle.lint_node.specs.Parts.{added_constraint, is_checked, table_actions}
-use Rattle.lint_node.specs.Same as node
-use Rattle.lint_pass.specs.Laws.{IsOf}
-use Rattle.lint_pass.specs.Pieces.{no_piece}
-use Rattle.pass_constraint.specs.ConstraintMissingNotValid as constraint
-use Rattle.pass_constraint.specs.ConstraintMissingNotValid.{addition_report, validation_report}
-use Rattle.pass_concurrent.specs.RequireConcurrentIndexCreation as build
-use Rattle.pass_concurrent.specs.RequireConcurrentIndexCreation.{report}
+use Rattle.sql_read.specs.sql_token.declared.token.Span.{Span}
+use Rattle.sql_read.specs.sql_token.declared.token.Tok.{Tok}
+use Rattle.sql_read.specs.text_pos.Range.{Range}
+use Rattle.sql_read.specs.sql_tree.declared.kinds.StmtKind.{StmtKind}
+use Rattle.sql_read.specs.sql_tree.declared.kinds.StmtKind.TheVariants.{AlterTable}
+use Rattle.sql_read.specs.sql_tree.declared.kinds.ActionKind.{ActionKind}
+use Rattle.sql_read.specs.sql_tree.declared.kinds.ActionKind.TheVariants.{AddConstraint, ValidateConstraint}
+use Rattle.sql_read.specs.sql_tree.declared.nodes.Action.{Action}
+use Rattle.sql_read.specs.sql_tree.declared.nodes.Body.{Body}
+use Rattle.sql_read.specs.sql_tree.declared.nodes.Body.TheVariants as body
+use Rattle.sql_read.specs.sql_tree.declared.nodes.Constraint.{Constraint}
+use Rattle.sql_read.specs.sql_tree.declared.nodes.Stmt.{Stmt}
+use Rattle.sql_read.specs.sql_tree.Nodes.{actions_in}
+use Rattle.sql_read.specs.sql_tree.Path.{path_cuts}
+use Rattle.sql_read.specs.sql_tree.Range.{span_range_of, stmt_range_of}
+use Rattle.sql_read.specs.sql_tree.Statement.{Tree, IsTree}
+use Rattle.fix_edit.specs.lint_base.declared.rule.Rule.{Rule}
+use Rattle.fix_edit.specs.lint_base.declared.rule.Rule.TheVariants as rule
+use Rattle.fix_edit.specs.lint_base.declared.settings.LinterSettings.{LinterSettings}
+use Rattle.fix_edit.specs.lint_base.declared.violation.Violation.{Violation}
+use Rattle.fix_edit.specs.lint_base.RuleSets.{Rules, has}
+use Rattle.fix_edit.specs.lint_ignore.Comment.{ignore_in_token}
+use Rattle.fix_edit.specs.lint_ignore.Found.{all_said, found_in, ignore_comments, nothing}
+use Rattle.fix_edit.specs.lint_transaction.Earlier.{concat_below}
+use Rattle.fix_edit.specs.lint_transaction.Transaction.{stmt_at, is_new, is_new_table, is_open, no_stmt}
+use Rattle.fix_edit.specs.lint_node.Altered.{path_in}
+use Rattle.fix_edit.specs.lint_node.Parts.{added_constraint, is_checked, table_actions}
+use Rattle.fix_edit.specs.lint_node.Same as node
+use Rattle.fix_edit.specs.lint_pass.Laws.{IsOf}
+use Rattle.fix_edit.specs.lint_pass.Pieces.{no_piece}
+use Rattle.law_answers.specs.pass_constraint.ConstraintMissingNotValid as constraint
+use Rattle.law_answers.specs.pass_constraint.ConstraintMissingNotValid.{addition_report, validation_report}
+use Rattle.fix_edit.specs.pass_concurrent.RequireConcurrentIndexCreation as build
+use Rattle.fix_edit.specs.pass_concurrent.RequireConcurrentIndexCreation.{report}
 use Rattle.squawk_linter.specs.Laws.{HeadlineHolds, Table}
 use Rattle.squawk_linter.specs.ByStart.{by_key}
-use Rattle.law_renumber.specs.Order.{ActionsAscend}
+use Rattle.fix_edit.specs.law_renumber.Order.{ActionsAscend}
 use Rattle.squawk_linter.specs.Headline.{Entry, HasNoIgnoreComment, addition_entry, additions_at, alteration_entries, build_at, build_entry, built, entries_of, headline_of, is_adding, is_alter_table, is_on_new, is_scanned, adds_on, is_in_headline, same_range}
-use Rattle.pass_groups.specs.OwnTable.{after_constraints, before_builds, before_constraints, group1_table, group2_table, group3_table, group4_table, group5_table, group6_table, group7_table, group8_table, own_table}
+use Rattle.law_answers.specs.pass_groups.OwnTable.{after_constraints, before_builds, before_constraints, group1_table, group2_table, group3_table, group4_table, group5_table, group6_table, group7_table, group8_table, own_table}
 use Rattle.squawk_linter.specs.Reports.{cleared, reports_from, start_of, with_unknown_names}
 use Rattle.squawk_linter.proofs.ActionPlaces.{adds_elsewhere}
 use Rattle.squawk_linter.proofs.Gathering.{gathered_plain}

@@ -4,25 +4,25 @@ use Rattle.std.proofs.Math.Bool.{or-true}
 use Rattle.std.proofs.lemmas.Bool.{cases_Bool}
 use Rattle.std.specs.List.{list_any}
 use Rattle.std.specs.Prelude.{◌&&◌, ◌||◌, filter, not, if◌then◌else◌, length, ◌+◌}
-use Rattle.sql_token.specs.Token.{Text}
-use Rattle.sql_tree.specs.Statement.{Tree}
-use Rattle.text_pos.specs.Line.{line_of}
-use Rattle.lint_base.specs.declared.rule.Rule.{Rule}
-use Rattle.lint_base.specs.declared.rule.Rule.TheVariants as rule
-use Rattle.lint_base.specs.declared.settings.LinterSettings.{LinterSettings}
-use Rattle.lint_base.specs.declared.violation.Violation.{Violation}
-use Rattle.lint_base.specs.RuleSets.{Rules, has}
-use Rattle.lint_ignore.specs.declared.ignore.Ignore.{Ignore}
-use Rattle.lint_ignore.specs.declared.ignore.IgnoreKind.{IgnoreKind}
-use Rattle.lint_ignore.specs.declared.ignore.IgnoreKind.TheVariants.{File, Line}
-use Rattle.lint_ignore.specs.Comment.{has_disable_comment}
-use Rattle.lint_ignore.specs.Covered.{covers, covers_by, reaches}
-use Rattle.lint_ignore.specs.Found.{found_in}
-use Rattle.lint_ignore.specs.Index.{is_bare_file, is_file}
-use Rattle.lint_ignore.specs.Unused.{unused_names}
+use Rattle.sql_read.specs.sql_token.Token.{Text}
+use Rattle.sql_read.specs.sql_tree.Statement.{Tree}
+use Rattle.sql_read.specs.text_pos.Line.{line_of}
+use Rattle.fix_edit.specs.lint_base.declared.rule.Rule.{Rule}
+use Rattle.fix_edit.specs.lint_base.declared.rule.Rule.TheVariants as rule
+use Rattle.fix_edit.specs.lint_base.declared.settings.LinterSettings.{LinterSettings}
+use Rattle.fix_edit.specs.lint_base.declared.violation.Violation.{Violation}
+use Rattle.fix_edit.specs.lint_base.RuleSets.{Rules, has}
+use Rattle.fix_edit.specs.lint_ignore.declared.ignore.Ignore.{Ignore}
+use Rattle.fix_edit.specs.lint_ignore.declared.ignore.IgnoreKind.{IgnoreKind}
+use Rattle.fix_edit.specs.lint_ignore.declared.ignore.IgnoreKind.TheVariants.{File, Line}
+use Rattle.fix_edit.specs.lint_ignore.Comment.{has_disable_comment}
+use Rattle.fix_edit.specs.lint_ignore.Covered.{covers, covers_by, reaches}
+use Rattle.fix_edit.specs.lint_ignore.Found.{found_in}
+use Rattle.fix_edit.specs.lint_ignore.Index.{is_bare_file, is_file}
+use Rattle.fix_edit.specs.lint_ignore.Unused.{unused_names}
 use Rattle.squawk_linter.specs.ByStart.{by_key}
 use Rattle.squawk_linter.specs.Answers.{reports}
-use Rattle.pass_groups.specs.OwnTable.{own_table}
+use Rattle.law_answers.specs.pass_groups.OwnTable.{own_table}
 use Rattle.squawk_linter.specs.Reports.{cleared, has_bare_file_ignore, is_left, reports_from, start_of, unused_of, with_unknown_names}
 
 -- ---- linting again

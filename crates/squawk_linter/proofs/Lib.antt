@@ -8,3 +8,9 @@ pub mod Members
 pub mod Sorting
 pub mod Tables
 pub mod Mendings
+pub use Rattle.fix_edit.proofs.of_lint_base
+pub use Rattle.fix_edit.proofs.of_lint_ignore
+pub use Rattle.fix_edit.proofs.of_lint_transaction
+pub use Rattle.law_clean.proofs.of_lock_machine
+pub use Rattle.fix_edit.proofs.of_sql_token
+pub use Rattle.fix_edit.proofs.of_sql_tree

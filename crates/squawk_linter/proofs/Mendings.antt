@@ -2,25 +2,25 @@
 use Rattle.std.proofs.Common.{◌≡◌, ◌<◌, ◌^◌, List, length, sym, subst, Some, IfSome}
 use Rattle.std.proofs.lemmas.List.Elements.{All-contains, All-weaker}
 use Rattle.std.specs.Prelude.{Contains}
-use Rattle.sql_tree.specs.Statement.{Tree, IsTree}
-use Rattle.lint_base.specs.declared.rule.Rule.{Rule}
-use Rattle.lint_base.specs.declared.rule.Rule.TheVariants as rule
-use Rattle.lint_base.specs.declared.settings.LinterSettings.{LinterSettings}
-use Rattle.lint_base.specs.declared.violation.Violation.{Violation}
-use Rattle.lint_base.specs.Fixes.{FixValue}
-use Rattle.lint_base.specs.RuleSets.{Rules}
-use Rattle.pass_groups.specs.OwnTable.{own_table}
-use Rattle.law_fixes.specs.Edited.{edited}
-use Rattle.law_fixes.specs.Mended.{FixMends, FixesMend, Table, WithWord, builds, dropped, rebuilt, detached}
-use Rattle.law_fixes.specs.Timeouts.{SetMended}
-use Rattle.law_fixes.proofs.Detached.{detached_mend}
-use Rattle.law_fixes.proofs.Fixed.{builds_mend, dropped_mend, rebuilt_mend}
-use Rattle.law_fixes.proofs.TimeoutFixes.{timeouts_mend}
-use Rattle.law_type_fixes.specs.Mended.{TypeFixMends, TypeFixesMend}
-use Rattle.law_type_fixes.specs.Rules.{type_table, ints, smallints, timestamps, varchars}
-use Rattle.law_type_fixes.proofs.Fixes.{ints_mend, smallints_mend, timestamps_mend, varchars_mend}
-use Rattle.law_type_fixes.proofs.Inners.{inners_become_words}
-use Rattle.law_type_fixes.proofs.LastNames.{names_become_words}
+use Rattle.sql_read.specs.sql_tree.Statement.{Tree, IsTree}
+use Rattle.fix_edit.specs.lint_base.declared.rule.Rule.{Rule}
+use Rattle.fix_edit.specs.lint_base.declared.rule.Rule.TheVariants as rule
+use Rattle.fix_edit.specs.lint_base.declared.settings.LinterSettings.{LinterSettings}
+use Rattle.fix_edit.specs.lint_base.declared.violation.Violation.{Violation}
+use Rattle.fix_edit.specs.lint_base.Fixes.{FixValue}
+use Rattle.fix_edit.specs.lint_base.RuleSets.{Rules}
+use Rattle.law_answers.specs.pass_groups.OwnTable.{own_table}
+use Rattle.fix_edit.specs.law_fixes.Edited.{edited}
+use Rattle.fix_edit.specs.law_fixes.Mended.{FixMends, FixesMend, Table, WithWord, builds, dropped, rebuilt, detached}
+use Rattle.fix_edit.specs.law_fixes.Timeouts.{SetMended}
+use Rattle.fix_edit.proofs.of_law_fixes.Detached.{detached_mend}
+use Rattle.fix_edit.proofs.of_law_fixes.Fixed.{builds_mend, dropped_mend, rebuilt_mend}
+use Rattle.fix_edit.proofs.of_law_fixes.TimeoutFixes.{timeouts_mend}
+use Rattle.fix_edit.specs.law_type_fixes.Mended.{TypeFixMends, TypeFixesMend}
+use Rattle.fix_edit.specs.law_type_fixes.Rules.{type_table, ints, smallints, timestamps, varchars}
+use Rattle.fix_edit.proofs.of_law_type_fixes.Fixes.{ints_mend, smallints_mend, timestamps_mend, varchars_mend}
+use Rattle.fix_edit.proofs.of_law_type_fixes.Inners.{inners_become_words}
+use Rattle.fix_edit.proofs.of_law_type_fixes.LastNames.{names_become_words}
 use Rattle.law_answers.specs.Tables.{EntriesAreInTheirTables, IsInItsTable, mended_table, timeouts}
 use Rattle.squawk_linter.specs.Answers.{reports}
 use Rattle.squawk_linter.specs.Mending.{AnsweredFixesMend, AnswersAreInTheirTables, MendedFor, TypeMended, WordMended}

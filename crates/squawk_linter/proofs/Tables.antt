@@ -3,19 +3,19 @@ use Rattle.std.proofs.Common.{◌≡◌, ℕ, zero, suc, ◌<◌, List, [], ◌�
 use Rattle.std.proofs.lemmas.List.Elements.{All-head, All-tail, All-weaker}
 use Rattle.std.specs.Prelude.{All}
 use Rattle.std.specs.Str.{IsUtf8}
-use Rattle.sql_token.specs.Token.{Text}
-use Rattle.sql_tree.specs.Statement.{Tree, IsTree}
-use Rattle.lint_base.specs.declared.edit.Edit.{Edit}
-use Rattle.lint_base.specs.declared.settings.LinterSettings.{LinterSettings}
-use Rattle.lint_base.specs.declared.violation.Violation.{Violation}
-use Rattle.lint_base.specs.Fixes.{FixValue}
-use Rattle.lint_base.specs.RuleSets.{Rules, with_rule}
-use Rattle.lint_ignore.specs.Found.{found_in}
-use Rattle.lint_ignore.specs.Places.{IsPlace}
-use Rattle.lint_pass.specs.Laws.{AreApart, AreEdits, IsPlacedIn}
-use Rattle.lint_pass.specs.PairLaws.{pair_apart}
-use Rattle.lint_pass.specs.Ranges.{LiesIn}
-use Rattle.pass_groups.specs.OwnTable.{own_table}
+use Rattle.sql_read.specs.sql_token.Token.{Text}
+use Rattle.sql_read.specs.sql_tree.Statement.{Tree, IsTree}
+use Rattle.fix_edit.specs.lint_base.declared.edit.Edit.{Edit}
+use Rattle.fix_edit.specs.lint_base.declared.settings.LinterSettings.{LinterSettings}
+use Rattle.fix_edit.specs.lint_base.declared.violation.Violation.{Violation}
+use Rattle.fix_edit.specs.lint_base.Fixes.{FixValue}
+use Rattle.fix_edit.specs.lint_base.RuleSets.{Rules, with_rule}
+use Rattle.fix_edit.specs.lint_ignore.Found.{found_in}
+use Rattle.fix_edit.specs.lint_ignore.Places.{IsPlace}
+use Rattle.fix_edit.specs.lint_pass.Laws.{AreApart, AreEdits, IsPlacedIn}
+use Rattle.fix_edit.specs.lint_pass.PairLaws.{pair_apart}
+use Rattle.fix_edit.specs.lint_pass.Ranges.{LiesIn}
+use Rattle.law_answers.specs.pass_groups.OwnTable.{own_table}
 use Rattle.fix_edit.specs.Faults.{AreGood, IsGoodAt}
 use Rattle.squawk_linter.specs.Answers.{reports}
 use Rattle.squawk_linter.specs.Placed.{AnsweredFixesAreGood, AnswersPlaced, IsPlaced, IsPlacedPass}

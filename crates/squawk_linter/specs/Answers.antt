@@ -1,14 +1,14 @@
 -- What linting a text answers, and what it leaves.
 use Rattle.std.specs.Prelude.{◌≡◌, ◌⊎◌, List, Result, Ok, Err}
-use Rattle.sql_token.specs.Token.{Text}
-use Rattle.sql_tree.specs.Statement.{Tree}
+use Rattle.sql_read.specs.sql_token.Token.{Text}
+use Rattle.sql_read.specs.sql_tree.Statement.{Tree}
 use Rattle.sql_read.specs.declared.error.LintError.{LintError}
 use Rattle.sql_read.specs.declared.error.LintError.TheVariants.{TooLong, Unterminated, Syntax, NoMemory}
 use Rattle.sql_read.specs.Cause.{IsTreeOf}
-use Rattle.lint_base.specs.declared.settings.LinterSettings.{LinterSettings}
-use Rattle.lint_base.specs.declared.violation.Violation.{Violation}
-use Rattle.lint_base.specs.RuleSets.{Rules}
-use Rattle.pass_groups.specs.OwnTable.{own_table}
+use Rattle.fix_edit.specs.lint_base.declared.settings.LinterSettings.{LinterSettings}
+use Rattle.fix_edit.specs.lint_base.declared.violation.Violation.{Violation}
+use Rattle.fix_edit.specs.lint_base.RuleSets.{Rules}
+use Rattle.law_answers.specs.pass_groups.OwnTable.{own_table}
 use Rattle.squawk_linter.specs.Reports.{cleared, reports_from}
 
 -- The answer of a linter for a tree: that of its own passes, under its rules and settings, the flag cleared.

@@ -1,14 +1,14 @@
 -- What assessing a text answers: the reports of a linter, and the work that the text does under locks.
 use Rattle.std.specs.Prelude.{◌≡◌, Bool, List}
-use Rattle.sql_token.specs.Token.{Text}
-use Rattle.sql_tree.specs.Statement.{Tree}
+use Rattle.sql_read.specs.sql_token.Token.{Text}
+use Rattle.sql_read.specs.sql_tree.Statement.{Tree}
 use Rattle.sql_read.specs.Cause.{IsTreeOf}
-use Rattle.lint_base.specs.declared.settings.LinterSettings.{LinterSettings}
-use Rattle.lint_base.specs.declared.violation.Violation.{Violation}
-use Rattle.lint_base.specs.RuleSets.{Rules}
-use Rattle.lock_machine.specs.declared.work.Work.{Work}
-use Rattle.lock_machine.specs.Plain.{plain}
-use Rattle.lock_machine.specs.Works.{works}
+use Rattle.fix_edit.specs.lint_base.declared.settings.LinterSettings.{LinterSettings}
+use Rattle.fix_edit.specs.lint_base.declared.violation.Violation.{Violation}
+use Rattle.fix_edit.specs.lint_base.RuleSets.{Rules}
+use Rattle.law_clean.specs.lock_machine.declared.work.Work.{Work}
+use Rattle.law_clean.specs.lock_machine.Plain.{plain}
+use Rattle.law_clean.specs.lock_machine.Works.{works}
 use Rattle.squawk_linter.specs.Answers.{reports}
 use Rattle.squawk_linter.specs.Reports.{cleared}
 

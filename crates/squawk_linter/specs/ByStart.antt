@@ -1,6 +1,6 @@
 -- The entries of a list in the order of a number.
 use Rattle.std.specs.Prelude.{ℕ, ◌==◌, List, filter}
-use Rattle.lint_transaction.specs.Earlier.{concat_below}
+use Rattle.fix_edit.specs.lint_transaction.Earlier.{concat_below}
 
 -- The entries whose number is below n, in the order of their numbers; entries of one number stay in the order in which
 -- they were.

@@ -1,16 +1,16 @@
 -- What an answer without reports means.
 use Rattle.std.specs.Prelude.{◌≡◌, Bool, true, All, List, []}
-use Rattle.sql_tree.specs.Statement.{Tree}
-use Rattle.lint_base.specs.declared.settings.LinterSettings.{LinterSettings}
-use Rattle.lint_base.specs.declared.violation.Violation.{Violation}
-use Rattle.lint_base.specs.RuleSets.{Rules}
-use Rattle.lint_pass.specs.Laws.{IsRead}
-use Rattle.lint_pass.specs.Ranges.{AllLieIn}
+use Rattle.sql_read.specs.sql_tree.Statement.{Tree}
+use Rattle.fix_edit.specs.lint_base.declared.settings.LinterSettings.{LinterSettings}
+use Rattle.fix_edit.specs.lint_base.declared.violation.Violation.{Violation}
+use Rattle.fix_edit.specs.lint_base.RuleSets.{Rules}
+use Rattle.fix_edit.specs.lint_pass.Laws.{IsRead}
+use Rattle.fix_edit.specs.lint_pass.Ranges.{AllLieIn}
 use Rattle.law_clean.specs.Clean.{HasDefaults, IsYoung}
 use Rattle.law_clean.specs.Validations.{ValidatesApart}
-use Rattle.lock_machine.specs.declared.work.Work.{Work}
-use Rattle.lock_machine.specs.Plain.{plain}
-use Rattle.lock_machine.specs.Works.{works}
+use Rattle.law_clean.specs.lock_machine.declared.work.Work.{Work}
+use Rattle.law_clean.specs.lock_machine.Plain.{plain}
+use Rattle.law_clean.specs.lock_machine.Works.{works}
 use Rattle.squawk_linter.specs.Answers.{reports}
 use Rattle.squawk_linter.specs.Headline.{HasNoIgnoreComment}
 use Rattle.squawk_linter.specs.Laws.{Table}

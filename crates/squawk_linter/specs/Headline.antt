@@ -3,28 +3,28 @@
 -- it is locked (ALTER TABLE, "ADD table_constraint [ NOT VALID ]"), except on tables that the same open transaction creates.
 use Rattle.std.specs.Prelude.{◌≡◌, ℕ, ◌+◌, Bool, true, false, ◌==◌, ◌&&◌, not, All, List, [], ◌∷◌, ◌++◌, Option, Some, None, filter, length, map, if◌then◌else◌}
 use Rattle.std.specs.List.{flat_map, list_any}
-use Rattle.sql_token.specs.declared.token.Span.{Span}
-use Rattle.sql_tree.specs.declared.kinds.ActionKind.{ActionKind}
-use Rattle.sql_tree.specs.declared.kinds.ActionKind.TheVariants.{AddConstraint}
-use Rattle.sql_tree.specs.declared.kinds.StmtKind.{StmtKind}
-use Rattle.sql_tree.specs.declared.kinds.StmtKind.TheVariants.{AlterTable}
-use Rattle.sql_tree.specs.declared.nodes.Action.{Action}
-use Rattle.sql_tree.specs.declared.nodes.Body.{Body}
-use Rattle.sql_tree.specs.declared.nodes.Body.TheVariants as body
-use Rattle.sql_tree.specs.declared.nodes.Constraint.{Constraint}
-use Rattle.sql_tree.specs.declared.nodes.Stmt.{Stmt}
-use Rattle.sql_tree.specs.Nodes.{actions_in}
-use Rattle.sql_tree.specs.Path.{path_cuts}
-use Rattle.sql_tree.specs.Range.{span_range_of, stmt_range_of}
-use Rattle.sql_tree.specs.Statement.{Tree}
-use Rattle.text_pos.specs.Range.{Range}
-use Rattle.lint_base.specs.declared.rule.Rule.{Rule}
-use Rattle.lint_base.specs.declared.rule.Rule.TheVariants as rule
-use Rattle.lint_base.specs.declared.violation.Violation.{Violation}
-use Rattle.lint_base.specs.RuleSets.{Rules, has}
-use Rattle.lint_ignore.specs.Comment.{ignore_in_token}
-use Rattle.lint_transaction.specs.Earlier.{concat_below}
-use Rattle.lint_transaction.specs.Transaction.{stmt_at, is_new}
+use Rattle.sql_read.specs.sql_token.declared.token.Span.{Span}
+use Rattle.sql_read.specs.sql_tree.declared.kinds.ActionKind.{ActionKind}
+use Rattle.sql_read.specs.sql_tree.declared.kinds.ActionKind.TheVariants.{AddConstraint}
+use Rattle.sql_read.specs.sql_tree.declared.kinds.StmtKind.{StmtKind}
+use Rattle.sql_read.specs.sql_tree.declared.kinds.StmtKind.TheVariants.{AlterTable}
+use Rattle.sql_read.specs.sql_tree.declared.nodes.Action.{Action}
+use Rattle.sql_read.specs.sql_tree.declared.nodes.Body.{Body}
+use Rattle.sql_read.specs.sql_tree.declared.nodes.Body.TheVariants as body
+use Rattle.sql_read.specs.sql_tree.declared.nodes.Constraint.{Constraint}
+use Rattle.sql_read.specs.sql_tree.declared.nodes.Stmt.{Stmt}
+use Rattle.sql_read.specs.sql_tree.Nodes.{actions_in}
+use Rattle.sql_read.specs.sql_tree.Path.{path_cuts}
+use Rattle.sql_read.specs.sql_tree.Range.{span_range_of, stmt_range_of}
+use Rattle.sql_read.specs.sql_tree.Statement.{Tree}
+use Rattle.sql_read.specs.text_pos.Range.{Range}
+use Rattle.fix_edit.specs.lint_base.declared.rule.Rule.{Rule}
+use Rattle.fix_edit.specs.lint_base.declared.rule.Rule.TheVariants as rule
+use Rattle.fix_edit.specs.lint_base.declared.violation.Violation.{Violation}
+use Rattle.fix_edit.specs.lint_base.RuleSets.{Rules, has}
+use Rattle.fix_edit.specs.lint_ignore.Comment.{ignore_in_token}
+use Rattle.fix_edit.specs.lint_transaction.Earlier.{concat_below}
+use Rattle.fix_edit.specs.lint_transaction.Transaction.{stmt_at, is_new}
 use Rattle.squawk_linter.specs.ByStart.{by_key}
 
 -- a rule and where it is broken

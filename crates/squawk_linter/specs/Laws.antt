@@ -1,20 +1,20 @@
 -- Laws of what a linter answers.
 use Rattle.std.specs.Prelude.{◌≡◌, ◌≢◌, ℕ, true, false, All, List, []}
-use Rattle.sql_token.specs.Token.{Text}
-use Rattle.sql_tree.specs.Statement.{Tree, IsTree}
-use Rattle.lint_base.specs.declared.rule.Rule.{Rule}
-use Rattle.lint_base.specs.declared.rule.Rule.TheVariants as rule
-use Rattle.lint_base.specs.declared.settings.LinterSettings.{LinterSettings}
-use Rattle.lint_base.specs.declared.violation.Violation.{Violation}
-use Rattle.lint_base.specs.RuleSets.{Rules, has, with_rule}
-use Rattle.lint_ignore.specs.declared.ignore.Ignore.{Ignore}
-use Rattle.lint_ignore.specs.declared.ignore.IgnoreKind.TheVariants.{Line}
-use Rattle.lint_ignore.specs.Covered.{covers}
-use Rattle.lint_ignore.specs.Found.{found_in}
+use Rattle.sql_read.specs.sql_token.Token.{Text}
+use Rattle.sql_read.specs.sql_tree.Statement.{Tree, IsTree}
+use Rattle.fix_edit.specs.lint_base.declared.rule.Rule.{Rule}
+use Rattle.fix_edit.specs.lint_base.declared.rule.Rule.TheVariants as rule
+use Rattle.fix_edit.specs.lint_base.declared.settings.LinterSettings.{LinterSettings}
+use Rattle.fix_edit.specs.lint_base.declared.violation.Violation.{Violation}
+use Rattle.fix_edit.specs.lint_base.RuleSets.{Rules, has, with_rule}
+use Rattle.fix_edit.specs.lint_ignore.declared.ignore.Ignore.{Ignore}
+use Rattle.fix_edit.specs.lint_ignore.declared.ignore.IgnoreKind.TheVariants.{Line}
+use Rattle.fix_edit.specs.lint_ignore.Covered.{covers}
+use Rattle.fix_edit.specs.lint_ignore.Found.{found_in}
 use Rattle.squawk_linter.specs.Answers.{reports}
 use Rattle.squawk_linter.specs.Headline.{HasNoIgnoreComment, headline_of, headline_reports}
-use Rattle.lint_pass.specs.Laws.{IsPlacedIn, reports_by}
-use Rattle.pass_groups.specs.OwnTable.{own_table}
+use Rattle.fix_edit.specs.lint_pass.Laws.{IsPlacedIn, reports_by}
+use Rattle.law_answers.specs.pass_groups.OwnTable.{own_table}
 use Rattle.squawk_linter.specs.Reports.{cleared, has_bare_file_ignore, reports_from, with_unknown_names}
 
 -- The settings that a linter keeps after its first answer give the same answer again.

@@ -1,17 +1,17 @@
 -- What the fixes of an answer do.
 use Rattle.std.specs.Prelude.{◌≡◌, ◌<◌, ◌^◌, All, List, length, Some}
-use Rattle.sql_tree.specs.Statement.{Tree, IsTree}
-use Rattle.lint_base.specs.declared.rule.Rule.{Rule}
-use Rattle.lint_base.specs.declared.rule.Rule.TheVariants as rule
-use Rattle.lint_base.specs.declared.settings.LinterSettings.{LinterSettings}
-use Rattle.lint_base.specs.declared.violation.Violation.{Violation}
-use Rattle.lint_base.specs.Fixes.{FixValue}
-use Rattle.lint_base.specs.RuleSets.{Rules}
-use Rattle.law_fixes.specs.Edited.{edited}
-use Rattle.law_fixes.specs.Mended.{Mended, Table, WithWord, builds, dropped, rebuilt, detached}
-use Rattle.law_fixes.specs.Timeouts.{SetMended}
-use Rattle.law_type_fixes.specs.Mended.{AreApart, WithRun}
-use Rattle.law_type_fixes.specs.Rules.{type_table, ints, smallints, timestamps, varchars}
+use Rattle.sql_read.specs.sql_tree.Statement.{Tree, IsTree}
+use Rattle.fix_edit.specs.lint_base.declared.rule.Rule.{Rule}
+use Rattle.fix_edit.specs.lint_base.declared.rule.Rule.TheVariants as rule
+use Rattle.fix_edit.specs.lint_base.declared.settings.LinterSettings.{LinterSettings}
+use Rattle.fix_edit.specs.lint_base.declared.violation.Violation.{Violation}
+use Rattle.fix_edit.specs.lint_base.Fixes.{FixValue}
+use Rattle.fix_edit.specs.lint_base.RuleSets.{Rules}
+use Rattle.fix_edit.specs.law_fixes.Edited.{edited}
+use Rattle.fix_edit.specs.law_fixes.Mended.{Mended, Table, WithWord, builds, dropped, rebuilt, detached}
+use Rattle.fix_edit.specs.law_fixes.Timeouts.{SetMended}
+use Rattle.fix_edit.specs.law_type_fixes.Mended.{AreApart, WithRun}
+use Rattle.fix_edit.specs.law_type_fixes.Rules.{type_table, ints, smallints, timestamps, varchars}
 use Rattle.law_answers.specs.Tables.{IsInItsTable}
 use Rattle.squawk_linter.specs.Answers.{reports}
 use Rattle.squawk_linter.specs.Reports.{cleared}

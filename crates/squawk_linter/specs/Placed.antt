@@ -1,12 +1,12 @@
 -- Where the reports of an answer and the edits of their fixes are.
 use Rattle.std.specs.Prelude.{All, IfSome, List}
-use Rattle.sql_token.specs.Token.{Text}
-use Rattle.sql_tree.specs.Statement.{Tree}
-use Rattle.lint_base.specs.declared.settings.LinterSettings.{LinterSettings}
-use Rattle.lint_base.specs.declared.violation.Violation.{Violation}
-use Rattle.lint_base.specs.RuleSets.{Rules}
-use Rattle.lint_ignore.specs.Places.{IsPlace}
-use Rattle.lint_pass.specs.Laws.{AreEdits, IsRead, IsPlacedIn}
+use Rattle.sql_read.specs.sql_token.Token.{Text}
+use Rattle.sql_read.specs.sql_tree.Statement.{Tree}
+use Rattle.fix_edit.specs.lint_base.declared.settings.LinterSettings.{LinterSettings}
+use Rattle.fix_edit.specs.lint_base.declared.violation.Violation.{Violation}
+use Rattle.fix_edit.specs.lint_base.RuleSets.{Rules}
+use Rattle.fix_edit.specs.lint_ignore.Places.{IsPlace}
+use Rattle.fix_edit.specs.lint_pass.Laws.{AreEdits, IsRead, IsPlacedIn}
 use Rattle.fix_edit.specs.Faults.{AreGood}
 use Rattle.squawk_linter.specs.Answers.{reports}
 use Rattle.squawk_linter.specs.Laws.{Table}

@@ -1,18 +1,18 @@
 -- What a linter answers.
 use Rattle.std.specs.Prelude.{ℕ, ◌+◌, Bool, ◌&&◌, not, List, [], ◌++◌, filter, length, if◌then◌else◌}
 use Rattle.std.specs.List.{list_any}
-use Rattle.sql_token.specs.Token.{Text}
-use Rattle.sql_tree.specs.Statement.{Tree}
-use Rattle.lint_base.specs.declared.rule.Rule.TheVariants as rule
-use Rattle.lint_base.specs.declared.settings.LinterSettings.{LinterSettings}
-use Rattle.lint_base.specs.declared.violation.Violation.{Violation}
-use Rattle.lint_base.specs.RuleSets.{Rules, has}
-use Rattle.lint_ignore.specs.declared.ignore.Ignore.{Ignore}
-use Rattle.lint_ignore.specs.Comment.{has_disable_comment}
-use Rattle.lint_ignore.specs.Covered.{is_covered}
-use Rattle.lint_ignore.specs.Found.{found_in}
-use Rattle.lint_ignore.specs.Index.{is_bare_file}
-use Rattle.lint_ignore.specs.Unused.{unused_names}
+use Rattle.sql_read.specs.sql_token.Token.{Text}
+use Rattle.sql_read.specs.sql_tree.Statement.{Tree}
+use Rattle.fix_edit.specs.lint_base.declared.rule.Rule.TheVariants as rule
+use Rattle.fix_edit.specs.lint_base.declared.settings.LinterSettings.{LinterSettings}
+use Rattle.fix_edit.specs.lint_base.declared.violation.Violation.{Violation}
+use Rattle.fix_edit.specs.lint_base.RuleSets.{Rules, has}
+use Rattle.fix_edit.specs.lint_ignore.declared.ignore.Ignore.{Ignore}
+use Rattle.fix_edit.specs.lint_ignore.Comment.{has_disable_comment}
+use Rattle.fix_edit.specs.lint_ignore.Covered.{is_covered}
+use Rattle.fix_edit.specs.lint_ignore.Found.{found_in}
+use Rattle.fix_edit.specs.lint_ignore.Index.{is_bare_file}
+use Rattle.fix_edit.specs.lint_ignore.Unused.{unused_names}
 use Rattle.squawk_linter.specs.ByStart.{by_key}
 
 -- no transaction is assumed to be open where a comment says that none is to be assumed

@@ -1,22 +1,22 @@
 //! The answer of a linter, made of the reports of a pass.
 ghost use Rattle.std.specs.Prelude.{◌≡◌, ◌<◌, ◌^◌, [], ℕ, List, All, filter, length, IfOk};
 ghost use Rattle.std.specs.List.{list_any};
-ghost use Rattle.sql_token.specs.Token.{Text};
-ghost use Rattle.sql_tree.specs.Statement.{IsTree};
-ghost use Rattle.lint_ignore.specs.declared.ignore.Ignore.{Ignore};
-ghost use Rattle.lint_ignore.specs.Found.{found_in, lists_of};
-ghost use Rattle.lint_ignore.specs.Index.{IsIndexOf};
-ghost use Rattle.lint_pass.specs.Ranges.{AllLieIn};
+ghost use Rattle.sql_read.specs.sql_token.Token.{Text};
+ghost use Rattle.sql_read.specs.sql_tree.Statement.{IsTree};
+ghost use Rattle.fix_edit.specs.lint_ignore.declared.ignore.Ignore.{Ignore};
+ghost use Rattle.fix_edit.specs.lint_ignore.Found.{found_in, lists_of};
+ghost use Rattle.fix_edit.specs.lint_ignore.Index.{IsIndexOf};
+ghost use Rattle.fix_edit.specs.lint_pass.Ranges.{AllLieIn};
 ghost use Rattle.squawk_linter.specs.ByStart.{by_key};
 ghost use Rattle.squawk_linter.specs.Reports.{gathered, has_bare_file_ignore, is_left, reports_from, start_of, unused_of, with_unknown_names};
 
-use lint_base::{Reports, Rule, RuleSet, Violation};
-use lint_ignore::{
-    Found, Ignore, IgnoreIndex, IgnoreKind, IgnorePiece, find_ignores, unused_pieces,
+use fix_edit::{
+    Found, Ignore, IgnoreIndex, IgnoreKind, IgnorePiece, Reports, Rule, RuleSet, Violation,
+    find_ignores, unused_pieces,
 };
-use sql_tree::Parse;
+use sql_read::NoMemory;
+use sql_read::sql_tree::Parse;
 use std::alloc::Global;
-use text_pos::NoMemory;
 
 // Whether a bare file ignore is among some ignore comments.
 fn has_bare_file_ignore(ignores: &[Ignore]) -> bool

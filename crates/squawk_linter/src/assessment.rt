@@ -1,7 +1,7 @@
 //! Linting together with the work under locks.
 ghost use Rattle.std.specs.Prelude.{◌≡◌, ◌≤◌, ◌<◌, ◌^◌, ◌↔◌, ℕ, length, IfOk, IfErr};
-ghost use Rattle.sql_token.specs.Token.{OpenAt};
-ghost use Rattle.sql_tree.specs.Statement.{Tree, IsSyntaxAt};
+ghost use Rattle.sql_read.specs.sql_token.Token.{OpenAt};
+ghost use Rattle.sql_read.specs.sql_tree.Statement.{Tree, IsSyntaxAt};
 ghost use Rattle.sql_read.specs.Cause.{IsCause, IsTreeOf, OkOrNoMemory, ErrOrNoMemory};
 ghost use Rattle.squawk_linter.specs.Answers.{SettingsAfter};
 ghost use Rattle.squawk_linter.specs.Assessments.{IsAssessment, assessment};
@@ -10,13 +10,12 @@ ghost use Rattle.squawk_linter.specs.Reports.{cleared};
 
 use crate::clean::clean_answers;
 use crate::linter::Linter;
-use lint_base::Violation;
-use lock_machine::{Work, is_plain, lock_work};
-use sql_read::{LintError, parse};
-use sql_tree::Parse;
+use fix_edit::Violation;
+use law_clean::{Work, is_plain, lock_work};
+use sql_read::sql_tree::Parse;
+use sql_read::{LintError, NoMemory, parse};
 use std::alloc::Global;
 use std::marker::Model;
-use text_pos::NoMemory;
 
 /// What a linter reports of a text, and what the text does under locks.
 #[derive(Debug, Drop)]

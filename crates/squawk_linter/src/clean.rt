@@ -2,9 +2,9 @@
 
 ghost use Rattle.squawk_linter.specs.CleanAnswers.{CleanAnswersWorkAlone, ReportsLie};
 
+use fix_edit::StepPass;
+use law_answers::OwnPasses;
 use law_clean::{clean_answers_have_no_old_work, clean_answers_validate_apart};
-use lint_pass::StepPass;
-use pass_groups::OwnPasses;
 
 /// The reports of a pass lie in the text.
 fn reports_lie<P: StepPass>(_pass: &P)

@@ -1,20 +1,19 @@
 //! Laws of what a linter answers.
 
-ghost use Rattle.lint_base.specs.declared.settings.LinterSettings.{LinterSettings};
-ghost use Rattle.lint_base.specs.RuleSets.{Rules};
-ghost use Rattle.lint_pass.specs.Ranges.{AllLieIn};
+ghost use Rattle.fix_edit.specs.lint_base.declared.settings.LinterSettings.{LinterSettings};
+ghost use Rattle.fix_edit.specs.lint_base.RuleSets.{Rules};
+ghost use Rattle.fix_edit.specs.lint_pass.Ranges.{AllLieIn};
 ghost use Rattle.squawk_linter.specs.Mending.{AnsweredFixesMend, AnswersAreInTheirTables};
 ghost use Rattle.squawk_linter.specs.Placed.{AnsweredFixesAreGood, AnswersPlaced, IsPlacedPass};
 ghost use Rattle.squawk_linter.specs.Laws.{AllPlaced, BareFileLeavesNothing, BareLineCoversNothing, HeadlineHolds, NotInHeadline, RulesApart, RulesApartIn, SecondAnswer};
 
+use fix_edit::{StepPass, starts_ascend};
 use law_answers::laws::entries_are_in_their_tables;
-use law_renumber::laws::starts_ascend;
-use lint_pass::StepPass;
-use pass_groups::{
+use law_answers::{
     AFTER_CONSTRAINTS, BEFORE_BUILDS, BEFORE_CONSTRAINTS, Group1, Group4, Group5, Group6, Group7,
     Group8, OwnPasses,
 };
-use sql_tree::Parse;
+use sql_read::sql_tree::Parse;
 
 /// A linter gives the same answer for a tree again, since it is left with the rules and with the
 /// settings that it was asked with, the flag cleared.

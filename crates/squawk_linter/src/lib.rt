@@ -17,8 +17,21 @@ mod linter;
 
 pub use assessment::{Assessed, assess};
 pub use fix_edit::{FixError, apply_fix};
+pub use law_answers::{Group1, Group2, Group3, Group4, Group5, Group6, Group7, Group8, OwnPasses};
+pub use law_clean::{Work, is_plain, lock_work};
 pub use lint::lint_text;
 pub use linter::Linter;
-pub use lock_machine::{Work, is_plain, lock_work};
-pub use pass_groups::{Group1, Group2, Group3, Group4, Group5, Group6, Group7, Group8, OwnPasses};
 pub use sql_read::LintError;
+
+// What crates above reach through this one.
+pub use fix_edit::{
+    Action, Body, ColType, Column, Constraint, Edit, Elem, Expr, Fix, Found, IgnorePiece,
+    LinterSettings, NamePath, Names, NoMemory, NoPass, OpenTransaction, Pair, Parse, Pass, Piece,
+    Reports, RequireConcurrentIndexCreation, Rule, RuleSet, SetPart, Span, StatementPass, StepPass,
+    Steps, Stmt, TableWrite, TablesCreatedInTransaction, Target, Text, TextSize, Tok,
+    ViewDefinition, Violation, find_ignores, has_disable_assume_in_transaction, ignore_rule_info,
+    unused_pieces,
+};
+pub use law_answers::BanDropDatabase;
+pub use law_clean::numbers_count;
+pub use sql_read;

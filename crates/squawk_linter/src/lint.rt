@@ -1,10 +1,10 @@
 //! Linting.
 ghost use Rattle.std.specs.Prelude.{◌≡◌, ◌≤◌, ◌<◌, ◌^◌, ◌+◌, ◌*◌, ◌↔◌, ℕ, All, length, IfOk, IfErr};
-ghost use Rattle.sql_token.specs.Token.{OpenAt};
-ghost use Rattle.sql_tree.specs.Statement.{Tree, IsTree, IsSyntaxAt};
+ghost use Rattle.sql_read.specs.sql_token.Token.{OpenAt};
+ghost use Rattle.sql_read.specs.sql_tree.Statement.{Tree, IsTree, IsSyntaxAt};
 ghost use Rattle.sql_read.specs.Cause.{IsCause, IsTreeOf, OkOrNoMemory, ErrOrNoMemory};
-ghost use Rattle.lint_pass.specs.Cleared.{IsCleared};
-ghost use Rattle.lint_pass.specs.Ranges.{AllLieIn};
+ghost use Rattle.fix_edit.specs.lint_pass.Cleared.{IsCleared};
+ghost use Rattle.fix_edit.specs.lint_pass.Ranges.{AllLieIn};
 ghost use Rattle.squawk_linter.specs.Answers.{IsAnswer, SettingsAfter, reports};
 ghost use Rattle.squawk_linter.specs.Placed.{IsPlaced};
 ghost use Rattle.squawk_linter.specs.Headline.{HasNoIgnoreComment, headline_of, headline_reports};
@@ -13,15 +13,15 @@ ghost use Rattle.squawk_linter.specs.Reports.{cleared, reports_from};
 use crate::answer::answer;
 use crate::laws::{headline, placed};
 use crate::linter::Linter;
-use lint_base::{LinterSettings, Reports, RuleSet, Violation};
-use lint_ignore::has_disable_assume_in_transaction;
-use lint_pass::{Pass, StepPass, Steps, drive};
-use pass_groups::OwnPasses;
-use sql_read::{LintError, parse};
-use sql_tree::Parse;
+use fix_edit::{
+    LinterSettings, Pass, Reports, RuleSet, StepPass, Steps, Violation, drive,
+    has_disable_assume_in_transaction,
+};
+use law_answers::OwnPasses;
+use sql_read::sql_tree::Parse;
+use sql_read::{LintError, NoMemory, parse};
 use std::alloc::Global;
 use std::sync::ledger::Ledger;
-use text_pos::NoMemory;
 
 // Clears the flag where a comment says that no open transaction is to be assumed.
 fn clear(file: &Parse<'_>, settings: &mut LinterSettings)

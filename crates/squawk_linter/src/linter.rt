@@ -1,11 +1,11 @@
 //! The linter, and the rules that it is made with.
 ghost use Rattle.std.specs.Prelude.{◌≡◌, [], not};
-ghost use Rattle.lint_base.specs.declared.rule.Rule.{Rule};
-ghost use Rattle.lint_base.specs.RuleChoice.{is_chosen, is_named, rules_that};
-ghost use Rattle.lint_base.specs.RuleSets.{default_rules, has};
-ghost use Rattle.lint_base.specs.Rules.{is_opt_in};
+ghost use Rattle.fix_edit.specs.lint_base.declared.rule.Rule.{Rule};
+ghost use Rattle.fix_edit.specs.lint_base.RuleChoice.{is_chosen, is_named, rules_that};
+ghost use Rattle.fix_edit.specs.lint_base.RuleSets.{default_rules, has};
+ghost use Rattle.fix_edit.specs.lint_base.Rules.{is_opt_in};
 
-use lint_base::{LinterSettings, Rule, RuleSet};
+use fix_edit::{LinterSettings, Rule, RuleSet};
 
 /// A linter: the rules that are enabled, and its settings.
 #[derive(Debug, Drop)]

@@ -6,3 +6,4 @@ pub mod Vectors
 pub mod Rooms
 pub mod Pieces
 pub mod Pushes
+pub use Rattle.devices.proofs as of_devices

@@ -4,8 +4,8 @@ use Rattle.std.specs.declared.option.Option.{Option}
 use Rattle.std.proofs.lemmas.List.{at_drop_more}
 use Rattle.std.specs.Io.KnownBytes.{Appends}
 use Rattle.std.proofs.KnownBytes.{Appends-nil, Appends-trans}
-use Rattle.squawk_stream.specs.Parts.{AppendsPart}
-use Rattle.squawk_stream.proofs.PartLaws.{part_after, part_more}
+use Rattle.devices.specs.Parts.{AppendsPart}
+use Rattle.devices.proofs.PartLaws.{part_after, part_more}
 use Rattle.lint_base.specs.declared.violation.Violation.{Violation}
 use Rattle.squawk_print.specs.Printed.{printed_violation, printed_each, printed}
 use Rattle.squawk_print.specs.Written.{AppendsBut, last_line}

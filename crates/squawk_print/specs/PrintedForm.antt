@@ -1,6 +1,6 @@
 -- The printed form tells reports apart.
 use Rattle.std.specs.Prelude.{◌≡◌, ℕ, ◌^◌, ◌<◌, List, [], ◌∷◌, ◌++◌, Option, Some, None}
-use Rattle.text_pos.specs.Range.{Range}
+use Rattle.lint_base.specs.text_pos.Range.{Range}
 use Rattle.lint_base.specs.declared.edit.Edit.{Edit}
 use Rattle.lint_base.specs.declared.violation.Violation.{Violation}
 use Rattle.lint_base.specs.Fixes.{FixValue}

@@ -5,9 +5,8 @@ ghost use Rattle.squawk_print.specs.Escaped.{escaped, escaped_byte, letter_of};
 ghost use Rattle.lint_base.specs.PlainBytes.{is_plain};
 ghost use Rattle.squawk_print.specs.Room.{LacksRoom};
 
-use lint_base::Text;
+use lint_base::{NoMemory, Text};
 use std::simd::prelude::*;
-use text_pos::NoMemory;
 
 /// How many bytes are looked at at a time.
 const LANES: usize = 16;

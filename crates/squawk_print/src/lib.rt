@@ -14,3 +14,7 @@ pub use escape::push_escaped;
 pub use laws::printed_form_is_exact;
 pub use report::{print_violations, push_number};
 pub use write::{WriteError, write_violations};
+
+// What crates above reach through this one.
+pub use devices::{Failed, NoMemory, Sink, TextRange, write_all};
+pub use lint_base::Violation;

@@ -8,9 +8,8 @@ ghost use Rattle.squawk_print.specs.Written.{last_line};
 
 use crate::escape::push_text;
 use itoa::Buffer;
-use lint_base::{Edit, Fix, Text, Violation};
+use lint_base::{Edit, Fix, NoMemory, Text, TextRange, Violation};
 use std::alloc::Global;
-use text_pos::{NoMemory, TextRange};
 
 /// How many bytes are kept ready for each report.
 const ROOM: usize = 272;

@@ -5,8 +5,7 @@ ghost use Rattle.squawk_print.specs.Escaped.{escaped};
 ghost use Rattle.squawk_print.specs.Printed as spec;
 ghost use Rattle.squawk_print.specs.Written.{last_line};
 
-use lint_base::{Edit, Fix, Text, Violation};
-use text_pos::TextRange;
+use lint_base::{Edit, Fix, Text, TextRange, Violation};
 
 /// What an escaped text takes at most. `None` where that is no `usize`, here and below.
 #[tactic(auto, using(crate::proofs::Rooms::length_escaped_le))]

@@ -2,17 +2,16 @@
 ghost use Rattle.std.specs.Prelude.{◌≡◌, ◌+◌, ◌<◌, ◌≤◌, [], ◌++◌, length, vec_capacity, IfOk, OnOk};
 ghost use Rattle.std.specs.Io.KnownBytes.{Appends};
 ghost use Rattle.std.specs.List.{All};
-ghost use Rattle.squawk_stream.specs.Faults.{HasCause, Rose};
-ghost use Rattle.squawk_stream.specs.Parts.{AppendsPart};
+ghost use Rattle.devices.specs.Faults.{HasCause, Rose};
+ghost use Rattle.devices.specs.Parts.{AppendsPart};
 ghost use Rattle.squawk_print.specs.Printed as spec;
 ghost use Rattle.squawk_print.specs.Written.{AppendsBut, last_line};
 
 use crate::report::{push_count, push_violation};
 use crate::room::most_room;
-use lint_base::Violation;
-use squawk_stream::{Failed, Sink, write_all};
+use devices::{Failed, Sink, write_all};
+use lint_base::{NoMemory, Violation};
 use std::alloc::Global;
-use text_pos::NoMemory;
 
 /// How many bytes a piece has at least, but for the last one.
 const PIECE: usize = 65536;

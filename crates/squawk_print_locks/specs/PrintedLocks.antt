@@ -1,7 +1,7 @@
 -- The printed form of work under locks.
 use Rattle.std.specs.Prelude.{ℕ, Bool, List, ◌++◌, Option, Some, None, codes, decimal, flat_map, if◌then◌else◌}
-use Rattle.text_pos.specs.Range.{Range}
-use Rattle.lint_lock.specs.Lock.{printed}
+use Rattle.squawk_print.specs.text_pos.Range.{Range}
+use Rattle.lock_machine.specs.lint_lock.Lock.{printed}
 use Rattle.lock_machine.specs.declared.work.Work.{Work}
 
 -- the bytes of a table's path

@@ -9,3 +9,10 @@ mod write;
 
 pub use lines::{push_lock, push_table};
 pub use write::write_works_after_reports;
+
+// What crates above reach through this one.
+pub use lock_machine::{LockKind, analyze};
+pub use squawk_print::{
+    WriteError, print_violations, printed_form_is_exact, push_escaped, push_number,
+    write_violations,
+};

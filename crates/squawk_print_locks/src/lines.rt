@@ -1,13 +1,11 @@
 //! The lines of work under locks.
 ghost use Rattle.std.specs.Prelude.{◌≡◌, ◌++◌, codes, flat_map, IfOk, OnOk};
-ghost use Rattle.lint_lock.specs.Lock.{printed};
+ghost use Rattle.lock_machine.specs.lint_lock.Lock.{printed};
 ghost use Rattle.squawk_print_locks.specs.PrintedLocks as spec;
 
-use lint_lock::LockKind;
-use lock_machine::Work;
-use squawk_print::push_number;
+use lock_machine::{LockKind, Work};
+use squawk_print::{NoMemory, TextRange, push_number};
 use std::alloc::Global;
-use text_pos::{NoMemory, TextRange};
 
 /// How many bytes are kept ready for each work.
 const ROOM: usize = 64;

@@ -1,19 +1,16 @@
 //! Reports and work under locks, written one after the other.
 ghost use Rattle.std.specs.Prelude.{◌≡◌, ◌≤◌, ◌++◌, OnOk, Err};
 ghost use Rattle.std.specs.Io.KnownBytes.{Appends};
-ghost use Rattle.squawk_stream.specs.Faults.{Rose};
-ghost use Rattle.squawk_stream.specs.Parts.{AppendsPart};
+ghost use Rattle.squawk_print.specs.devices.Faults.{Rose};
+ghost use Rattle.squawk_print.specs.devices.Parts.{AppendsPart};
 ghost use Rattle.squawk_print.specs.declared.write.WriteError.TheVariants as WriteError;
 ghost use Rattle.squawk_print.specs.Printed.{printed};
 ghost use Rattle.squawk_print_locks.specs.PrintedLocks.{printed_locks};
 
 use crate::lines::print_locks;
-use lint_base::Violation;
 use lock_machine::Work;
-use squawk_print::{WriteError, write_violations};
-use squawk_stream::{Failed, Sink, write_all};
+use squawk_print::{Failed, NoMemory, Sink, Violation, WriteError, write_all, write_violations};
 use std::alloc::Global;
-use text_pos::NoMemory;
 
 /// Writes reports, and then the lines.
 fn write_both<K: Sink>(

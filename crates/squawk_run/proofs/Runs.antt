@@ -1,7 +1,7 @@
 -- What is known of a run by its end.
 use Rattle.std.proofs.Common.{◌≡◌, ◌<◌, ◌≤◌, ◌^◌, ap, refl, subst, sym, ℕ, List, Option, Some, None, IfSome, arith, length, length-append}
-use Rattle.squawk_stream.specs.Faults.{Rose}
-use Rattle.squawk_stream.specs.Reading.{Took}
+use Rattle.devices.specs.Faults.{Rose}
+use Rattle.devices.specs.Reading.{Took}
 use Rattle.squawk_run.specs.declared.stop.Stop.TheVariants.{BadArguments, NotUtf8, TooLong, ReadFault, WriteFault, NoMemory}
 use Rattle.squawk_run.specs.Ends.{End, Finished, Refused, Stopped, IsDone, ReadFor, SinkCause, SourceCause, WordsFor}
 

@@ -2,8 +2,8 @@
 use Rattle.std.specs.Prelude.{◌≡◌, ℕ, ◌^◌, List, ⊤}
 use Rattle.std.specs.declared.option.Option.{Option}
 use Rattle.std.specs.Io.KnownBytes.{Keeps, IsAtEnd}
-use Rattle.squawk_stream.specs.Faults.{Rose}
-use Rattle.squawk_stream.specs.Reading.{Took}
+use Rattle.devices.specs.Faults.{Rose}
+use Rattle.devices.specs.Reading.{Took}
 use Rattle.squawk_run.specs.declared.stop.Stop.{Stop}
 use Rattle.squawk_run.specs.declared.stop.Stop.TheVariants.{BadArguments, TooLong, ReadFault, WriteFault, NoMemory}
 

@@ -8,7 +8,7 @@ ghost use Rattle.squawk_run.specs.Ends.{ReadFor, SourceCause, Stopped};
 ghost use Rattle.squawk_run.specs.Stops.{IsReadStop};
 
 use crate::stop::Stop;
-use squawk_stream::{ReadError, Source, read_to_end};
+use devices::{ReadError, Source, read_to_end};
 use std::alloc::Global;
 
 /// All that is left of a source.

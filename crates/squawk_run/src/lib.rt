@@ -30,3 +30,14 @@ pub use status::Status;
 pub use stop::Stop;
 pub use text_choices::read_text_choices;
 pub use words::take_words;
+
+// What crates above reach through this one.
+pub use devices::{
+    Failed, FileError, FileStore, FileWriter, MemFiles, MemSink, MemSource, MemWriter, NoMemory,
+    Sink, SliceSource, Source, StdSink, StdSource, SystemFiles, SystemWriter, TextRange, TextSize,
+    Written, read_to_end, write_all,
+};
+pub use squawk_words::{
+    Choices, Edit, Fix, Given, LinterSettings, Names, Text, Violation, Words, after_dashes,
+    begins_with_dash, choices_by, is_option, items_of, name_in, read_choices, read_given, value_in,
+};

@@ -1,16 +1,16 @@
 //! The line that a run writes to the error sink.
 ghost use Rattle.std.specs.Prelude.{OnOk};
 ghost use Rattle.std.specs.Io.KnownBytes.{Appends};
-ghost use Rattle.squawk_stream.specs.Faults.{Rose, HasCause};
-ghost use Rattle.squawk_stream.specs.Parts.{AppendsPart};
+ghost use Rattle.devices.specs.Faults.{Rose, HasCause};
+ghost use Rattle.devices.specs.Parts.{AppendsPart};
 ghost use Rattle.squawk_run.specs.Lines.{numbered};
 ghost use Rattle.squawk_run.specs.Statuses as statuses;
 ghost use Rattle.squawk_run.specs.Stops.{line_of};
 
 use crate::status::Status;
 use crate::stop::Stop;
+use devices::{Failed, Sink, write_all};
 use itoa::Buffer;
-use squawk_stream::{Failed, Sink, write_all};
 
 fn write_numbered<E: Sink>(err: &mut E, text: &[u8], number: u64) -> Result<(), Failed>
     ensures whole { OnOk result (Appends (E.held err.old) (E.held err.new) (numbered text.now number)) }

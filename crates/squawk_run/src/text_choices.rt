@@ -3,9 +3,9 @@ ghost use Rattle.std.specs.Prelude.{◌≡◌, ◌↔◌, IfOk, IsSome};
 ghost use Rattle.squawk_run.specs.TextChoices.{AreTaken, text_choices_of};
 
 use crate::foreign::has_foreign_word;
+use devices::NoMemory;
 use squawk_words::{Choices, Words, read_choices};
 use std::alloc::Global;
-use text_pos::NoMemory;
 
 /// What words choose, or `None` exactly where they are refused.
 ///

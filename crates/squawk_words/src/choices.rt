@@ -6,9 +6,8 @@ ghost use Rattle.squawk_words.specs.Choices.{IsAccepted, choices_by, choices_of,
 use crate::given::{Given, given_words};
 use crate::values::{groups_by, names_by, number_or, rule_list, rules_or_none};
 use crate::words::Words;
-use lint_base::{LinterSettings, RuleSet};
+use lint_base::{LinterSettings, NoMemory, RuleSet};
 use std::alloc::Global;
-use text_pos::NoMemory;
 
 /// What the words of a command line choose.
 #[derive(Debug, Drop)]

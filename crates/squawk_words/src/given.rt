@@ -7,8 +7,8 @@ ghost use Rattle.squawk_words.specs.Choices.{said_of};
 
 use clap::error::ErrorKind;
 use clap::{Arg, ArgAction, ArgMatches, Command};
+use lint_base::NoMemory;
 use std::alloc::{AllocError, Global};
-use text_pos::NoMemory;
 
 /// The values of words, not yet read: of each name that takes one the value that it is set to, and of each other whether it is there.
 #[derive(Clone, Copy)]

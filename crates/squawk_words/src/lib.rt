@@ -14,3 +14,6 @@ pub use choices::{Choices, choices_by, read_choices, read_given};
 pub use given::Given;
 pub use parts::{after_dashes, begins_with_dash, is_option, items_of, name_in, value_in};
 pub use words::Words;
+
+// What crates above reach through this one.
+pub use lint_base::{Edit, Fix, LinterSettings, Names, NoMemory, Text, Violation};

@@ -5,9 +5,8 @@ ghost use Rattle.std.specs.List.{list_all};
 ghost use Rattle.squawk_words.specs.Choices.{groups, groups_by, is_numeral, names_by, number, read_or, rule_list};
 
 use crate::parts::items_of;
-use lint_base::{Names, Rule, UnknownName};
+use lint_base::{Names, NoMemory, Rule, UnknownName};
 use std::alloc::Global;
-use text_pos::NoMemory;
 
 // The most digits that a number may have.
 const MOST_DIGITS: usize = 10;

@@ -1,9 +1,9 @@
 //! The words after the program's name.
 ghost use Rattle.std.specs.Prelude.{◌≡◌, ◌<◌, ℕ, List, [], ◌∷◌, ◌++◌, length, map, string_bytes, is_ok, if◌then◌else◌, Some, slice_get, IsTrue, ◌↔◌};
 
+use lint_base::NoMemory;
 use std::alloc::Global;
 use std::marker::Model;
-use text_pos::NoMemory;
 
 /// A list of words, in the order in which they were pushed.
 #[derive(Debug, Drop)]

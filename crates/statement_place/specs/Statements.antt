@@ -4,7 +4,7 @@ use Rattle.std.specs.List.{position_or_len}
 use Rattle.sql_tree.specs.declared.nodes.Stmt.{Stmt}
 use Rattle.sql_tree.specs.Range.{stmt_range_of}
 use Rattle.sql_tree.specs.Statement.{Tree}
-use Rattle.text_pos.specs.Range.{Range}
+use Rattle.sql_tree.specs.text_pos.Range.{Range}
 use Rattle.statement_place.specs.declared.cursor.Cursor.{Cursor}
 
 -- a statement ends behind a place

@@ -4,8 +4,7 @@ ghost use Rattle.sql_tree.specs.Statement.{Tree};
 ghost use Rattle.statement_place.specs.Statements as spec;
 ghost use Rattle.statement_place.specs.Statements.{IsCursor};
 
-use sql_tree::{Parse, Stmt};
-use text_pos::{TextRange, TextSize};
+use sql_tree::{Parse, Stmt, TextRange, TextSize};
 
 /// How far the statements of a text were gone through. Places may come in any order; where each is at or behind the last one, each
 /// statement is looked at once.

@@ -3,7 +3,7 @@
 #![tactic(auto)]
 
 #[cfg(test)]
-mod devices;
+mod failing;
 #[cfg(test)]
 mod places;
 #[cfg(test)]

@@ -1,10 +1,9 @@
 //! Places, columns of a terminal, and texts as they are shown.
 
-use source_file::{Place, SourceFile, push_shown, width};
+use check_progress::{Place, SourceFile, TextSize, push_shown, width};
 use std::alloc::Global;
 use std::process::Abort;
 use std::test::Fail;
-use text_pos::TextSize;
 
 /// A byte, and the line and the column of its place.
 type Row = (u32, usize, usize);

@@ -1,8 +1,6 @@
 //! How far a run is.
 
-use check_progress::Meter;
-use check_run::Progress;
-use squawk_stream::MemSink;
+use check_progress::{MemSink, Meter, Progress};
 use std::alloc::Global;
 use std::process::Abort;
 use std::test::Fail;

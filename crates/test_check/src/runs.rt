@@ -1,10 +1,7 @@
 //! A run of the command over memory.
 
 use check_command::run;
-use check_progress::Meter;
-use file_store::MemFiles;
-use squawk_stream::{MemSink, MemSource};
-use squawk_words::Words;
+use check_progress::{MemFiles, MemSink, MemSource, Meter, Words};
 use std::alloc::Global;
 use std::process::Abort;
 use std::test::Fail;

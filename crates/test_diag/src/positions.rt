@@ -1,9 +1,9 @@
 //! Positions.
 
+use diag_json::{Pos, PosIndex};
 use std::alloc::Global;
 use std::process::Abort;
 use std::test::Fail;
-use text_utf16::{Pos, PosIndex};
 
 /// A line, a column, and the place that has them, if there is one.
 type Row = (u32, u32, Option<u32>);

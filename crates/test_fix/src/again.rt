@@ -1,8 +1,6 @@
 //! What linting says of a fixed text.
 
-use lint_base::{LinterSettings, Names};
-use squawk_fix::{Linter, fix_all};
-use squawk_linter::lint_text;
+use squawk_fix::{Linter, LinterSettings, Names, fix_all, lint_text};
 use std::test::Fail;
 
 /// Texts with fixes, and how many are made under the rules of the default set: two timeouts and a word for each of the three statements,

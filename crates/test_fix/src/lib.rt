@@ -5,7 +5,7 @@
 #[cfg(test)]
 mod again;
 #[cfg(test)]
-mod devices;
+mod failing;
 #[cfg(test)]
 mod rows;
 #[cfg(test)]

@@ -1,7 +1,6 @@
 //! Files that end inside of a transaction.
 
-use migration_gate::ends_in_transaction;
-use sql_read::parse;
+use migration_gate::{ends_in_transaction, parse};
 use std::test::Fail;
 
 /// A text, whether a transaction is assumed before it, and whether one is open behind it.

@@ -5,8 +5,8 @@
 #[cfg(test)]
 mod cut;
 #[cfg(test)]
-mod devices;
-#[cfg(test)]
 mod ending;
+#[cfg(test)]
+mod failing;
 #[cfg(test)]
 mod runs;

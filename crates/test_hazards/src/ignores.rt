@@ -1,10 +1,8 @@
 //! Names of hazards in ignore comments.
 
 use crate::shown::{joined, settings, shown, shown_reports};
-use hazard_base::{Finding, HazardSet};
-use hazard_find::find;
+use hazard_find::{Finding, Found, HazardSet, find, find_ignores};
 use hazard_ignore::{HazardIgnores, without_hazard_names};
-use lint_ignore::{Found, find_ignores};
 use sql_read::parse;
 use std::alloc::Global;
 use std::process::Abort;

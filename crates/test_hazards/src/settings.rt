@@ -1,7 +1,7 @@
 //! Findings under other settings, and of some hazards alone.
 
 use crate::shown::{is_found, settings};
-use hazard_base::{Hazard, HazardSet};
+use hazard_find::{Hazard, HazardSet};
 use std::test::Fail;
 
 #[test]

@@ -1,8 +1,6 @@
 //! What is found in a text, as one line.
 
-use hazard_base::{Finding, HazardSet};
-use hazard_find::find;
-use lint_base::{LinterSettings, Names, Violation};
+use hazard_find::{Finding, HazardSet, LinterSettings, Names, Violation, find};
 use sql_read::parse;
 use std::alloc::Global;
 use std::process::Abort;

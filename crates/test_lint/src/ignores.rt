@@ -1,12 +1,10 @@
 //! Which reports the ignore comments of a text cover.
 
-use lint_base::Rule;
-use lint_ignore::{Found, IGNORE_FILE_TEXT, IGNORE_LINE_TEXT, IgnoreIndex, find_ignores};
-use sql_read::parse;
+use lint_track::{Found, IGNORE_FILE_TEXT, IGNORE_LINE_TEXT, IgnoreIndex, Rule, find_ignores};
+use sql_read::{TextRange, TextSize, parse};
 use std::alloc::Global;
 use std::process::Abort;
 use std::test::Fail;
-use text_pos::{TextRange, TextSize};
 
 /// A text, and the debug text of the index of its ignore comments.
 const TEXTS: &[(&str, &str)] = &[

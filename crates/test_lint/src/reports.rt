@@ -1,11 +1,11 @@
 //! What is tested of places, texts, edits, fixes and reports.
 ghost use Rattle.std.specs.Prelude.{◌≡◌, ◌≤◌};
 
-use lint_base::{Edit, Fix, LinterSettings, Names, Reports, Rule, Text, Violation};
+use lint_track::{Edit, Fix, LinterSettings, Names, Reports, Rule, Text, Violation};
+use sql_read::{LineEnding, LineIndex, TextRange, TextSize, line_ending};
 use std::hash::{DefaultHasher, Hash, Hasher};
 use std::process::Abort;
 use std::test::Fail;
-use text_pos::{LineEnding, LineIndex, TextRange, TextSize, line_ending};
 
 fn range(start: u32, end: u32) -> TextRange
     requires { start ≤ end }

@@ -1,6 +1,6 @@
 //! What is tested of rules and sets of rules.
 
-use lint_base::{Rule, RuleNameError, RuleSet, UnknownName};
+use lint_track::{Rule, RuleNameError, RuleSet, UnknownName};
 use std::alloc::{AllocError, Global};
 use std::process::Abort;
 use std::test::Fail;

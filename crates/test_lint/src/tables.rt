@@ -1,8 +1,7 @@
 //! The tables that the open transaction created, by a path of another text.
 
 use lint_track::TablesCreatedInTransaction;
-use sql_read::parse;
-use sql_tree::{Body, NamePath, Stmt};
+use sql_read::{Body, NamePath, Stmt, parse};
 use std::alloc::Global;
 use std::test::Fail;
 

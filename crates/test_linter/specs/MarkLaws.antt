@@ -1,11 +1,11 @@
 -- What holds of each report of the pass of these tests.
 use Rattle.std.specs.Prelude.{refl, All, [], ◌∷◌}
-use Rattle.sql_tree.specs.declared.nodes.Stmt.{Stmt}
-use Rattle.sql_tree.specs.Statement.{Tree}
-use Rattle.lint_base.specs.declared.rule.Rule.TheVariants as rule
-use Rattle.lint_pass.specs.Laws.{HasCode, IsRead, IsPlacedIn}
-use Rattle.lint_pass.specs.PlaceLaws.{span_place}
-use Rattle.lint_pass.specs.RuleLaws.{one_all}
+use Rattle.squawk_cli.specs.sql_tree.declared.nodes.Stmt.{Stmt}
+use Rattle.squawk_cli.specs.sql_tree.Statement.{Tree}
+use Rattle.squawk_cli.specs.lint_base.declared.rule.Rule.TheVariants as rule
+use Rattle.squawk_cli.specs.lint_pass.Laws.{HasCode, IsRead, IsPlacedIn}
+use Rattle.squawk_cli.specs.lint_pass.PlaceLaws.{span_place}
+use Rattle.squawk_cli.specs.lint_pass.RuleLaws.{one_all}
 use Rattle.test_linter.specs.Marks.{report}
 
 report_coded : (tree : Tree) (s : Stmt) → HasCode rule.BanDropTable (report tree s)

@@ -1,10 +1,10 @@
 -- What the pass of these tests reports: each statement.
 use Rattle.std.specs.Prelude.{codes, None}
-use Rattle.sql_tree.specs.declared.nodes.Stmt.{Stmt}
-use Rattle.sql_tree.specs.Range.{stmt_range_of}
-use Rattle.sql_tree.specs.Statement.{Tree}
-use Rattle.lint_base.specs.declared.rule.Rule.TheVariants as rule
-use Rattle.lint_base.specs.declared.violation.Violation.{Violation}
+use Rattle.squawk_cli.specs.sql_tree.declared.nodes.Stmt.{Stmt}
+use Rattle.squawk_cli.specs.sql_tree.Range.{stmt_range_of}
+use Rattle.squawk_cli.specs.sql_tree.Statement.{Tree}
+use Rattle.squawk_cli.specs.lint_base.declared.rule.Rule.TheVariants as rule
+use Rattle.squawk_cli.specs.lint_base.declared.violation.Violation.{Violation}
 
 -- the report of a statement, whatever it is
 unfoldable pub report : Tree → Stmt → Violation

@@ -3,21 +3,18 @@
 ghost use Rattle.std.specs.Prelude.{◌≡◌, ◌<◌};
 
 use crate::mark::Mark;
-use crate::shown::{is_shown, reports_shown};
-use case_format::TextBuilder;
-use lint_base::{LinterSettings, Names, Rule};
-use lint_pass::{NoPass, Pair, StepPass, Steps};
-use pass_drop::BanDropDatabase;
-use sql_read::parse;
-use sql_tree::Parse;
-use squawk_linter::laws::placed;
-use squawk_linter::{Linter, lint_text};
+use crate::shown::{is_shown, messages_shown, reports_shown};
+use case_format::{NoMemory, TextBuilder};
+use squawk_cli::sql_read::parse;
+use squawk_cli::{
+    BanDropDatabase, Linter, LinterSettings, Names, NoPass, Pair, Parse, Rule, StepPass, Steps,
+    Violation, lint_text, placed,
+};
 use std::alloc::Global;
 use std::marker::Brand;
 use std::process::Abort;
 use std::sync::ledger::{Blank, Ledger};
 use std::test::Fail;
-use text_pos::NoMemory;
 
 /// Whether a transaction is assumed, a text, its reports, and whether a transaction is assumed afterwards. Of a report it is
 /// where it begins and ends, and its rule.
@@ -52,13 +49,16 @@ const RULES: &[Rule] = &[
     Rule::BanDropTable,
 ];
 
-fn linter_of(alloc: Global, assume: bool) -> Result<Linter, Fail> {
-    let settings = LinterSettings {
+fn settings_of(alloc: Global, assume: bool) -> Result<LinterSettings, Fail> {
+    Ok(LinterSettings {
         pg_version: [15, 0, 0],
         assume_in_transaction: assume,
         non_volatile: Names::standard(alloc)?,
-    };
-    Ok(Linter::from(RULES, settings))
+    })
+}
+
+fn linter_of(alloc: Global, assume: bool) -> Result<Linter, Fail> {
+    Ok(Linter::from(RULES, settings_of(alloc, assume)?))
 }
 
 // A linter has answered as the row says.
@@ -100,14 +100,23 @@ fn by_tree_again(rt: &impl Abort, alloc: Global, row: &Row) -> Result<(), Fail> 
 }
 
 // The reports of a tree by a pass in place of the linter's own ones.
+fn found_by<P: StepPass>(
+    alloc: Global,
+    linter: &mut Linter,
+    p: &Parse<'_>,
+    pass: &P,
+) -> Result<Vec<Violation>, NoMemory> {
+    placed(p, pass);
+    linter.lint_with(alloc, p, pass)
+}
+
 fn of_pass<P: StepPass>(
     alloc: Global,
     linter: &mut Linter,
     p: &Parse<'_>,
     pass: &P,
 ) -> Result<TextBuilder, NoMemory> {
-    placed(p, pass);
-    let reports = linter.lint_with(alloc, p, pass)?;
+    let reports = found_by(alloc, linter, p, pass)?;
     Ok(reports_shown(alloc, reports.as_slice()))
 }
 
@@ -170,10 +179,20 @@ fn no_pass(rt: HostRuntime) -> Result<(), Fail> {
     by_pass(&rt, rt.alloc(), text, &NoPass, "17..20 unused-ignore ")
 }
 
+// The reports of a text by the pass of these tests under the default rules, with their messages.
+fn marked(alloc: Global, text: &str) -> Result<TextBuilder, Fail> {
+    let mut linter = Linter::with_default_rules(settings_of(alloc, false)?);
+    let p = parse(alloc, text)?;
+    let reports = found_by(alloc, &mut linter, &p, &Mark)?;
+    Ok(messages_shown(alloc, reports.as_slice()))
+}
+
 #[test]
 fn marks(rt: HostRuntime) -> Result<(), Fail> {
     let text = "-- squawk-ignore ban-drop-table\nSELECT 1;\nSELECT 2;";
-    by_pass(&rt, rt.alloc(), text, &Mark, "42..51 ban-drop-table ")
+    let answer = marked(rt.alloc(), text)?;
+    is_shown(&rt, &answer, text, "42..51 ban-drop-table mark ");
+    Ok(())
 }
 
 /// A text in which two passes report at one place.

@@ -1,15 +1,14 @@
 //! What is answered of a text together with its work under locks.
 
 use crate::shown::{is_shown, is_text};
-use case_format::TextBuilder;
-use lint_base::{LinterSettings, Names, Rule};
-use sql_read::parse;
-use sql_tree::Parse;
-use squawk_linter::{Assessed, Linter, Work, assess, is_plain, lock_work};
+use case_format::{NoMemory, TextBuilder};
+use squawk_cli::sql_read::parse;
+use squawk_cli::{
+    Assessed, Linter, LinterSettings, Names, Parse, Rule, Work, assess, is_plain, lock_work,
+};
 use std::alloc::Global;
 use std::process::Abort;
 use std::test::Fail;
-use text_pos::NoMemory;
 
 /// Whether a transaction is assumed, a text, and what is answered: how many reports there are, the works, whether the text is
 /// plain, or why nothing is answered; and whether a transaction is assumed afterwards.

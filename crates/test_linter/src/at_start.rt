@@ -3,11 +3,9 @@
 ghost use Rattle.std.specs.Prelude.{◌≡◌};
 ghost use Rattle.test_linter.specs.Starts.{start_report};
 
-use lint_base::{LinterSettings, Reports, Rule, RuleSet, Text, Violation};
-use lint_pass::Pass;
-use sql_tree::Parse;
+use case_format::{NoMemory, TextRange, TextSize};
+use squawk_cli::{LinterSettings, Parse, Pass, Reports, Rule, RuleSet, Text, Violation};
 use std::alloc::Global;
-use text_pos::{NoMemory, TextRange, TextSize};
 
 const MESSAGE: &str = "start";
 
@@ -27,8 +25,8 @@ fn report() -> Violation
 }
 
 impl Pass for AtStart {
-    ghost use Rattle.lint_base.specs.RuleSets.{no_rules, with_rule};
-    ghost use Rattle.lint_base.specs.declared.rule.Rule.TheVariants as rule;
+    ghost use Rattle.squawk_cli.specs.lint_base.RuleSets.{no_rules, with_rule};
+    ghost use Rattle.squawk_cli.specs.lint_base.declared.rule.Rule.TheVariants as rule;
     ghost use Rattle.test_linter.specs.Starts.{start_reports};
 
     ghost own = { λ _. with_rule no_rules rule.BanDropTable };

@@ -3,13 +3,11 @@
 ghost use Rattle.std.specs.Prelude.{◌≤◌};
 
 use crate::shown::is_shown;
-use case_format::TextBuilder;
-use fix_edit::{FixError, apply_fix};
-use lint_base::{Edit, Fix, Text};
+use case_format::{TextBuilder, TextRange, TextSize};
+use squawk_cli::{Edit, Fix, FixError, Text, apply_fix};
 use std::alloc::Global;
 use std::process::Abort;
 use std::test::Fail;
-use text_pos::{TextRange, TextSize};
 
 /// An edit: where its range begins and ends, and what it puts there; where it has no text it deletes.
 type Change = (u32, u32, Option<&'static str>);

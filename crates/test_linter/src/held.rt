@@ -1,6 +1,6 @@
 //! What a sink holds, compared with the text that is wanted of it.
 
-use squawk_stream::MemSink;
+use squawk_cli::MemSink;
 
 /// How many bytes a sink holds, and whether they are the first ones of the text that is wanted, and all of it.
 #[derive(Clone, Copy)]

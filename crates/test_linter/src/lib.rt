@@ -12,7 +12,7 @@ mod at_start;
 #[cfg(test)]
 mod command;
 #[cfg(test)]
-mod devices;
+mod failing;
 #[cfg(test)]
 mod fixes;
 #[cfg(test)]

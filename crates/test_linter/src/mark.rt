@@ -3,11 +3,9 @@
 ghost use Rattle.std.specs.Prelude.{◌≡◌};
 ghost use Rattle.test_linter.specs.Marks.{report};
 
-use lint_base::{LinterSettings, Reports, Rule, Text, Violation};
-use lint_pass::StatementPass;
-use sql_tree::{Parse, Stmt};
+use case_format::NoMemory;
+use squawk_cli::{LinterSettings, Parse, Reports, Rule, StatementPass, Stmt, Text, Violation};
 use std::alloc::Global;
-use text_pos::NoMemory;
 
 const MESSAGE: &str = "mark";
 
@@ -31,7 +29,7 @@ fn report(p: &Parse<'_>, s: &Stmt) -> Violation
 
 impl StatementPass for Mark {
     ghost use Rattle.std.specs.Prelude.{[], ◌∷◌};
-    ghost use Rattle.lint_base.specs.declared.rule.Rule.TheVariants as rule;
+    ghost use Rattle.squawk_cli.specs.lint_base.declared.rule.Rule.TheVariants as rule;
     ghost use Rattle.test_linter.specs.MarkLaws.{mark_coded, mark_placed};
     ghost use Rattle.test_linter.specs.Marks.{report};
 

@@ -4,16 +4,14 @@ ghost use Rattle.std.specs.Prelude.{◌≡◌, IfOk, false};
 
 use crate::at_start::AtStart;
 use crate::shown::{is_shown, reports_shown};
-use case_format::TextBuilder;
-use lint_base::{LinterSettings, Names, Reports, Rule, RuleSet, Text, Violation};
-use lint_pass::Pass;
-use pass_concurrent::RequireConcurrentIndexCreation;
-use sql_read::parse;
-use sql_tree::Parse;
-use squawk_linter::Linter;
+use case_format::{NoMemory, TextBuilder, TextRange, TextSize};
+use squawk_cli::sql_read::parse;
+use squawk_cli::{
+    Linter, LinterSettings, Names, Parse, Pass, Reports, RequireConcurrentIndexCreation, Rule,
+    RuleSet, Text, Violation,
+};
 use std::alloc::Global;
 use std::test::Fail;
-use text_pos::{NoMemory, TextRange, TextSize};
 
 // The settings of these tests, under which no transaction is assumed.
 fn settings(alloc: Global) -> Result<LinterSettings, Fail>

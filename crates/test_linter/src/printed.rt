@@ -3,13 +3,13 @@
 ghost use Rattle.std.specs.Prelude.{◌≤◌};
 
 use crate::held::Held;
-use lint_base::{Edit, Fix, Rule, Text, Violation};
-use squawk_print::{WriteError, print_violations, write_violations};
-use squawk_stream::MemSink;
+use case_format::{TextRange, TextSize};
+use squawk_cli::{
+    Edit, Fix, MemSink, Rule, Text, Violation, WriteError, print_violations, write_violations,
+};
 use std::alloc::Global;
 use std::process::Abort;
 use std::test::Fail;
-use text_pos::{TextRange, TextSize};
 
 const PRINTED: &str = "1..2: warning[ban-drop-table]: a\\\"b\\\\c\\nd\\re
   note: n

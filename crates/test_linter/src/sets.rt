@@ -1,7 +1,6 @@
 //! Which rules a linter is made with.
 
-use lint_base::{LinterSettings, Names, Rule, RuleSet};
-use squawk_linter::Linter;
+use squawk_cli::{Linter, LinterSettings, Names, Rule, RuleSet};
 use std::alloc::Global;
 use std::test::Fail;
 

@@ -1,7 +1,7 @@
 //! Text that is put together piece by piece, and compared with the text that is wanted.
 
 use case_format::TextBuilder;
-use lint_base::Violation;
+use squawk_cli::Violation;
 use std::alloc::Global;
 use std::process::Abort;
 
@@ -21,6 +21,18 @@ pub(crate) fn reports_shown(alloc: Global, reports: &[Violation]) -> TextBuilder
     for report in reports {
         out.range("", report.text_range);
         out.display(" ", &report.code);
+        out.add(" ");
+    }
+    out
+}
+
+/// The same with the message of each report.
+pub(crate) fn messages_shown(alloc: Global, reports: &[Violation]) -> TextBuilder {
+    let mut out = TextBuilder::new(alloc);
+    for report in reports {
+        out.range("", report.text_range);
+        out.display(" ", &report.code);
+        out.display(" ", &report.message);
         out.add(" ");
     }
     out

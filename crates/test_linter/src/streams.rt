@@ -4,7 +4,7 @@ ghost use Rattle.std.specs.Prelude.{◌≤◌};
 
 use crate::shown::{is_shown, is_text};
 use case_format::TextBuilder;
-use squawk_stream::{
+use squawk_cli::{
     MemSink, MemSource, Sink, SliceSource, Source, StdSink, StdSource, read_to_end, write_all,
 };
 use std::alloc::Global;

@@ -1,15 +1,10 @@
 //! A talk with a server, and a checker for it.
 ghost use Rattle.std.specs.Prelude.{◌≡◌, []};
 
-use lint_base::Text;
-use lsp_report::{Checker, Report};
-use lsp_serve::{End, serve};
-use lsp_session::Enter;
-use squawk_stream::{MemSink, MemSource};
+use lsp_serve::{Checker, End, Enter, MemSink, MemSource, NoMemory, Report, Text, serve};
 use std::alloc::{AllocError, Global};
 use std::process::Abort;
 use std::test::Fail;
-use text_pos::NoMemory;
 
 /// The messages of a client, each with what is said to it.
 pub(crate) const TALK: &[(&str, &str)] = &[

@@ -4,10 +4,7 @@
 use crate::rows::{Reading, compare, compare_each, show_span};
 use crate::terminals::terminals_of;
 use case_format::TextBuilder;
-use sql_form::{nothing_kept, read_front};
-use sql_mark::has_keyword;
-use sql_token::{Keyword as K, Span};
-use sql_tree::forms::Captures;
+use sql_read::{Captures, Keyword as K, Span, has_keyword, nothing_kept, read_front};
 
 /// A first word, what comes after it, and the form that reads it: the kind, how many tokens the form leaves open, and
 /// what it keeps, by token numbers. What comes after the word begins with a blank, so that no number is 0.

@@ -2,7 +2,7 @@
 
 use crate::rows::{Reading, compare};
 use case_format::TextBuilder;
-use sql_keyword::{Keyword, keyword_of, same_keyword};
+use sql_read::{Keyword, keyword_of, same_keyword};
 
 /// A text, and the key word that it is.
 const ROWS: &[(&str, &str)] = &[

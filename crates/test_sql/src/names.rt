@@ -2,7 +2,7 @@
 
 use crate::rows::{Reading, compare, compare_each};
 use case_format::TextBuilder;
-use sql_name::{FullName, Name};
+use sql_read::{FullName, Name};
 use std::alloc::Global;
 use std::cmp::Ordering;
 use std::collections::HashSet;

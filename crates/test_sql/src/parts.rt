@@ -1,19 +1,15 @@
 //! The calls that read the parts of a statement by a span of the tokens of a text, which need not be a statement.
 
 ghost use Rattle.std.specs.Prelude.{MatchOption, ◌<◌, ◌^◌, length};
-ghost use Rattle.sql_lex.specs.Inside.{IsSpan};
-ghost use Rattle.sql_token.specs.Token.{Lexed};
+ghost use Rattle.sql_read.specs.sql_lex.Inside.{IsSpan};
+ghost use Rattle.sql_read.specs.sql_token.Token.{Lexed};
 
 use crate::rows::{Reading, compare_each};
 use case_format::TextBuilder;
-use sql_action::read_actions;
-use sql_column::{read_domain, read_elems};
-use sql_lex::lex;
-use sql_token::{Span, Tok};
-use sql_tree::{Action, Constraint, Elem, Expr, StmtKind};
+use sql_read::{NoMemory, Tok, lex, read_actions, read_domain, read_elems};
+use sql_tree::{Action, Constraint, Elem, Expr, Span, StmtKind};
 use sqlite_items::Items;
 use std::fmt::Debug;
-use text_pos::NoMemory;
 
 /// What a span of tokens is read as, and the numbers of its first and last token.
 enum Part {

@@ -2,8 +2,8 @@
 
 use crate::rows::{Reading, compare};
 use case_format::TextBuilder;
-use sql_read::parse;
-use sql_tree::{Body, NamePath, Parse, Stmt};
+use sql_read::{Body, NamePath, Stmt, parse};
+use sql_tree::Parse;
 use std::cmp::Ordering;
 
 /// A text of two statements, and how the path of the first compares with that of the second, or `none`.

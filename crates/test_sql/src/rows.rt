@@ -3,7 +3,7 @@
 ghost use Rattle.std.specs.Prelude.{◌<◌, ◌^◌, length};
 
 use case_format::TextBuilder;
-use sql_token::Span;
+use sql_read::Span;
 use std::alloc::Global;
 use std::fmt::Display;
 use std::process::Abort;

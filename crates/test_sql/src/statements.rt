@@ -2,8 +2,7 @@
 
 use crate::rows::{Reading, compare, compare_each, read_short, repeat, show_span};
 use case_format::TextBuilder;
-use sql_lex::{Statements, cut, is_sound, lex, span_of};
-use sql_token::{Span, Terminal};
+use sql_read::{Span, Statements, Terminal, cut, is_sound, lex, span_of};
 
 /// A text, and of each statement the numbers of its first and its last token, and `y` where it is sound, each with a blank after
 /// it.

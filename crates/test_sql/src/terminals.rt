@@ -4,8 +4,7 @@ ghost use Rattle.std.specs.Prelude.{◌<◌, ◌^◌, length};
 
 use crate::rows::{Reading, compare};
 use case_format::TextBuilder;
-use sql_lex::{Statements, lex};
-use sql_token::{Keyword, Terminal};
+use sql_read::{Keyword, Statements, Terminal, lex};
 
 /// A text of one token, what it is, and what it counts as: the key word CREATE, a name, an opening, closing or round
 /// bracket, a semicolon, a dot, an identifier with Unicode escapes.

@@ -2,8 +2,7 @@
 
 use crate::rows::{Message, Reading, compare, compare_each};
 use case_format::TextBuilder;
-use sql_lex::{LexError, lex};
-use sql_token::{Tok, TokKind};
+use sql_read::{LexError, Tok, TokKind, lex};
 use std::test::Fail;
 
 /// A text and its tokens: a letter for each kind, and the place after the token in bytes; or `!` and the place of the

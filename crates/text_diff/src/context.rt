@@ -3,8 +3,8 @@ ghost use Rattle.std.specs.Prelude.{◌≡◌, ◌≤◌, IfOk};
 ghost use Rattle.text_diff.specs.Context as spec;
 
 use crate::step::{Mark, Step};
+use source_file::NoMemory;
 use std::alloc::Global;
-use text_pos::NoMemory;
 
 // How many lines are shown before a change, and after it.
 const CONTEXT: u8 = 3;

@@ -6,8 +6,8 @@ use crate::context::with_context;
 use crate::line::lines;
 use crate::print::push_printed;
 use crate::script::script;
+use source_file::NoMemory;
 use std::alloc::Global;
-use text_pos::NoMemory;
 
 /// Adds the difference of an old and a new text of a file, in the unified format. Where the texts are the same, it has names and
 /// no hunk. It takes time in proportion to the number of lines. The error comes when memory runs out.

@@ -3,8 +3,8 @@ ghost use Rattle.std.specs.Prelude.{◌≡◌, ◌<◌, [], ◌∷◌, IfNone, I
 ghost use Rattle.text_diff.specs.Lines.{lines_of};
 
 use memchr::memchr;
+use source_file::NoMemory;
 use std::alloc::Global;
-use text_pos::NoMemory;
 
 // The first line of a text, and what follows it; `None` for a text without bytes.
 fn cut_line(text: &[u8]) -> Option<(&[u8], &[u8])>

@@ -5,8 +5,7 @@ ghost use Rattle.text_diff.specs.Unified as spec;
 
 use crate::step::{Mark, Step};
 use itoa::Buffer;
-use source_file::push_escaped;
-use text_pos::NoMemory;
+use source_file::{NoMemory, push_escaped};
 
 // How many lines of each text there are.
 #[derive(Clone, Copy)]

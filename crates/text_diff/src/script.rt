@@ -4,8 +4,8 @@ ghost use Rattle.std.specs.Bool.{OnTrue};
 ghost use Rattle.text_diff.specs.Script.{new_lines, new_some, old_lines, old_some};
 
 use crate::step::{Mark, Step};
+use source_file::NoMemory;
 use std::alloc::Global;
-use text_pos::NoMemory;
 
 // How far away, in lines of both texts together, a line that both have is looked for. Where it is farther, one line of each counts as
 // changed. So the time is linear in the number of lines.

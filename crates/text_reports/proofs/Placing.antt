@@ -4,10 +4,10 @@ use Rattle.std.proofs.lemmas.Bool.{cases_Bool}
 use Rattle.std.proofs.lemmas.List.Elements.{All-append, All-filter, All-head, All-map, All-nil, All-tail, All-weaker}
 use Rattle.std.specs.Prelude.{◌&&◌, cond, flat_map, is_none, not, option_map}
 use Rattle.fix_class.specs.Classes.{class_of}
-use Rattle.hazard_base.specs.declared.finding.Finding.{Finding}
-use Rattle.hazard_base.specs.declared.hazard.Hazard.{Hazard}
-use Rattle.hazard_base.specs.declared.hazard_set.HazardSet.{HazardSet}
-use Rattle.hazard_base.specs.HazardSets.{has}
+use Rattle.hazard_find.specs.hazard_base.declared.finding.Finding.{Finding}
+use Rattle.hazard_find.specs.hazard_base.declared.hazard.Hazard.{Hazard}
+use Rattle.hazard_find.specs.hazard_base.declared.hazard_set.HazardSet.{HazardSet}
+use Rattle.hazard_find.specs.hazard_base.HazardSets.{has}
 use Rattle.hazard_find.specs.Columns.{added_json}
 use Rattle.hazard_find.specs.Findings as findings
 use Rattle.hazard_find.specs.Findings.{findings_of}
@@ -17,35 +17,35 @@ use Rattle.hazard_find.specs.Rewrites.{action_rewrites, rewrites}
 use Rattle.hazard_ignore.specs.Covered as covered
 use Rattle.hazard_ignore.specs.declared.covered.Named.{Named}
 use Rattle.hazard_ignore.specs.HazardNames.{hazard_of, without_hazard_names}
-use Rattle.lint_base.specs.declared.rule.Rule.TheVariants as rule
-use Rattle.lint_base.specs.declared.settings.LinterSettings.{LinterSettings}
-use Rattle.lint_base.specs.declared.violation.Violation.{Violation}
-use Rattle.lint_base.specs.Fixes.{FixValue}
-use Rattle.lint_base.specs.RuleSets.{Rules}
-use Rattle.lint_base.specs.RuleSets as rule_sets
-use Rattle.lint_ignore.specs.declared.ignore.Ignore.{Ignore}
-use Rattle.lint_ignore.specs.Found.{found_in}
-use Rattle.lint_ignore.proofs.Places.{names_lie_in}
-use Rattle.lint_ignore.specs.Places.{IsPlace, NamesLie}
-use Rattle.lint_pass.specs.Laws.{AreEdits, IsRead}
-use Rattle.lint_pass.specs.PlaceLaws.{span_place}
-use Rattle.lint_pass.specs.RuleLaws.{flat_all, one_all, pieces_all}
-use Rattle.lint_node.specs.Parts.{new_constraints, table_actions}
-use Rattle.lint_transaction.specs.Transaction.{stmt_at}
-use Rattle.lint_report.specs.declared.fix_class.FixClass.{FixClass}
-use Rattle.lint_report.specs.declared.report.Report.{Report}
-use Rattle.sql_token.specs.declared.token.Span.{Span}
-use Rattle.sql_tree.specs.declared.nodes.Action.{Action}
-use Rattle.sql_tree.specs.declared.nodes.Constraint.{Constraint}
-use Rattle.sql_tree.specs.declared.nodes.Stmt.{Stmt}
-use Rattle.sql_tree.specs.Range.{stmt_range_of}
-use Rattle.sql_tree.specs.Statement.{Tree}
+use Rattle.squawk_linter.specs.lint_base.declared.rule.Rule.TheVariants as rule
+use Rattle.squawk_linter.specs.lint_base.declared.settings.LinterSettings.{LinterSettings}
+use Rattle.squawk_linter.specs.lint_base.declared.violation.Violation.{Violation}
+use Rattle.squawk_linter.specs.lint_base.Fixes.{FixValue}
+use Rattle.squawk_linter.specs.lint_base.RuleSets.{Rules}
+use Rattle.squawk_linter.specs.lint_base.RuleSets as rule_sets
+use Rattle.squawk_linter.specs.lint_ignore.declared.ignore.Ignore.{Ignore}
+use Rattle.squawk_linter.specs.lint_ignore.Found.{found_in}
+use Rattle.squawk_linter.proofs.of_lint_ignore.Places.{names_lie_in}
+use Rattle.squawk_linter.specs.lint_ignore.Places.{IsPlace, NamesLie}
+use Rattle.squawk_linter.specs.lint_pass.Laws.{AreEdits, IsRead}
+use Rattle.squawk_linter.specs.lint_pass.PlaceLaws.{span_place}
+use Rattle.squawk_linter.specs.lint_pass.RuleLaws.{flat_all, one_all, pieces_all}
+use Rattle.squawk_linter.specs.lint_node.Parts.{new_constraints, table_actions}
+use Rattle.squawk_linter.specs.lint_transaction.Transaction.{stmt_at}
+use Rattle.fix_class.specs.lint_report.declared.fix_class.FixClass.{FixClass}
+use Rattle.fix_class.specs.lint_report.declared.report.Report.{Report}
+use Rattle.squawk_linter.specs.sql_token.declared.token.Span.{Span}
+use Rattle.squawk_linter.specs.sql_tree.declared.nodes.Action.{Action}
+use Rattle.squawk_linter.specs.sql_tree.declared.nodes.Constraint.{Constraint}
+use Rattle.squawk_linter.specs.sql_tree.declared.nodes.Stmt.{Stmt}
+use Rattle.squawk_linter.specs.sql_tree.Range.{stmt_range_of}
+use Rattle.squawk_linter.specs.sql_tree.Statement.{Tree}
 use Rattle.squawk_linter.proofs.Sorting.{by_key_all}
 use Rattle.squawk_linter.specs.Answers.{reports}
 use Rattle.squawk_linter.specs.ByStart.{by_key}
 use Rattle.squawk_linter.specs.Placed.{IsPlaced}
-use Rattle.statement_place.specs.Statements.{is_within, part_in, statement_behind}
-use Rattle.text_pos.specs.Range.{Range}
+use Rattle.fix_class.specs.statement_place.Statements.{is_within, part_in, statement_behind}
+use Rattle.squawk_linter.specs.text_pos.Range.{Range}
 use Rattle.text_reports.specs.Placed.{IsReportPlaced}
 use Rattle.text_reports.specs.Reports.{all_reports, by_hazard, by_rule, offered, start_of, uncovered, unused, with_hazards}
 

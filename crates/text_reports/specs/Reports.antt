@@ -1,24 +1,24 @@
 -- All that is reported of a text.
 use Rattle.std.specs.Prelude.{◌≡◌, ℕ, ◌+◌, List, [], ◌++◌, Option, None, filter, if◌then◌else◌, length, map, not, Some}
 use Rattle.fix_class.specs.Classes.{class_of}
-use Rattle.hazard_base.specs.declared.finding.Finding.{Finding}
-use Rattle.hazard_base.specs.declared.hazard_set.HazardSet.{HazardSet}
+use Rattle.hazard_find.specs.hazard_base.declared.finding.Finding.{Finding}
+use Rattle.hazard_find.specs.hazard_base.declared.hazard_set.HazardSet.{HazardSet}
 use Rattle.hazard_find.specs.Findings.{findings_of}
 use Rattle.hazard_ignore.specs.Covered.{is_covered, unused_names}
 use Rattle.hazard_ignore.specs.HazardNames.{without_hazard_names}
-use Rattle.lint_base.specs.declared.rule.Rule.TheVariants as rule
-use Rattle.lint_base.specs.declared.settings.LinterSettings.{LinterSettings}
-use Rattle.lint_base.specs.declared.violation.Violation.{Violation}
-use Rattle.lint_base.specs.Fixes.{FixValue}
-use Rattle.lint_base.specs.RuleSets.{Rules, has}
-use Rattle.lint_report.specs.declared.code.Code.TheVariants as code
-use Rattle.lint_report.specs.declared.fix_class.FixClass.{FixClass}
-use Rattle.lint_report.specs.declared.report.Report.{Report}
-use Rattle.lint_report.specs.declared.report.ReportFix.{ReportFix}
-use Rattle.sql_tree.specs.Statement.{Tree}
+use Rattle.squawk_linter.specs.lint_base.declared.rule.Rule.TheVariants as rule
+use Rattle.squawk_linter.specs.lint_base.declared.settings.LinterSettings.{LinterSettings}
+use Rattle.squawk_linter.specs.lint_base.declared.violation.Violation.{Violation}
+use Rattle.squawk_linter.specs.lint_base.Fixes.{FixValue}
+use Rattle.squawk_linter.specs.lint_base.RuleSets.{Rules, has}
+use Rattle.fix_class.specs.lint_report.declared.code.Code.TheVariants as code
+use Rattle.fix_class.specs.lint_report.declared.fix_class.FixClass.{FixClass}
+use Rattle.fix_class.specs.lint_report.declared.report.Report.{Report}
+use Rattle.fix_class.specs.lint_report.declared.report.ReportFix.{ReportFix}
+use Rattle.squawk_linter.specs.sql_tree.Statement.{Tree}
 use Rattle.squawk_linter.specs.Answers.{reports}
 use Rattle.squawk_linter.specs.ByStart.{by_key}
-use Rattle.statement_place.specs.Statements.{statement_of}
+use Rattle.fix_class.specs.statement_place.Statements.{statement_of}
 
 -- ---- what is found
 

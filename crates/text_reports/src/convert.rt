@@ -1,17 +1,13 @@
 //! What is found, as reports.
 ghost use Rattle.std.specs.Prelude.{◌≡◌, ◌++◌, OnOk, map};
 ghost use Rattle.fix_class.specs.Known.{AreKnown};
-ghost use Rattle.lint_base.specs.declared.settings.LinterSettings.{LinterSettings};
-ghost use Rattle.statement_place.specs.Statements.{IsCursor};
+ghost use Rattle.squawk_linter.specs.lint_base.declared.settings.LinterSettings.{LinterSettings};
+ghost use Rattle.fix_class.specs.statement_place.Statements.{IsCursor};
 ghost use Rattle.text_reports.specs.Reports as spec;
 
-use fix_class::FixClasses;
-use hazard_base::Finding;
-use lint_base::{Fix, Violation};
-use lint_report::{Code, FixClass, Report, ReportFix};
-use sql_tree::Parse;
-use statement_place::Cursor;
-use text_pos::NoMemory;
+use fix_class::{Code, Cursor, FixClass, FixClasses, Report, ReportFix};
+use hazard_find::Finding;
+use squawk_linter::{Fix, NoMemory, Parse, Violation};
 
 fn offered(class: Option<FixClass>, fix: Option<Fix>) -> Option<ReportFix>
     ensures { result ≡ spec.offered class fix }

@@ -2,24 +2,19 @@
 ghost use Rattle.std.specs.Prelude.{◌≡◌, ◌<◌, ℕ, All, IfOk};
 ghost use Rattle.fix_class.specs.Known.{AreKnown};
 ghost use Rattle.hazard_ignore.specs.Covered.{AreIgnoresOf};
-ghost use Rattle.lint_base.specs.declared.settings.LinterSettings.{LinterSettings};
+ghost use Rattle.squawk_linter.specs.lint_base.declared.settings.LinterSettings.{LinterSettings};
 ghost use Rattle.squawk_linter.specs.ByStart.{by_key};
-ghost use Rattle.sql_tree.specs.Statement.{IsTree};
+ghost use Rattle.squawk_linter.specs.sql_tree.Statement.{IsTree};
 ghost use Rattle.text_reports.specs.Reports as spec;
 ghost use Rattle.text_reports.specs.Reports.{SameButFlag};
 ghost use Rattle.text_reports.specs.Placed.{IsReportPlaced};
 
 use crate::convert::{push_by_hazards, push_by_rules};
-use fix_class::FixClasses;
-use hazard_base::{Finding, HazardSet};
-use hazard_find::find;
+use fix_class::{FixClasses, Report};
+use hazard_find::{Finding, HazardSet, find};
 use hazard_ignore::{HazardIgnores, without_hazard_names};
-use lint_base::{Rule, RuleSet, Violation};
-use lint_report::Report;
-use sql_tree::Parse;
-use squawk_linter::Linter;
+use squawk_linter::{Linter, NoMemory, Parse, Rule, RuleSet, Violation};
 use std::alloc::Global;
-use text_pos::NoMemory;
 
 /// A linter, and the hazards that are looked for beside its rules.
 #[derive(Debug, Drop)]

@@ -1,4 +1,4 @@
-use Rattle.check_words.specs.declared.help.TheConstants.{HELP, VERSION}
+use Rattle.check_print.specs.check_words.declared.help.TheConstants.{HELP, VERSION}
 use Rattle.check_command.proofs.Doing.{ended_err, ended_ok, has_checked, has_refused, has_stopped, has_unchosen}
 use Rattle.check_command.proofs.command.check_request.Goals as goal
 

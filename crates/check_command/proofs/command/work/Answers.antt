@@ -1,8 +1,8 @@
 use Rattle.std.proofs.Common.{◌≡◌, ◌∙◌, sym}
 use Rattle.std.proofs.lemmas.Result.{IfErr-weaker, IfOk-weaker}
-use Rattle.check_words.specs.declared.asked.Asked.TheVariants.{Check, Refused}
-use Rattle.check_words.specs.declared.help.TheConstants.{HELP, VERSION}
-use Rattle.check_words.specs.Asked.{asked_of}
+use Rattle.check_print.specs.check_words.declared.asked.Asked.TheVariants.{Check, Refused}
+use Rattle.check_print.specs.check_words.declared.help.TheConstants.{HELP, VERSION}
+use Rattle.check_print.specs.check_words.Asked.{asked_of}
 use Rattle.check_command.proofs.Doing.{done_for, same_kept, stopped_for, word_refused}
 use Rattle.check_command.proofs.command.work.Goals as goal
 

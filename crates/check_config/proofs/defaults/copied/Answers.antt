@@ -1,5 +1,5 @@
 use Rattle.std.proofs.Common.{◌≡◌, ◌∙◌, ◌++◌, ◌∷◌, [], List, ap, sym}
-use Rattle.squawk_words.specs.Words.{Text}
+use Rattle.squawk_run.specs.squawk_words.Words.{Text}
 use Rattle.check_config.proofs.Finds.{take_at}
 use Rattle.check_config.proofs.defaults.copied.Goals as goal
 

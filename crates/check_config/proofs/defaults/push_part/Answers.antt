@@ -1,6 +1,6 @@
 use Rattle.std.proofs.Common.{◌∙◌, ◌≤◌, ◌++◌, append-nil, ap, arith, length, sym, Option}
 use Rattle.std.proofs.lemmas.Option.{slice_get_past}
-use Rattle.squawk_words.specs.Words.{Text}
+use Rattle.squawk_run.specs.squawk_words.Words.{Text}
 use Rattle.check_config.specs.Defaults.{part_words}
 use Rattle.check_config.proofs.defaults.push_part.Goals as goal
 

@@ -1,7 +1,7 @@
 use Rattle.std.proofs.Common.{◌≤◌, ℕ, All, List, take}
 use Rattle.checked_file.specs.declared.checked.Linted.{Linted}
 use Rattle.checked_file.specs.Sound.{IsSound}
-use Rattle.file_store.specs.Contents.{KeepsContents}
+use Rattle.sql_files.specs.devices.Contents.{KeepsContents}
 use Rattle.check_run.specs.Checks.{AreChecked}
 use Rattle.check_run.proofs.files.check_files.Given as goal
 

@@ -1,6 +1,6 @@
 use Rattle.std.proofs.Common.{List, arith, subst}
 use Rattle.std.proofs.lemmas.Result.{IfOk-weaker}
-use Rattle.squawk_words.specs.Words.{Text}
+use Rattle.sql_files.specs.squawk_words.Words.{Text}
 use Rattle.check_run.specs.Checks.{AreChecked}
 use Rattle.check_run.proofs.Lists.{all_moved}
 use Rattle.check_run.proofs.run.check_named.Goals as goal

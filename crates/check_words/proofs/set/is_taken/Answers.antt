@@ -1,7 +1,7 @@
 use Rattle.std.proofs.Common.{◌≡◌, ◌∙◌, ◌++◌, List, [], ◌∷◌, ap}
 use Rattle.std.specs.Prelude.{is_some}
 use Rattle.code_choice.specs.Choices.{code_choices_of}
-use Rattle.squawk_words.specs.Words.{Text}
+use Rattle.code_choice.specs.squawk_words.Words.{Text}
 use Rattle.check_words.proofs.set.is_taken.Goals as goal
 
 pub returns : goal.returns

@@ -1,8 +1,8 @@
 use Rattle.std.proofs.Common.{◌≡◌, ◌∙◌, ◌<◌, List, [], Bor, None, ap, arith, length, map, rules, sym}
 use Rattle.lint_report.specs.Codes.{code_named}
-use Rattle.squawk_words.specs.Choices.{each, items_of}
-use Rattle.squawk_words.specs.Words.{Text}
-use Rattle.squawk_words.proofs.Each.{each_fails, each_more}
+use Rattle.squawk_run.specs.squawk_words.Choices.{each, items_of}
+use Rattle.squawk_run.specs.squawk_words.Words.{Text}
+use Rattle.squawk_run.proofs.of_squawk_words.Each.{each_fails, each_more}
 use Rattle.code_choice.proofs.lists.code_list.Goals as goal
 
 pub returns-in-None : goal.returns-in-None

@@ -1,6 +1,6 @@
 use Rattle.std.proofs.Common.{◌≡◌, [], ◌++◌, Some, map, option_map, take}
 use Rattle.lint_report.specs.Codes.{code_named}
-use Rattle.squawk_words.specs.Choices.{each}
+use Rattle.squawk_run.specs.squawk_words.Choices.{each}
 use Rattle.code_choice.proofs.lists.code_list.Given as goal
 
 -- what is found so far is that of the items so far

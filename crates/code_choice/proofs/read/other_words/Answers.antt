@@ -1,7 +1,7 @@
 use Rattle.std.proofs.Common.{◌≡◌, ◌∙◌, ◌++◌, List, ap, sym}
-use Rattle.squawk_words.specs.Words.{Text}
+use Rattle.squawk_run.specs.squawk_words.Words.{Text}
 use Rattle.code_choice.specs.Choices.{other_word}
-use Rattle.code_choice.proofs.Words.{flat_next}
+use Rattle.code_choice.proofs.ChosenWords.{flat_next}
 use Rattle.code_choice.proofs.read.other_words.Goals as goal
 
 pub loop-i-preserved : goal.loop-i-preserved

@@ -1,8 +1,8 @@
 use Rattle.std.proofs.Common.{ℕ, subst, sym}
 use Rattle.std.specs.Str.{IsCharBoundary}
-use Rattle.sql_read.specs.Cause.{IsCause}
-use Rattle.sql_read.specs.declared.error.LintError.{LintError}
-use Rattle.sql_read.specs.declared.error.LintError.TheVariants.{Syntax}
+use Rattle.law_reports.specs.sql_read.Cause.{IsCause}
+use Rattle.law_reports.specs.sql_read.declared.error.LintError.{LintError}
+use Rattle.law_reports.specs.sql_read.declared.error.LintError.TheVariants.{Syntax}
 use Rattle.file_answer.proofs.Placing.{syntax_in}
 use Rattle.file_answer.proofs.answer.refused.Goals as goal
 

@@ -5,7 +5,7 @@ use Rattle.fix_asked.specs.declared.failure.Failure.{Failure}
 use Rattle.fix_run.specs.Giving.{Sinks}
 use Rattle.fix_run.specs.Inputs.{Devices}
 use Rattle.fix_run.specs.Runs.{HasFixed, HasStopped}
-use Rattle.squawk_words.specs.declared.choices.Choices.{Choices}
+use Rattle.config_file.specs.squawk_words.declared.choices.Choices.{Choices}
 use Rattle.fix_asked.proofs.command.fix_request.Goals as goal
 
 pub returns-in-Err-clause-failed : goal.returns-in-Err-clause-failed

@@ -1,5 +1,5 @@
 use Rattle.std.proofs.Common.{subst, sym}
-use Rattle.fix_run.specs.Outcomes.{ArePlacedIn}
+use Rattle.fix_asked.specs.fix_run.Outcomes.{ArePlacedIn}
 use Rattle.fix_text.specs.Fixing.{FixedValue}
 use Rattle.fix_command.proofs.fixer.outcome_of.Goals as goal
 

@@ -1,7 +1,7 @@
 use Rattle.std.proofs.Common.{ℕ, subst, sym}
 use Rattle.std.specs.Str.{IsCharBoundary}
-use Rattle.sql_read.specs.Cause.{IsCause}
-use Rattle.sql_tree.specs.Statement.{IsSyntaxAt}
+use Rattle.fix_text.specs.sql_read.Cause.{IsCause}
+use Rattle.fix_text.specs.sql_tree.Statement.{IsSyntaxAt}
 use Rattle.fix_command.proofs.Placing.{syntax_in}
 use Rattle.fix_command.proofs.fixer.refused.Goals as goal
 

@@ -1,8 +1,8 @@
 use Rattle.std.proofs.lemmas.Grind.{common_steps}
 use Rattle.std.proofs.Common.{◌≡◌, ◌∙◌, ◌++◌, ap, refl, arith, rules}
 use Rattle.std.proofs.lemmas.Str.{IsCharBoundary-start}
-use Rattle.law_fixes.specs.Edited.{edited_from}
-use Rattle.fix_edit.proofs.Steps.{at_edit}
+use Rattle.law_type_fixes.specs.law_fixes.Edited.{edited_from}
+use Rattle.fix_edit.proofs.EditSteps.{at_edit}
 use Rattle.fix_edit.proofs.build.build.Goals as goal
 
 pub loop-edit-init : goal.loop-edit-init

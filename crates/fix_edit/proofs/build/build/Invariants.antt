@@ -1,6 +1,6 @@
 use Rattle.std.proofs.Common.{◌≡◌, ◌++◌, drop, string_bytes}
 use Rattle.std.specs.Str.{IsCharBoundary}
-use Rattle.law_fixes.specs.Edited.{edited, edited_from}
+use Rattle.law_type_fixes.specs.law_fixes.Edited.{edited, edited_from}
 use Rattle.fix_edit.specs.Faults.{end_before}
 use Rattle.fix_edit.proofs.build.build.Given as goal
 

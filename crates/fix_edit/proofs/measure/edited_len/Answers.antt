@@ -1,6 +1,6 @@
 use Rattle.std.proofs.Common.{◌≡◌, ◌∙◌, ◌≤◌, ◌^◌, ap, length, arith}
-use Rattle.law_fixes.specs.Edited.{edited}
-use Rattle.fix_edit.proofs.Steps.{at_edit}
+use Rattle.law_type_fixes.specs.law_fixes.Edited.{edited}
+use Rattle.fix_edit.proofs.EditSteps.{at_edit}
 use Rattle.fix_edit.proofs.measure.edited_len.Goals as goal
 
 pub overflow_sub-start : goal.overflow_sub-start

@@ -1,5 +1,5 @@
 use Rattle.std.proofs.Common.{◌≡◌, ◌+◌, ◌<◌, ◌≤◌, ◌^◌, drop, length}
-use Rattle.law_fixes.specs.Edited.{edited, edited_from}
+use Rattle.law_type_fixes.specs.law_fixes.Edited.{edited, edited_from}
 use Rattle.fix_edit.specs.Faults.{end_before}
 use Rattle.fix_edit.proofs.measure.edited_len.Given as goal
 

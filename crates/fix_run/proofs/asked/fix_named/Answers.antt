@@ -1,6 +1,6 @@
 use Rattle.std.proofs.Common.{List, arith, subst}
 use Rattle.std.proofs.lemmas.Result.{IfOk-weaker}
-use Rattle.squawk_words.specs.Words.{Text}
+use Rattle.gate_files.specs.squawk_words.Words.{Text}
 use Rattle.fix_run.specs.Outcomes.{HaveOutcomes}
 use Rattle.fix_run.proofs.Lists.{have_moved}
 use Rattle.fix_run.proofs.asked.fix_named.Goals as goal

@@ -1,5 +1,5 @@
 use Rattle.std.proofs.Common.{◌≤◌, All, take}
-use Rattle.file_store.specs.Contents.{KeepsContents}
+use Rattle.fix_output.specs.devices.Contents.{KeepsContents}
 use Rattle.fix_run.specs.Outcomes.{HaveOutcomes, IsSound, IsSoundFile}
 use Rattle.fix_run.proofs.files.fix_files.Given as goal
 

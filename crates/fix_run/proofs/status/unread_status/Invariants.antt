@@ -1,6 +1,6 @@
 use Rattle.std.proofs.Common.{◌≡◌, drop, fold}
-use Rattle.checked_file.specs.Answers.{refused_status}
-use Rattle.checked_file.specs.Statuses.{worse}
+use Rattle.gate_files.specs.checked_file.Answers.{refused_status}
+use Rattle.gate_files.specs.checked_file.Statuses.{worse}
 use Rattle.fix_run.specs.Giving.{unread_status}
 use Rattle.fix_run.proofs.status.unread_status.Given as goal
 

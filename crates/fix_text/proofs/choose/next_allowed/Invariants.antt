@@ -1,6 +1,6 @@
 use Rattle.std.proofs.Common.{◌≡◌, drop}
-use Rattle.fix_choice.specs.Fits.{next_text}
-use Rattle.statement_place.specs.Statements.{IsCursor}
+use Rattle.law_next_fix.specs.fix_choice.Fits.{next_text}
+use Rattle.fix_class.specs.statement_place.Statements.{IsCursor}
 use Rattle.fix_text.specs.Allowed.{allowed}
 use Rattle.fix_text.proofs.choose.next_allowed.Given as goal
 

@@ -1,12 +1,12 @@
 use Rattle.std.proofs.Common.{◌≡◌, ◌∙◌, ap, arith, Some, None}
 use Rattle.std.specs.Prelude.{option_map, string_bytes}
-use Rattle.squawk_linter.specs.declared.linter.Linter.{Linter}
-use Rattle.squawk_linter.specs.Reports.{cleared}
+use Rattle.law_next_fix.specs.squawk_linter.declared.linter.Linter.{Linter}
+use Rattle.law_next_fix.specs.squawk_linter.Reports.{cleared}
 use Rattle.fix_text.proofs.Stages.{ended, look_here, next}
 use Rattle.fix_text.specs.Others.{others_of}
-use Rattle.lint_base.specs.declared.settings.LinterSettings.{LinterSettings}
-use Rattle.lint_base.specs.RuleSets.{Rules}
-use Rattle.squawk_linter.specs.Answers.{reports}
+use Rattle.other_fix.specs.lint_base.declared.settings.LinterSettings.{LinterSettings}
+use Rattle.other_fix.specs.lint_base.RuleSets.{Rules}
+use Rattle.law_next_fix.specs.squawk_linter.Answers.{reports}
 use Rattle.fix_text.proofs.fixed.fix_tree.Goals as goal
 
 pub overflow_add-applied : goal.overflow_add-applied

@@ -1,7 +1,7 @@
 use Rattle.std.proofs.Common.{◌≡◌, ◌-◌}
 use Rattle.std.specs.Prelude.{string_bytes}
-use Rattle.law_fix_steps.specs.Step.{load}
-use Rattle.squawk_linter.specs.Reports.{cleared}
+use Rattle.law_next_fix.specs.law_fix_steps.Step.{load}
+use Rattle.law_next_fix.specs.squawk_linter.Reports.{cleared}
 use Rattle.fix_text.proofs.Stages.{Stage}
 use Rattle.fix_text.proofs.fixed.fix_tree.Given as goal
 

@@ -1,9 +1,9 @@
 use Rattle.std.proofs.Common.{◌∙◌, List, ap, subst, sym}
 use Rattle.std.specs.Prelude.{All}
 use Rattle.std.specs.Str.{IsUtf8}
-use Rattle.lint_base.specs.declared.settings.LinterSettings.{LinterSettings}
-use Rattle.lint_base.specs.declared.violation.Violation.{Violation}
-use Rattle.fix_choice.specs.Fits.{ListedCanBeTried, next_text}
+use Rattle.other_fix.specs.lint_base.declared.settings.LinterSettings.{LinterSettings}
+use Rattle.other_fix.specs.lint_base.declared.violation.Violation.{Violation}
+use Rattle.law_next_fix.specs.fix_choice.Fits.{ListedCanBeTried, next_text}
 use Rattle.fix_text.specs.Allowed.{allowed}
 use Rattle.fix_text.proofs.look.look_at.Goals as goal
 

@@ -2,13 +2,13 @@ use Rattle.std.proofs.Common.{◌∙◌, List, ap, subst, sym}
 use Rattle.std.proofs.lemmas.Result.{IfOk-weaker}
 use Rattle.std.specs.Prelude.{All}
 use Rattle.std.specs.Str.{IsCharBoundary}
-use Rattle.lint_base.specs.declared.settings.LinterSettings.{LinterSettings}
-use Rattle.lint_base.specs.declared.violation.Violation.{Violation}
-use Rattle.fix_choice.specs.Fits.{ListedCanBeTried}
+use Rattle.other_fix.specs.lint_base.declared.settings.LinterSettings.{LinterSettings}
+use Rattle.other_fix.specs.lint_base.declared.violation.Violation.{Violation}
+use Rattle.law_next_fix.specs.fix_choice.Fits.{ListedCanBeTried}
 use Rattle.fix_text.proofs.Beside.{others_placed}
 use Rattle.fix_text.specs.Others.{others_of}
 use Rattle.other_fix.specs.declared.other.OtherFix.{OtherFix}
-use Rattle.squawk_linter.specs.Placed.{IsPlaced}
+use Rattle.law_next_fix.specs.squawk_linter.Placed.{IsPlaced}
 use Rattle.fix_text.proofs.others.others_in.Goals as goal
 
 pub others_of-requires-clause-tried : goal.others_of-requires-clause-tried

@@ -1,5 +1,5 @@
 use Rattle.std.proofs.Common.{◌∙◌, ap}
-use Rattle.statement_place.specs.Statements.{number_behind}
+use Rattle.fix_class.specs.statement_place.Statements.{number_behind}
 use Rattle.fix_text.specs.declared.others.Numbered.{Numbered}
 use Rattle.fix_text.proofs.Beside.{next_nearest, next_numbered, next_others}
 use Rattle.fix_text.proofs.others.others_of.Goals as goal

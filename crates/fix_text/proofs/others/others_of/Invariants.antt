@@ -1,7 +1,7 @@
 use Rattle.std.proofs.Common.{◌≡◌}
 use Rattle.std.specs.List.{find}
 use Rattle.std.specs.Prelude.{reverse, slice_get, take}
-use Rattle.statement_place.specs.Statements.{IsCursor}
+use Rattle.fix_class.specs.statement_place.Statements.{IsCursor}
 use Rattle.fix_text.specs.Others.{IsNumbered, others_back, replaces}
 use Rattle.fix_text.proofs.others.others_of.Given as goal
 

@@ -1,6 +1,6 @@
 use Rattle.std.proofs.Common.{◌∙◌, ap, arith, length, sym}
 use Rattle.std.proofs.lemmas.Result.{IfOk-weaker}
-use Rattle.gate_machine.specs.Verdicts.{names_of, texts_of}
+use Rattle.gate_report.specs.migration_gate.Verdict.{names_of, texts_of}
 use Rattle.gate_command.proofs.Listing.{short_texts, told_as}
 use Rattle.gate_command.proofs.answer.answer_read.Goals as goal
 

@@ -1,5 +1,5 @@
 use Rattle.std.proofs.Common.{◌≡◌, length, map, take}
-use Rattle.gate_machine.specs.Verdicts.{names_of, texts_of}
+use Rattle.gate_report.specs.migration_gate.Verdict.{names_of, texts_of}
 use Rattle.gate_command.proofs.answer.borrowed.Given as goal
 
 -- the files so far, by their names and texts

@@ -1,5 +1,5 @@
 use Rattle.std.proofs.Common.{◌<◌, ◌^◌, List, ℕ, length, subst, sym}
-use Rattle.gate_machine.specs.Verdicts.{texts_of}
+use Rattle.gate_report.specs.migration_gate.Verdict.{texts_of}
 use Rattle.gate_command.proofs.Listing.{short_at}
 use Rattle.gate_command.proofs.answer.printed.Goals as goal
 

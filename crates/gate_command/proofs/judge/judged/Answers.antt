@@ -1,9 +1,9 @@
 use Rattle.std.proofs.Common.{subst}
 use Rattle.std.proofs.lemmas.Result.{IfOk-weaker}
-use Rattle.gate_machine.specs.declared.verdict.Verdict.{Verdict}
-use Rattle.gate_machine.specs.Verdicts.{shown, texts_of}
-use Rattle.gate_verdict.specs.Laws.{AcceptsClean}
-use Rattle.gate_verdict.specs.Verdicts.{IsVerdict}
+use Rattle.gate_report.specs.migration_gate.declared.verdict.Verdict.{Verdict}
+use Rattle.gate_report.specs.migration_gate.Verdict.{shown, texts_of}
+use Rattle.gate_report.specs.migration_gate.Laws.{AcceptsClean}
+use Rattle.gate_report.specs.migration_gate.Verdicts.{IsVerdict}
 use Rattle.gate_command.proofs.Judging.{outcome_of}
 use Rattle.gate_command.proofs.judge.judged.Goals as goal
 

@@ -1,4 +1,4 @@
-use Rattle.gate_machine.specs.Verdicts.{texts_of}
+use Rattle.gate_report.specs.migration_gate.Verdict.{texts_of}
 use Rattle.gate_command.proofs.Opening.{first_open, outside_more}
 use Rattle.gate_command.proofs.left_open.first_open.Goals as goal
 

@@ -1,5 +1,5 @@
 use Rattle.std.proofs.Common.{take}
-use Rattle.gate_machine.specs.Verdicts.{texts_of}
+use Rattle.gate_report.specs.migration_gate.Verdict.{texts_of}
 use Rattle.gate_command.specs.Open.{AllEndOutside}
 use Rattle.gate_command.proofs.left_open.first_open.Given as goal
 

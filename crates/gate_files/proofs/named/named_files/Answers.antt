@@ -1,7 +1,7 @@
 use Rattle.std.proofs.Common.{◌≡◌, List, subst}
 use Rattle.std.proofs.lemmas.Result.{IfOk-weaker}
 use Rattle.file_choice.specs.Choice.{chosen_of}
-use Rattle.squawk_words.specs.Words.{Text}
+use Rattle.sql_files.specs.squawk_words.Words.{Text}
 use Rattle.gate_files.proofs.named.named_files.Goals as goal
 
 pub returns-clause-named : goal.returns-clause-named

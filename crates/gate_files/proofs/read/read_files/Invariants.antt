@@ -1,5 +1,5 @@
 use Rattle.std.proofs.Common.{◌≤◌, take}
-use Rattle.file_store.specs.Contents.{KeepsContents}
+use Rattle.sql_files.specs.devices.Contents.{KeepsContents}
 use Rattle.gate_files.specs.Read.{AreRead}
 use Rattle.gate_files.proofs.read.read_files.Given as goal
 

@@ -1,6 +1,6 @@
 use Rattle.std.proofs.Common.{refl}
 use Rattle.hazard_base.specs.Hazards.{all_hazards, hazard_named}
-use Rattle.hazard_base.proofs.Names.{found_exactly}
+use Rattle.hazard_base.proofs.HazardNames.{found_exactly}
 use Rattle.hazard_base.proofs.hazard.hazard_named.Goals as goal
 
 pub returns-clause-value : goal.returns-clause-value

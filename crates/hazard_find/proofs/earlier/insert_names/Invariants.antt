@@ -1,6 +1,6 @@
 use Rattle.std.proofs.Common.{◌≡◌, ◌||◌, ℕ, List, take}
 use Rattle.std.specs.List.{list_any}
-use Rattle.sql_token.specs.declared.token.Span.{Span}
+use Rattle.lint_ignore.specs.sql_token.declared.token.Span.{Span}
 use Rattle.lint_transaction.specs.SpanSet.{has_span}
 use Rattle.lint_transaction.specs.Transaction.{same_path}
 use Rattle.lint_transaction.specs.declared.span_key.SpanKey.TheVariants as by

@@ -1,5 +1,5 @@
 use Rattle.std.proofs.Common.{◌≡◌, false, ℕ, List, take}
-use Rattle.text_pos.specs.Line.{line_feeds}
+use Rattle.hazard_base.specs.text_pos.Line.{line_feeds}
 use Rattle.hazard_ignore.specs.Covered.{is_used}
 use Rattle.hazard_ignore.proofs.covered.is_used.Given as goal
 

@@ -1,5 +1,5 @@
 use Rattle.std.proofs.Common.{◌≡◌, ◌++◌, ℕ, List, take}
-use Rattle.text_pos.specs.Line.{line_feeds}
+use Rattle.hazard_base.specs.text_pos.Line.{line_feeds}
 use Rattle.hazard_ignore.specs.Covered.{names_of}
 use Rattle.hazard_ignore.proofs.covered.names_of.Given as goal
 

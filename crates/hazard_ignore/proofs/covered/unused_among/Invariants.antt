@@ -1,6 +1,6 @@
 use Rattle.std.proofs.Common.{◌≡◌, ◌++◌, ℕ, List, take}
 use Rattle.std.specs.List.{flat_map}
-use Rattle.text_pos.specs.Line.{line_feeds}
+use Rattle.hazard_base.specs.text_pos.Line.{line_feeds}
 use Rattle.hazard_ignore.specs.Covered.{unused_name}
 use Rattle.hazard_ignore.proofs.covered.unused_among.Given as goal
 

@@ -1,7 +1,7 @@
 use Rattle.std.proofs.Common.{refl}
-use Rattle.lint_base.specs.declared.rule.Rule.TheVariants as rule
-use Rattle.lint_base.specs.Rules.{number_of}
-use Rattle.lint_base.specs.RuleSets.{has, with_rule, both_rules}
+use Rattle.law_type_fixes.specs.lint_base.declared.rule.Rule.TheVariants as rule
+use Rattle.law_type_fixes.specs.lint_base.Rules.{number_of}
+use Rattle.law_type_fixes.specs.lint_base.RuleSets.{has, with_rule, both_rules}
 use Rattle.law_answers.proofs.Coding.{others_stand, rule_stands, timeouts_stand}
 use Rattle.law_answers.proofs.Groups.{both_stand}
 use Rattle.law_answers.proofs.laws.entries_are_in_their_tables.Goals as goal

@@ -1,4 +1,4 @@
-use Rattle.law_fixes.specs.Mended.{builds, dropped, rebuilt}
+use Rattle.law_type_fixes.specs.law_fixes.Mended.{builds, dropped, rebuilt}
 use Rattle.law_fix_steps.proofs.Steps.{anywhere_leaves}
 use Rattle.law_fix_steps.proofs.TypedSteps.{ints_leave, smallints_leave, timestamps_leave, varchars_leave}
 use Rattle.law_fix_steps.proofs.WordSteps.{builds_leave, dropped_leave, rebuilt_leave}

@@ -1,4 +1,4 @@
-use Rattle.law_fixes.specs.Mended.{builds, detached, dropped, rebuilt}
+use Rattle.law_type_fixes.specs.law_fixes.Mended.{builds, detached, dropped, rebuilt}
 use Rattle.law_type_fixes.specs.Rules.{type_table, ints, smallints, timestamps, varchars}
 use Rattle.law_fix_steps.specs.Step.{timeouts}
 use Rattle.law_fix_steps.proofs.Steps.{anywhere_leaves, anywhere_steps, leaves_step}

@@ -1,8 +1,8 @@
 use Rattle.std.proofs.Common.{◌+◌, length, refl}
-use Rattle.lint_base.specs.Rules.{number_of}
-use Rattle.lint_base.specs.RuleSets.{both_rules, has, with_rule}
-use Rattle.squawk_linter.specs.Answers.{reports}
-use Rattle.hazard_find.specs.Findings.{findings_of}
+use Rattle.text_reports.specs.lint_base.Rules.{number_of}
+use Rattle.text_reports.specs.lint_base.RuleSets.{both_rules, has, with_rule}
+use Rattle.text_reports.specs.squawk_linter.Answers.{reports}
+use Rattle.text_reports.specs.hazard_find.Findings.{findings_of}
 use Rattle.text_reports.specs.Reports.{start_of, with_hazards}
 use Rattle.law_reports.proofs.Ascending.{by_key_rises}
 use Rattle.law_reports.proofs.Clean.{clean_texts_work_alone}

@@ -1,5 +1,5 @@
 use Rattle.law_type_fixes.specs.Rules as rules
-use Rattle.law_type_fixes.proofs.Reports.{is_varchars, is_timestamps, is_ints, is_smallints}
+use Rattle.law_type_fixes.proofs.TypeReports.{is_varchars, is_timestamps, is_ints, is_smallints}
 use Rattle.law_type_fixes.proofs.Tables.{types_silent}
 use Rattle.law_type_fixes.proofs.laws.tables_are_silent.Goals as goal
 

@@ -1,5 +1,5 @@
 use Rattle.std.proofs.Common.{◌∙◌, length, ap, arith}
-use Rattle.sql_tree.specs.Statement.{Tree}
+use Rattle.lint_ignore.specs.sql_tree.Statement.{Tree}
 use Rattle.lint_pass.proofs.BlockLaws.{opening_walked, found_walked}
 use Rattle.lint_pass.proofs.blocks.find_blocks.Goals as goal
 

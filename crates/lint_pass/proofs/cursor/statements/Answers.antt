@@ -1,5 +1,5 @@
 use Rattle.std.proofs.Common.{List, length, ap, arith}
-use Rattle.sql_tree.specs.declared.nodes.Stmt.{Stmt}
+use Rattle.lint_ignore.specs.sql_tree.declared.nodes.Stmt.{Stmt}
 use Rattle.lint_pass.proofs.Counts.{stmts_few}
 use Rattle.lint_pass.proofs.cursor.statements.Goals as goal
 

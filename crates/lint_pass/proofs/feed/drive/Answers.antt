@@ -1,6 +1,6 @@
 use Rattle.std.proofs.Common.{◌≡◌, ◌∙◌, ℕ, ◌+◌, List, ◌++◌, ap, sym, subst, append_assoc, length, arith}
 use Rattle.std.proofs.lemmas.Result.{on_ok_weaker}
-use Rattle.sql_tree.specs.Statement.{Tree}
+use Rattle.lint_ignore.specs.sql_tree.Statement.{Tree}
 use Rattle.lint_base.specs.GrownLaws.{at_err, err_then}
 use Rattle.lint_transaction.specs.Earlier.{concat_below}
 use Rattle.lint_transaction.specs.Transaction.{stmt_at}

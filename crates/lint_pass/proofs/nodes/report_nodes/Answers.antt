@@ -1,6 +1,6 @@
 use Rattle.std.proofs.Common.{rules}
 use Rattle.std.specs.List.{flat_map}
-use Rattle.sql_tree.specs.Nodes.{actions_in}
+use Rattle.lint_ignore.specs.sql_tree.Nodes.{actions_in}
 use Rattle.lint_base.specs.GrownLaws.{at_err, grown_by_first, grown_by_second}
 use Rattle.lint_pass.specs.NodeWalk.{at_action}
 use Rattle.lint_pass.proofs.PartLaws.{second_whole}

@@ -1,6 +1,6 @@
 use Rattle.std.specs.Prelude.{None, false}
 use Rattle.lint_base.specs.GrownLaws.{at_err}
-use Rattle.sql_tree.specs.declared.kinds.PieceKind.TheVariants.{NotEnforced}
+use Rattle.lint_ignore.specs.sql_tree.declared.kinds.PieceKind.TheVariants.{NotEnforced}
 use Rattle.lint_pass.specs.NodeWalk.{at_piece}
 use Rattle.lint_pass.proofs.PartLaws.{prefix_refused_in}
 use Rattle.lint_pass.proofs.nodes.report_pieces.Goals as goal

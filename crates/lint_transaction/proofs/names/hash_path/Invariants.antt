@@ -1,7 +1,7 @@
 use Rattle.std.proofs.Common.{◌≡◌, length, fold}
 use Rattle.std.specs.Hash.FoldHasher as folding
 use Rattle.std.specs.List.{flat_map}
-use Rattle.sql_name.specs.Hash.{text_writes}
+use Rattle.sql_tree.specs.sql_name.Hash.{text_writes}
 use Rattle.sql_tree.specs.Path.{path_cuts}
 use Rattle.lint_transaction.specs.NamesLeft.{names_left}
 use Rattle.lint_transaction.proofs.names.hash_path.Given as goal

@@ -3,8 +3,8 @@ use Rattle.std.proofs.lemmas.List.{append-nil}
 use Rattle.std.proofs.lemmas.List.Sums.{fold-append}
 use Rattle.std.specs.Hash as fed
 use Rattle.std.specs.Hash.FoldHasher as folding
-use Rattle.sql_name.specs.Compared.{full_text}
-use Rattle.sql_name.specs.Hash.{text_writes}
+use Rattle.sql_tree.specs.sql_name.Compared.{full_text}
+use Rattle.sql_tree.specs.sql_name.Hash.{text_writes}
 use Rattle.lint_transaction.specs.SpanKey.{hash_of}
 use Rattle.lint_transaction.proofs.span_key.hash.Goals as goal
 

@@ -1,5 +1,5 @@
 use Rattle.std.proofs.Common.{◌≡◌, ◌≤◌}
-use Rattle.lint_transaction.specs.Earlier.{concat_below}
+use Rattle.lint_pass.specs.lint_transaction.Earlier.{concat_below}
 use Rattle.lock_machine.specs.Machine.{before}
 use Rattle.lock_machine.specs.MachineWalk.{IsMachine}
 use Rattle.lock_machine.specs.Works.{is_assumed, works_at}

@@ -1,7 +1,7 @@
 use Rattle.std.proofs.Common.{subst}
 use Rattle.lsp_linter.proofs.Placing.{syntax_in}
-use Rattle.sql_read.specs.Cause.{IsCause}
-use Rattle.sql_read.specs.declared.error.LintError.{LintError}
+use Rattle.text_reports.specs.sql_read.Cause.{IsCause}
+use Rattle.text_reports.specs.sql_read.declared.error.LintError.{LintError}
 use Rattle.lsp_linter.proofs.text.refusal_of.Goals as goal
 
 pub position_of-requires-in-Syntax-clause-place : goal.position_of-requires-in-Syntax-clause-place

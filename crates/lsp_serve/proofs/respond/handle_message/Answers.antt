@@ -1,8 +1,8 @@
 use Rattle.std.proofs.Common.{subst}
-use Rattle.lsp_message.specs.declared.message.Message.{Message}
+use Rattle.lsp_read.specs.lsp_session.declared.message.Message.{Message}
 use Rattle.lsp_serve.specs.Turns.{Handles}
 use Rattle.lsp_serve.proofs.Handling.{handled_as}
-use Rattle.lsp_session.specs.Entry.{IsTakenAs}
+use Rattle.lsp_read.specs.lsp_session.Entry.{IsTakenAs}
 use Rattle.lsp_serve.proofs.respond.handle_message.Goals as goal
 
 pub returns : goal.returns

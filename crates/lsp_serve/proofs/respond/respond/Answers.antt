@@ -1,7 +1,7 @@
 use Rattle.std.proofs.lemmas.Result.{IfErr-weaker}
 use Rattle.lsp_read.specs.Message.{message_of}
 use Rattle.lsp_serve.proofs.Stopping.{not_said, on_ok}
-use Rattle.lsp_session.specs.Entry.{IsTakenAs}
+use Rattle.lsp_read.specs.lsp_session.Entry.{IsTakenAs}
 use Rattle.lsp_serve.proofs.respond.respond.Goals as goal
 
 pub returns-in-Ok-clause-done : goal.returns-in-Ok-clause-done

@@ -1,9 +1,9 @@
 use Rattle.std.proofs.Common.{List, Option, ap, subst, ◌∙◌, ℕ}
 use Rattle.std.proofs.KnownBytes.{prepend_known-nil}
-use Rattle.lsp_frame.specs.Reading.{coming}
+use Rattle.lsp_serve.specs.Reading.{coming}
 use Rattle.lsp_serve.specs.Served.{Served, Streams}
 use Rattle.lsp_serve.proofs.Turning.{nothing_done}
-use Rattle.lsp_session.specs.Entry.{IsTakenAs}
+use Rattle.lsp_read.specs.lsp_session.Entry.{IsTakenAs}
 use Rattle.lsp_serve.proofs.serving.serve.Goals as goal
 
 pub returns-in-Ok : goal.returns-in-Ok

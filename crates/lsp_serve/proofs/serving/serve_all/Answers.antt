@@ -1,10 +1,10 @@
 use Rattle.std.proofs.Common.{◌∙◌, ap, sym}
-use Rattle.lsp_frame.specs.Reading.{coming}
+use Rattle.lsp_serve.specs.Reading.{coming}
 use Rattle.lsp_serve.specs.Ends.{exit_at}
 use Rattle.lsp_serve.specs.Served.{Streams}
 use Rattle.lsp_serve.specs.Turns.{StopsTurn, TakesTurn}
 use Rattle.lsp_serve.proofs.Turning.{begun, ends, exits, one_turn, worn_out}
-use Rattle.lsp_session.specs.Entry.{IsTakenAs}
+use Rattle.lsp_read.specs.lsp_session.Entry.{IsTakenAs}
 use Rattle.lsp_serve.proofs.serving.serve_all.Goals as goal
 
 pub serving-init : goal.serving-init

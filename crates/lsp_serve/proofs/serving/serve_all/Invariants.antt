@@ -1,7 +1,7 @@
-use Rattle.lsp_frame.specs.Reading.{coming}
+use Rattle.lsp_serve.specs.Reading.{coming}
 use Rattle.lsp_serve.specs.Said.{IsOpen}
 use Rattle.lsp_serve.specs.Turns.{SoFar}
-use Rattle.lsp_session.specs.Entry.{IsTakenAs}
+use Rattle.lsp_read.specs.lsp_session.Entry.{IsTakenAs}
 use Rattle.lsp_serve.proofs.serving.serve_all.Given as goal
 
 abbrev pub invariant-serving : goal.invariant-serving

@@ -1,11 +1,11 @@
 use Rattle.std.proofs.Common.{refl, subst, sym}
 use Rattle.std.proofs.KnownBytes.{Keeps-refl}
 use Rattle.std.proofs.lemmas.Result.{IfErr-weaker}
-use Rattle.lsp_frame.specs.Reading.{coming}
+use Rattle.lsp_serve.specs.Reading.{coming}
 use Rattle.lsp_serve.specs.Served.{Streams}
 use Rattle.lsp_serve.specs.Turns.{StopsTurn}
 use Rattle.lsp_serve.proofs.Stopping.{begins, ended, not_read, not_turned, on_ok, turned}
-use Rattle.lsp_session.specs.Entry.{IsTakenAs}
+use Rattle.lsp_read.specs.lsp_session.Entry.{IsTakenAs}
 use Rattle.lsp_serve.proofs.serving.take_turn.Goals as goal
 
 pub returns-in-Ok-Some-clause-done : goal.returns-in-Ok-Some-clause-done

@@ -1,4 +1,4 @@
-use Rattle.gate_machine.specs.Verdicts.{names_of, texts_of}
+use Rattle.migration_gate.specs.Verdict.{names_of, texts_of}
 use Rattle.migration_gate.proofs.Judged.{shown_as}
 use Rattle.migration_gate.proofs.judge.judge_files.Goals as goal
 

@@ -1,4 +1,4 @@
-use Rattle.lint_base.specs.GrownLaws.{at_err}
+use Rattle.lint_pass.specs.lint_base.GrownLaws.{at_err}
 use Rattle.lint_pass.proofs.PartLaws.{prefix_refused}
 use Rattle.lint_pass.specs.Those.{that}
 use Rattle.pass_client.specs.RequireTableSchema as spec

@@ -1,5 +1,5 @@
-use Rattle.lint_base.specs.GrownLaws.{at_err}
-use Rattle.lint_node.specs.Plain as plain
+use Rattle.lint_pass.specs.lint_base.GrownLaws.{at_err}
+use Rattle.lint_pass.specs.lint_node.Plain as plain
 use Rattle.lint_pass.specs.Those.{that}
 use Rattle.lint_pass.proofs.PartLaws.{part_next, part_refused}
 use Rattle.pass_concurrent.specs.RequireConcurrentPartitionDetach as spec

@@ -1,5 +1,5 @@
 use Rattle.std.proofs.Common.{◌≡◌, ◌++◌, take}
-use Rattle.lint_node.specs.Plain as plain
+use Rattle.lint_pass.specs.lint_node.Plain as plain
 use Rattle.lint_pass.specs.Those.{those}
 use Rattle.pass_concurrent.specs.RequireConcurrentPartitionDetach as spec
 use Rattle.pass_concurrent.proofs.require_concurrent_partition_detach.report_actions.Given as goal

@@ -1,4 +1,4 @@
-use Rattle.lint_base.specs.GrownLaws.{at_err}
+use Rattle.lint_pass.specs.lint_base.GrownLaws.{at_err}
 use Rattle.lint_pass.proofs.PartLaws.{part_refused_in}
 use Rattle.pass_constraint.specs.AddingFieldWithDefault.{on_action}
 use Rattle.pass_constraint.proofs.adding_field_with_default.report_actions.Goals as goal

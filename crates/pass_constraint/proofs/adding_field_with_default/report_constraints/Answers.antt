@@ -1,4 +1,4 @@
-use Rattle.lint_base.specs.GrownLaws.{at_err}
+use Rattle.lint_pass.specs.lint_base.GrownLaws.{at_err}
 use Rattle.lint_pass.proofs.PartLaws.{prefix_refused}
 use Rattle.pass_constraint.specs.AddingFieldWithDefault.{on_constraint}
 use Rattle.pass_constraint.proofs.adding_field_with_default.report_constraints.Goals as goal

@@ -1,4 +1,4 @@
-use Rattle.lint_base.specs.GrownLaws.{at_err}
+use Rattle.lint_pass.specs.lint_base.GrownLaws.{at_err}
 use Rattle.pass_constraint.specs.ConstraintMissingNotValid.{addition}
 use Rattle.lint_pass.proofs.PartLaws.{part_next, part_refused}
 use Rattle.pass_constraint.proofs.constraint_missing_not_valid.report_additions.Goals as goal

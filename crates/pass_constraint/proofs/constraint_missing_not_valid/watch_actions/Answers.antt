@@ -1,4 +1,4 @@
-use Rattle.lint_base.specs.GrownLaws.{at_err}
+use Rattle.lint_pass.specs.lint_base.GrownLaws.{at_err}
 use Rattle.pass_constraint.specs.ConstraintWalk.{has_name}
 use Rattle.pass_constraint.proofs.ConstraintLaws.{names_next, told_next, validations_refused, validations_grown}
 use Rattle.pass_constraint.proofs.constraint_missing_not_valid.watch_actions.Goals as goal

@@ -1,7 +1,7 @@
 use Rattle.std.proofs.Common.{◌≡◌, ◌||◌, ◌++◌, ℕ, List, take}
 use Rattle.std.specs.List.{list_any}
-use Rattle.lint_transaction.specs.Earlier.{concat_below}
-use Rattle.lint_transaction.specs.declared.span_key.SpanKey.TheVariants as by
+use Rattle.lint_pass.specs.lint_transaction.Earlier.{concat_below}
+use Rattle.lint_pass.specs.lint_transaction.declared.span_key.SpanKey.TheVariants as by
 use Rattle.pass_constraint.specs.ConstraintMissingNotValid.{adds_not_valid, validation_at}
 use Rattle.pass_constraint.specs.ConstraintWalk.{has_name}
 use Rattle.pass_constraint.proofs.constraint_missing_not_valid.watch_actions.Given as goal

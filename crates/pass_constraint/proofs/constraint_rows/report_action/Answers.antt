@@ -1,8 +1,8 @@
 use Rattle.std.proofs.Common.{subst, List}
 use Rattle.sql_tree.specs.declared.nodes.Constraint.{Constraint}
-use Rattle.lint_base.specs.Grown.{GrownBy}
-use Rattle.lint_base.specs.GrownLaws.{at_err, grown_by_second}
-use Rattle.lint_node.specs.Parts.{new_constraints}
+use Rattle.lint_pass.specs.lint_base.Grown.{GrownBy}
+use Rattle.lint_pass.specs.lint_base.GrownLaws.{at_err, grown_by_second}
+use Rattle.lint_pass.specs.lint_node.Parts.{new_constraints}
 use Rattle.pass_constraint.specs.AddedConstraints.{added, lent, on_column, on_table}
 use Rattle.pass_constraint.proofs.constraint_rows.report_action.Goals as goal
 

@@ -1,5 +1,5 @@
-use Rattle.lint_base.specs.GrownLaws.{at_err}
-use Rattle.lint_node.specs.ColumnTypes.{column_types}
+use Rattle.lint_pass.specs.lint_base.GrownLaws.{at_err}
+use Rattle.lint_pass.specs.lint_node.ColumnTypes.{column_types}
 use Rattle.lint_pass.specs.Those.{that}
 use Rattle.pass_data_type.proofs.TypeWalk.{walk_refused}
 use Rattle.pass_data_type.proofs.type_rule.report_each_type.Goals as goal

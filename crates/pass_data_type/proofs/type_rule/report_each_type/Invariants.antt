@@ -1,5 +1,5 @@
 use Rattle.std.proofs.Common.{◌≡◌, ◌++◌}
-use Rattle.lint_node.specs.ColumnTypes.{column_types}
+use Rattle.lint_pass.specs.lint_node.ColumnTypes.{column_types}
 use Rattle.lint_pass.specs.Those.{those}
 use Rattle.pass_data_type.proofs.type_rule.report_each_type.Given as goal
 

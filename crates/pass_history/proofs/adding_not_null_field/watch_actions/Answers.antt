@@ -1,7 +1,7 @@
 use Rattle.std.proofs.Common.{subst}
-use Rattle.lint_base.specs.GrownLaws.{at_err}
-use Rattle.lint_node.specs.Altered.{altered}
-use Rattle.lint_transaction.proofs.EventLaws.{history_next, pieces_next, pieces_front}
+use Rattle.lint_pass.specs.lint_base.GrownLaws.{at_err}
+use Rattle.lint_pass.specs.lint_node.Altered.{altered}
+use Rattle.lint_pass.proofs.of_lint_transaction.EventLaws.{history_next, pieces_next, pieces_front}
 use Rattle.pass_history.specs.AddingNotNullField.{report_on}
 use Rattle.pass_history.specs.AddingNotNullFieldWalk.{Knows}
 use Rattle.pass_history.proofs.adding_not_null_field.watch_actions.Goals as goal

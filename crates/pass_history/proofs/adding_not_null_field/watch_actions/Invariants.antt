@@ -1,6 +1,6 @@
 use Rattle.std.proofs.Common.{◌≡◌, ◌++◌, List, map, take}
-use Rattle.lint_node.specs.Altered.{Altered, altered}
-use Rattle.lint_transaction.specs.Events.{each_event}
+use Rattle.lint_pass.specs.lint_node.Altered.{Altered, altered}
+use Rattle.lint_pass.specs.lint_transaction.Events.{each_event}
 use Rattle.pass_history.specs.AddingNotNullField.{report_on}
 use Rattle.pass_history.specs.AddingNotNullFieldWalk.{IsKeyed, Knows}
 use Rattle.pass_history.proofs.adding_not_null_field.watch_actions.Given as goal

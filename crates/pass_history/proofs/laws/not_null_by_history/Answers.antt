@@ -1,6 +1,6 @@
 use Rattle.std.proofs.Common.{◌∙◌, ap, cond, [], length}
-use Rattle.lint_transaction.proofs.EventLaws.{history_whole}
-use Rattle.lint_transaction.specs.Earlier.{concat_below}
+use Rattle.lint_pass.proofs.of_lint_transaction.EventLaws.{history_whole}
+use Rattle.lint_pass.specs.lint_transaction.Earlier.{concat_below}
 use Rattle.pass_history.specs.History.{altered_at}
 use Rattle.pass_history.specs.AddingNotNullField.{not_null_of, report_on, uses_checks}
 use Rattle.pass_history.proofs.laws.not_null_by_history.Goals as goal

@@ -1,8 +1,8 @@
 use Rattle.std.proofs.Common.{◌≡◌, ◌∙◌, ap, subst, ◌++◌, map, take, length, arith}
 use Rattle.std.proofs.Math.Seq.{take-length}
-use Rattle.lint_base.specs.GrownLaws.{at_err}
-use Rattle.lint_node.specs.Altered.{altered}
-use Rattle.lint_transaction.proofs.EventLaws.{history_next, pieces_next, pieces_front}
+use Rattle.lint_pass.specs.lint_base.GrownLaws.{at_err}
+use Rattle.lint_pass.specs.lint_node.Altered.{altered}
+use Rattle.lint_pass.proofs.of_lint_transaction.EventLaws.{history_next, pieces_next, pieces_front}
 use Rattle.pass_history.specs.Dropped.{IsDropping}
 use Rattle.pass_history.specs.RobustActions.{report_on}
 use Rattle.pass_history.proofs.robust_actions.watch_actions.Goals as goal

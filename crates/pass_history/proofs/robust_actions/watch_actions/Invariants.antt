@@ -1,6 +1,6 @@
 use Rattle.std.proofs.Common.{◌≡◌, ◌++◌, List, map, take}
-use Rattle.lint_node.specs.Altered.{Altered, altered}
-use Rattle.lint_transaction.specs.Events.{each_event}
+use Rattle.lint_pass.specs.lint_node.Altered.{Altered, altered}
+use Rattle.lint_pass.specs.lint_transaction.Events.{each_event}
 use Rattle.pass_history.specs.Dropped.{IsDropping}
 use Rattle.pass_history.specs.RobustActions.{report_on}
 use Rattle.pass_history.proofs.robust_actions.watch_actions.Given as goal

@@ -1,6 +1,6 @@
 use Rattle.std.proofs.Common.{◌∙◌, sym, ◌++◌, subst}
-use Rattle.lint_node.specs.Altered.{altered_all}
-use Rattle.lint_transaction.proofs.SpanLaws.{on_ok}
+use Rattle.lint_pass.specs.lint_node.Altered.{altered_all}
+use Rattle.lint_pass.proofs.of_lint_transaction.SpanLaws.{on_ok}
 use Rattle.pass_history.specs.Dropped.{IsDropping}
 use Rattle.pass_history.proofs.robust_actions.watch_alterations.Goals as goal
 

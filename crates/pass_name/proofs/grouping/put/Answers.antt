@@ -1,6 +1,6 @@
 use Rattle.std.proofs.Common.{◌∙◌, sym, ap, map}
 use Rattle.indexmap.specs.IndexMap.{insert_entry}
-use Rattle.sql_name.specs.Compared.{name_eq}
+use Rattle.lint_pass.specs.sql_name.Compared.{name_eq}
 use Rattle.pass_name.specs.Entries.{entry_seen}
 use Rattle.pass_name.proofs.EntryLaws.{put-written, put-opened}
 use Rattle.pass_name.proofs.grouping.put.Goals as goal

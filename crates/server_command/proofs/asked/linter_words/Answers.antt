@@ -1,5 +1,5 @@
 use Rattle.std.proofs.Common.{◌≡◌, ◌∙◌, ◌+◌, ◌++◌, ◌∷◌, [], List, ap, arith, drop, filter}
-use Rattle.squawk_words.specs.Words.{Text}
+use Rattle.refused_word.specs.squawk_words.Words.{Text}
 use Rattle.server_command.specs.Asked.{is_taken, linter_words}
 use Rattle.server_command.proofs.Rest.{rest_end, rest_next}
 use Rattle.server_command.proofs.asked.linter_words.Goals as goal

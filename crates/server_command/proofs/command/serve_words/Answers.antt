@@ -1,6 +1,6 @@
 use Rattle.std.proofs.Common.{◌≡◌, Err, IfErr, IfOk, Ok, Result, refl, subst}
 use Rattle.std.proofs.KnownBytes.{Keeps-refl}
-use Rattle.check_config.specs.Config.{empty}
+use Rattle.config_file.specs.check_config.Config.{empty}
 use Rattle.server_command.specs.Asked.{linter_words}
 use Rattle.server_command.specs.Settled.{IsUnchosen}
 use Rattle.server_command.specs.Workspace.{IsFirst}

@@ -1,7 +1,7 @@
 use Rattle.std.proofs.Common.{◌≡◌, length}
 use Rattle.sql_tree.specs.Split.{all_of, split, comma}
 use Rattle.sql_tree.specs.Action.{action}
-use Rattle.sql_mark.proofs.Front.{with_prefix}
+use Rattle.sql_column.proofs.of_sql_mark.Front.{with_prefix}
 use Rattle.sql_action.proofs.actions.several_actions.Given as goal
 
 abbrev pub invariant-loop-part : goal.invariant-loop-part

@@ -2,7 +2,7 @@ use Rattle.std.proofs.Common.{◌≡◌, length, map}
 use Rattle.sql_tree.specs.declared.actions.TheConstants.{ATTRIBUTE}
 use Rattle.sql_tree.specs.Split.{all_of, split, comma}
 use Rattle.sql_tree.specs.ActionPieces.{piece_by}
-use Rattle.sql_mark.proofs.Front.{with_prefix}
+use Rattle.sql_column.proofs.of_sql_mark.Front.{with_prefix}
 use Rattle.sql_action.proofs.pieces.read_attributes.Given as goal
 
 abbrev pub invariant-loop-part : goal.invariant-loop-part

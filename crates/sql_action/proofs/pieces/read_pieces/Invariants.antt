@@ -1,7 +1,7 @@
 use Rattle.std.proofs.Common.{◌≡◌, length}
 use Rattle.sql_tree.specs.Split.{all_of, chunks}
 use Rattle.sql_tree.specs.ActionPieces.{piece_by, piece_len, piece_rows}
-use Rattle.sql_mark.proofs.Front.{with_prefix}
+use Rattle.sql_column.proofs.of_sql_mark.Front.{with_prefix}
 use Rattle.sql_action.proofs.pieces.read_pieces.Given as goal
 
 abbrev pub invariant-loop-part : goal.invariant-loop-part

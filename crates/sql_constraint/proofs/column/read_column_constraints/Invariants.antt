@@ -3,7 +3,7 @@ use Rattle.sql_tree.specs.Split.{all_of}
 use Rattle.sql_tree.specs.Pieces.{pieces}
 use Rattle.sql_tree.specs.ColumnMarks.{constraint_start, constraint_head}
 use Rattle.sql_tree.specs.Constraint.{column_constraint}
-use Rattle.sql_mark.proofs.Front.{with_prefix}
+use Rattle.sql_form.proofs.of_sql_mark.Front.{with_prefix}
 use Rattle.sql_constraint.proofs.column.read_column_constraints.Given as goal
 
 abbrev pub invariant-loop-piece : goal.invariant-loop-piece

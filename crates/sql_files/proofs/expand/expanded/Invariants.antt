@@ -1,5 +1,5 @@
 use Rattle.std.proofs.Common.{◌≤◌}
-use Rattle.file_store.specs.Contents.{KeepsContents}
+use Rattle.devices.specs.Contents.{KeepsContents}
 use Rattle.sql_files.proofs.Naming.{GoesOn}
 use Rattle.sql_files.proofs.expand.expanded.Given as goal
 

@@ -1,7 +1,7 @@
 use Rattle.std.proofs.Common.{◌≡◌, ◌++◌, length}
 use Rattle.std.specs.List.{filter_map}
 use Rattle.sql_tree.specs.Split.{split, comma, until}
-use Rattle.sql_mark.specs.Marks.{test_of}
+use Rattle.sql_constraint.specs.sql_mark.Marks.{test_of}
 use Rattle.sql_tree.specs.Write.{set_part}
 use Rattle.sql_write.proofs.set.set_clause.Given as goal
 

@@ -1,5 +1,5 @@
 use Rattle.std.proofs.Common.{◌≡◌, ◌++◌, length, map, drop}
-use Rattle.sql_mark.specs.Marks.{test_of}
+use Rattle.sql_constraint.specs.sql_mark.Marks.{test_of}
 use Rattle.sql_tree.specs.Split.{split}
 use Rattle.sql_tree.specs.Write.{set_clause, others}
 use Rattle.sql_write.proofs.set.set_clauses.Given as goal

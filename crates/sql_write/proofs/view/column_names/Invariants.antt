@@ -1,7 +1,7 @@
 use Rattle.std.proofs.Common.{◌≡◌, length}
 use Rattle.sql_tree.specs.Split.{all_of, split, comma}
 use Rattle.sql_tree.specs.Write.{column_name}
-use Rattle.sql_mark.proofs.Front.{with_prefix}
+use Rattle.sql_constraint.proofs.of_sql_mark.Front.{with_prefix}
 use Rattle.sql_write.proofs.view.column_names.Given as goal
 
 abbrev pub invariant-loop-part : goal.invariant-loop-part

@@ -1,6 +1,6 @@
 use Rattle.std.proofs.Common.{◌≡◌, Some, ap, subst, sym}
 use Rattle.std.specs.Prelude.{option_map}
-use Rattle.squawk_words.specs.Choices.{choices_of}
+use Rattle.squawk_run.specs.squawk_words.Choices.{choices_of}
 use Rattle.squawk_cli.specs.Config.{config_by, config_of}
 use Rattle.squawk_cli.proofs.Groups.{AreFew, few_in}
 use Rattle.squawk_cli.proofs.config.read_words.Goals as goal

@@ -1,6 +1,6 @@
 use Rattle.std.proofs.Common.{List, subst}
 use Rattle.squawk_diag.specs.Written.{WroteAs}
-use Rattle.diag_json.specs.declared.diagnostic.Diagnostic.{Diagnostic}
+use Rattle.diag_report.specs.diag_json.declared.diagnostic.Diagnostic.{Diagnostic}
 use Rattle.squawk_diag.proofs.Answered.{written}
 use Rattle.squawk_diag.proofs.answer.answer_text.Goals as goal
 

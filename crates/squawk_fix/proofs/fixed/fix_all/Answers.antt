@@ -1,5 +1,5 @@
 use Rattle.std.proofs.Common.{subst}
-use Rattle.sql_tree.specs.Statement.{Tree}
+use Rattle.law_next_fix.specs.sql_tree.Statement.{Tree}
 use Rattle.squawk_fix.specs.Fixing.{IsFixed}
 use Rattle.squawk_fix.proofs.fixed.fix_all.Goals as goal
 

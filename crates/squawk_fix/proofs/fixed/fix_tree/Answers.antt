@@ -1,15 +1,15 @@
 use Rattle.std.proofs.Common.{List, sym, ap, ◌∙◌, subst, arith}
 use Rattle.std.specs.Prelude.{All, string_bytes}
 use Rattle.std.specs.Str.{IsUtf8}
-use Rattle.sql_token.specs.Token.{Text}
-use Rattle.sql_tree.specs.Statement.{IsValid}
-use Rattle.lint_base.specs.declared.settings.LinterSettings.{LinterSettings}
-use Rattle.lint_base.specs.declared.violation.Violation.{Violation}
-use Rattle.lint_base.specs.RuleSets.{Rules}
-use Rattle.fix_choice.specs.Fits.{ListedCanBeTried}
-use Rattle.squawk_linter.specs.declared.linter.Linter.{Linter}
-use Rattle.squawk_linter.specs.Answers.{IsAnswer}
-use Rattle.squawk_linter.specs.Reports.{cleared}
+use Rattle.law_next_fix.specs.sql_token.Token.{Text}
+use Rattle.law_next_fix.specs.sql_tree.Statement.{IsValid}
+use Rattle.squawk_run.specs.lint_base.declared.settings.LinterSettings.{LinterSettings}
+use Rattle.squawk_run.specs.lint_base.declared.violation.Violation.{Violation}
+use Rattle.squawk_run.specs.lint_base.RuleSets.{Rules}
+use Rattle.law_next_fix.specs.fix_choice.Fits.{ListedCanBeTried}
+use Rattle.law_next_fix.specs.squawk_linter.declared.linter.Linter.{Linter}
+use Rattle.law_next_fix.specs.squawk_linter.Answers.{IsAnswer}
+use Rattle.law_next_fix.specs.squawk_linter.Reports.{cleared}
 use Rattle.squawk_fix.specs.Round.{Answered}
 use Rattle.squawk_fix.proofs.Stages.{begun, from_here, is_valid, round_is, rounded, staged, tried}
 use Rattle.squawk_fix.proofs.fixed.fix_tree.Goals as goal

@@ -1,5 +1,5 @@
 use Rattle.std.proofs.Common.{◌≡◌, length, rules}
-use Rattle.lint_ignore.specs.Found.{lists_of}
+use Rattle.law_next_fix.specs.lint_ignore.Found.{lists_of}
 use Rattle.squawk_fix.proofs.Plain.{plain_from}
 use Rattle.squawk_fix.proofs.round.is_plain.Goals as goal
 

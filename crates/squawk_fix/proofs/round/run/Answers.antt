@@ -1,9 +1,9 @@
 use Rattle.std.proofs.Common.{◌∙◌, ◌<◌, ◌^◌, List, length, sym, subst, arith}
 use Rattle.std.proofs.lemmas.Str.{IsUtf8-string_bytes}
 use Rattle.std.specs.Prelude.{string_bytes}
-use Rattle.sql_token.specs.Token.{Text}
-use Rattle.lint_base.specs.declared.violation.Violation.{Violation}
-use Rattle.fix_choice.specs.Fits.{CanBeTried}
+use Rattle.law_next_fix.specs.sql_token.Token.{Text}
+use Rattle.squawk_run.specs.lint_base.declared.violation.Violation.{Violation}
+use Rattle.law_next_fix.specs.fix_choice.Fits.{CanBeTried}
 use Rattle.squawk_fix.specs.Round.{IsNextFix, IsNextText}
 use Rattle.squawk_fix.proofs.Runs.{Progress, begun, known_of, laws_of, skipped, stepped, tried}
 use Rattle.squawk_fix.proofs.round.run.Goals as goal

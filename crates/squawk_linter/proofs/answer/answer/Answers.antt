@@ -2,7 +2,7 @@ use Rattle.std.proofs.Common.{◌≡◌, ◌∙◌, ◌+◌, ◌<◌, List, ap, 
 use Rattle.std.specs.Prelude.{All}
 use Rattle.std.specs.Str.{IsUtf8}
 use Rattle.std.proofs.lemmas.Result.{IfOk-weaker}
-use Rattle.lint_base.specs.declared.violation.Violation.{Violation}
+use Rattle.fix_edit.specs.lint_base.declared.violation.Violation.{Violation}
 use Rattle.squawk_linter.specs.ByStart.{by_key}
 use Rattle.squawk_linter.specs.Reports.{gathered, reports_from, start_of, with_unknown_names}
 use Rattle.squawk_linter.proofs.Gathering.{gathered_within}

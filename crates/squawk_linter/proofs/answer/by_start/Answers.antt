@@ -1,7 +1,7 @@
 use Rattle.std.proofs.Common.{[], ◌<◌, refl, rules}
 use Rattle.std.proofs.lemmas.List.Sorted.{answers_always, All-permutation}
-use Rattle.lint_base.specs.declared.rule.Rule.TheVariants as rule
-use Rattle.lint_base.specs.Violations.{violation}
+use Rattle.fix_edit.specs.lint_base.declared.rule.Rule.TheVariants as rule
+use Rattle.fix_edit.specs.lint_base.Violations.{violation}
 use Rattle.squawk_linter.specs.Reports.{start_of}
 use Rattle.squawk_linter.proofs.Sorting.{by_key_from_sort}
 use Rattle.squawk_linter.proofs.answer.by_start.Goals as goal

@@ -1,6 +1,6 @@
 use Rattle.std.proofs.Common.{arith}
 use Rattle.std.proofs.Common.{◌≡◌, ap, length, rules}
-use Rattle.lint_ignore.specs.Found.{Lists, lists_of}
+use Rattle.fix_edit.specs.lint_ignore.Found.{Lists, lists_of}
 use Rattle.squawk_linter.proofs.Gathering.{gathered_none}
 use Rattle.squawk_linter.proofs.answer.gathered.Goals as goal
 

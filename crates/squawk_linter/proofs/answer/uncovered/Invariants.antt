@@ -1,9 +1,9 @@
 use Rattle.std.proofs.Common.{◌≡◌, ◌++◌, List}
 use Rattle.std.specs.Prelude.{filter}
 use Rattle.std.specs.Vec.Iter.{into_iter_items}
-use Rattle.sql_token.specs.Token.{Text}
-use Rattle.lint_ignore.specs.declared.ignore.Ignore.{Ignore}
-use Rattle.lint_ignore.specs.Index.{IsIndexOf}
+use Rattle.sql_read.specs.sql_token.Token.{Text}
+use Rattle.fix_edit.specs.lint_ignore.declared.ignore.Ignore.{Ignore}
+use Rattle.fix_edit.specs.lint_ignore.Index.{IsIndexOf}
 use Rattle.squawk_linter.specs.Reports.{is_left}
 use Rattle.squawk_linter.proofs.answer.uncovered.Given as goal
 

@@ -1,4 +1,4 @@
-use Rattle.lint_base.proofs.RuleSets.{has-with_rule_other}
+use Rattle.fix_edit.proofs.of_lint_base.RuleSets.{has-with_rule_other}
 use Rattle.squawk_linter.proofs.laws.apart.Goals as goal
 
 pub returns : goal.returns

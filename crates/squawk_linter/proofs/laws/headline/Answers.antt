@@ -1,6 +1,6 @@
 use Rattle.std.proofs.Common.{refl}
-use Rattle.lint_base.specs.RuleSets.{has, with_rule, both_rules}
-use Rattle.lint_base.specs.Rules.{number_of}
+use Rattle.fix_edit.specs.lint_base.RuleSets.{has, with_rule, both_rules}
+use Rattle.fix_edit.specs.lint_base.Rules.{number_of}
 use Rattle.squawk_linter.proofs.HeadlineLaws.{headline_in}
 use Rattle.squawk_linter.proofs.laws.headline.Goals as goal
 

@@ -1,5 +1,5 @@
 use Rattle.squawk_print.specs.Printed as spec
-use Rattle.squawk_stream.proofs.PartLaws.{part_more}
+use Rattle.devices.proofs.PartLaws.{part_more}
 use Rattle.squawk_print.proofs.Pieces.{but_more, part_but}
 use Rattle.squawk_print.proofs.write.write_one.Goals as goal
 

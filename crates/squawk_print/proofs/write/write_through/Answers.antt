@@ -1,6 +1,6 @@
 use Rattle.std.proofs.Common.{length, subst}
-use Rattle.squawk_stream.proofs.PartLaws.{part_more}
-use Rattle.squawk_stream.specs.Parts.{AppendsPart}
+use Rattle.devices.proofs.PartLaws.{part_more}
+use Rattle.devices.specs.Parts.{AppendsPart}
 use Rattle.squawk_print.specs.Written.{AppendsBut, last_line}
 use Rattle.squawk_print.proofs.Pieces.{all_after_but, but_more, part_after_but, printed_is}
 use Rattle.squawk_print.proofs.write.write_through.Goals as goal

@@ -1,4 +1,4 @@
-use Rattle.squawk_stream.proofs.PartLaws.{part_after, part_more, part_whole}
+use Rattle.squawk_print.proofs.of_devices.PartLaws.{part_after, part_more, part_whole}
 use Rattle.std.proofs.KnownBytes.{Appends-trans}
 use Rattle.squawk_print.specs.Printed.{printed}
 use Rattle.squawk_print_locks.proofs.write.write_both.Goals as goal

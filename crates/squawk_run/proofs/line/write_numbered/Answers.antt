@@ -1,8 +1,8 @@
 use Rattle.std.proofs.Common.{◌≡◌, ◌++◌, codes, decimal, subst, ◌∙◌}
 use Rattle.std.specs.Io.KnownBytes.{Appends}
 use Rattle.std.proofs.KnownBytes.{Appends-trans}
-use Rattle.squawk_stream.specs.Parts.{AppendsPart}
-use Rattle.squawk_stream.proofs.PartLaws.{part_more, part_after, part_whole}
+use Rattle.devices.specs.Parts.{AppendsPart}
+use Rattle.devices.proofs.PartLaws.{part_more, part_after, part_whole}
 use Rattle.squawk_run.proofs.line.write_numbered.Goals as goal
 
 pub returns-in_err-write_all-clause-part : goal.returns-in_err-write_all-clause-part

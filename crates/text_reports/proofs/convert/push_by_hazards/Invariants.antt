@@ -1,7 +1,7 @@
 use Rattle.std.proofs.Common.{◌≡◌, ◌++◌, map}
 use Rattle.std.specs.Vec.Iter.{into_iter_items}
 use Rattle.text_reports.specs.Reports.{by_hazard}
-use Rattle.statement_place.specs.Statements.{IsCursor}
+use Rattle.fix_class.specs.statement_place.Statements.{IsCursor}
 use Rattle.text_reports.proofs.convert.push_by_hazards.Given as goal
 
 -- what was yielded was added, and the others follow it

@@ -1,7 +1,7 @@
 use Rattle.std.proofs.Common.{◌≡◌, ◌∙◌, ◌++◌, ◌∷◌, [], List, ap, map, sym}
 use Rattle.std.proofs.lemmas.List.{append_assoc, map-append}
-use Rattle.lint_base.specs.declared.violation.Violation.{Violation}
-use Rattle.lint_report.specs.declared.report.Report.{Report}
+use Rattle.squawk_linter.specs.lint_base.declared.violation.Violation.{Violation}
+use Rattle.fix_class.specs.lint_report.declared.report.Report.{Report}
 use Rattle.text_reports.specs.Reports.{by_rule}
 use Rattle.text_reports.proofs.convert.push_by_rules.Goals as goal
 

@@ -1,9 +1,9 @@
 use Rattle.std.proofs.Common.{◌≡◌, ◌++◌, map}
 use Rattle.std.specs.Vec.Iter.{into_iter_items}
 use Rattle.fix_class.specs.Known.{AreKnown}
-use Rattle.lint_base.specs.declared.settings.LinterSettings.{LinterSettings}
+use Rattle.squawk_linter.specs.lint_base.declared.settings.LinterSettings.{LinterSettings}
 use Rattle.text_reports.specs.Reports.{by_rule}
-use Rattle.statement_place.specs.Statements.{IsCursor}
+use Rattle.fix_class.specs.statement_place.Statements.{IsCursor}
 use Rattle.text_reports.proofs.convert.push_by_rules.Given as goal
 
 -- what was yielded was added, and the others follow it

@@ -1,7 +1,7 @@
 use Rattle.std.proofs.Common.{[], None, ◌<◌, refl, rules}
 use Rattle.std.proofs.lemmas.List.Sorted.{answers_always, All-permutation}
-use Rattle.hazard_base.specs.declared.hazard.Hazard.TheVariants as hazard
-use Rattle.lint_report.specs.declared.code.Code.TheVariants as code
+use Rattle.hazard_find.specs.hazard_base.declared.hazard.Hazard.TheVariants as hazard
+use Rattle.fix_class.specs.lint_report.declared.code.Code.TheVariants as code
 use Rattle.squawk_linter.proofs.Sorting.{by_key_from_sort}
 use Rattle.text_reports.specs.Reports.{start_of}
 use Rattle.text_reports.proofs.find.by_start.Goals as goal

@@ -1,6 +1,6 @@
 use Rattle.std.proofs.Common.{◌≡◌, subst}
 use Rattle.std.specs.Str.{IsUtf8}
-use Rattle.lint_base.specs.RuleSets.{Rules}
+use Rattle.squawk_linter.specs.lint_base.RuleSets.{Rules}
 use Rattle.text_reports.proofs.Placing.{sorted_all}
 use Rattle.text_reports.specs.Reports.{with_hazards}
 use Rattle.text_reports.proofs.find.reports_of.Goals as goal

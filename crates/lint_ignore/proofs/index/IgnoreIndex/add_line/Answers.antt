@@ -1,5 +1,5 @@
 use Rattle.std.proofs.Common.{◌∙◌, ap, refl, ℕ, rules}
-use Rattle.text_pos.specs.Line.{line_of}
+use Rattle.sql_tree.specs.text_pos.Line.{line_of}
 use Rattle.lint_ignore.proofs.Cover.{line_added}
 use Rattle.lint_ignore.proofs.index.IgnoreIndex.add_line.Goals as goal
 

@@ -1,6 +1,6 @@
 use Rattle.std.proofs.Common.{◌∙◌, ap, ℕ}
 use Rattle.std.specs.List.{list_any}
-use Rattle.text_pos.specs.Line.{line_of}
+use Rattle.sql_tree.specs.text_pos.Line.{line_of}
 use Rattle.lint_ignore.specs.Covered.{covers}
 use Rattle.lint_ignore.proofs.Cover.{knows_covered}
 use Rattle.lint_ignore.proofs.index.IgnoreIndex.contains.Goals as goal

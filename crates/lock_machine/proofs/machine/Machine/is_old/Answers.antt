@@ -1,5 +1,5 @@
 use Rattle.std.proofs.Common.{◌∙◌, sym, ap, not, Option}
-use Rattle.sql_token.specs.declared.token.Span.{Span}
+use Rattle.lint_pass.specs.sql_token.declared.token.Span.{Span}
 use Rattle.lock_machine.specs.Works.{is_old}
 use Rattle.lock_machine.proofs.machine.Machine.is_old.Goals as goal
 

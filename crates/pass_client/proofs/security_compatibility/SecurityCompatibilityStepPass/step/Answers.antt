@@ -1,7 +1,7 @@
 use Rattle.std.proofs.Common.{subst, map, List, OnErr}
-use Rattle.lint_base.specs.Grown.{GrownBy}
-use Rattle.lint_transaction.specs.Transaction.{stmt_at}
-use Rattle.sql_tree.specs.declared.nodes.Stmt.{Stmt}
+use Rattle.lint_pass.specs.lint_base.Grown.{GrownBy}
+use Rattle.lint_pass.specs.lint_transaction.Transaction.{stmt_at}
+use Rattle.lint_pass.specs.sql_tree.declared.nodes.Stmt.{Stmt}
 use Rattle.lint_pass.specs.Ruled.{RuledRow, lent_ruled, ruled_on}
 use Rattle.pass_client.proofs.security_compatibility.SecurityCompatibilityStepPass.step.Goals as goal
 

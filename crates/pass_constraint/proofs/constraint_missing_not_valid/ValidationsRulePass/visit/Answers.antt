@@ -1,6 +1,6 @@
 use Rattle.std.proofs.Common.{subst}
-use Rattle.lint_base.specs.Grown.{GrownBy}
-use Rattle.lint_base.specs.GrownLaws.{at_err}
+use Rattle.lint_pass.specs.lint_base.Grown.{GrownBy}
+use Rattle.lint_pass.specs.lint_base.GrownLaws.{at_err}
 use Rattle.pass_constraint.proofs.ConstraintLaws.{validations_known, watching_next}
 use Rattle.pass_constraint.proofs.constraint_missing_not_valid.ValidationsRulePass.visit.Goals as goal
 

@@ -1,6 +1,6 @@
 use Rattle.std.proofs.Common.{◌∙◌, ap, false}
 use Rattle.std.specs.Option.{unwrap_or}
-use Rattle.lint_transaction.specs.Names.{name_at}
+use Rattle.lint_pass.specs.lint_transaction.Names.{name_at}
 use Rattle.pass_history.proofs.DropLaws.{gone_by}
 use Rattle.pass_history.proofs.dropped_constraints.DroppedConstraints.is_gone.Goals as goal
 

@@ -1,4 +1,4 @@
-use Rattle.lint_transaction.proofs.SpanLaws.{on_ok}
+use Rattle.lint_pass.proofs.of_lint_transaction.SpanLaws.{on_ok}
 use Rattle.pass_history.proofs.DropLaws.{dropping_next}
 use Rattle.pass_history.proofs.dropped_constraints.DroppedConstraints.update.Goals as goal
 

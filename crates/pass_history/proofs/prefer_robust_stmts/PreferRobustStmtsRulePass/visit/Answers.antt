@@ -1,6 +1,6 @@
 use Rattle.std.proofs.Common.{◌∙◌, sym, ap, Bool, ◌||◌, ◌&&◌, not, subst, ◌++◌}
-use Rattle.lint_node.specs.Altered.{altered_by}
-use Rattle.lint_transaction.specs.Transaction.{begins, ends, chains}
+use Rattle.lint_pass.specs.lint_node.Altered.{altered_by}
+use Rattle.lint_pass.specs.lint_transaction.Transaction.{begins, ends, chains}
 use Rattle.pass_history.specs.Dropped.{IsDropping}
 use Rattle.pass_history.specs.History.{altered_below}
 use Rattle.pass_history.proofs.RobustLaws.{robust_next}

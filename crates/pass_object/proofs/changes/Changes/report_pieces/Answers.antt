@@ -1,6 +1,6 @@
 use Rattle.std.specs.Prelude.{None, false}
 use Rattle.lint_base.specs.GrownLaws.{at_err}
-use Rattle.sql_tree.specs.declared.kinds.PieceKind.TheVariants.{NotEnforced}
+use Rattle.lint_pass.specs.sql_tree.declared.kinds.PieceKind.TheVariants.{NotEnforced}
 use Rattle.lint_pass.proofs.PartLaws.{prefix_refused_in}
 use Rattle.pass_object.specs.Changes.{at_piece, by}
 use Rattle.pass_object.proofs.changes.Changes.report_pieces.Goals as goal

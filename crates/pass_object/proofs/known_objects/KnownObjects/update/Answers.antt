@@ -1,4 +1,4 @@
-use Rattle.lint_transaction.proofs.SpanLaws.{on_ok}
+use Rattle.lint_pass.proofs.of_lint_transaction.SpanLaws.{on_ok}
 use Rattle.pass_object.proofs.ObjectLaws.{objects_next}
 use Rattle.pass_object.proofs.known_objects.KnownObjects.update.Goals as goal
 

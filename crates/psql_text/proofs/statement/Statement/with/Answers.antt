@@ -1,5 +1,5 @@
 use Rattle.std.proofs.Common.{◌+◌, false, ◌∙◌}
-use Rattle.sql_token.specs.Depth.{one_if}
+use Rattle.sql_lex.specs.sql_token.Depth.{one_if}
 use Rattle.psql_text.proofs.statement.Statement.with.Goals as goal
 
 pub returns-clause-summary : goal.returns-clause-summary

@@ -1,7 +1,0 @@
-use Rattle.std.proofs.Common.{◌≡◌, drop, map}
-use Rattle.file_store.specs.Memory.{beside}
-use Rattle.file_store.proofs.memory.bytes_of.Given as goal
-
--- the name has what it has among the files that are left
-abbrev pub invariant-loop-held : goal.invariant-loop-held
-invariant-loop-held l = beside (map (λ file. (file.0.now, file.1.now)) (drop l.held-index l.files)) l.name ≡ beside (map (λ file. (file.0.now, file.1.now)) l.files) l.name

@@ -1,4 +1,0 @@
-pub mod Contents
-pub mod Refused
-pub mod Memory
-pub mod SqlNames

@@ -1,6 +1,0 @@
-use Rattle.std.proofs.Common.{◌≡◌}
-use Rattle.lint_transaction.specs.Transaction.{is_open}
-use Rattle.gate_machine.proofs.ending.ends_in_transaction.Given as goal
-
-abbrev pub invariant-loop-i : goal.invariant-loop-i
-invariant-loop-i l = l.open ≡ is_open l.assumed l.file l.i

@@ -1,6 +1,0 @@
-use Rattle.std.proofs.Common.{◌≡◌, ◌++◌, take}
-use Rattle.gate_machine.specs.Run.{in_file}
-use Rattle.gate_verdict.proofs.judging.push_works.Given as goal
-
-abbrev pub invariant-loop-work : goal.invariant-loop-work
-invariant-loop-work l = l.to.items ≡ l.fn.to.items ++ in_file l.file (take l.work-index l.works)

@@ -1,0 +1,1 @@
+pub use Rattle.lint_base.specs as lint_base

@@ -1,0 +1,1 @@
+pub use Rattle.squawk_words.proofs as of_squawk_words

@@ -1,0 +1,1 @@
+pub use Rattle.sql_form.proofs.of_sql_mark

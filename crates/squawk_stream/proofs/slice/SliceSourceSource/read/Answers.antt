@@ -1,5 +1,0 @@
-use Rattle.std.proofs.Common.{arith}
-use Rattle.squawk_stream.proofs.slice.SliceSourceSource.read.Goals as goal
-
-pub returns-clause-count : goal.returns-clause-count
-returns-clause-count c = grind arith

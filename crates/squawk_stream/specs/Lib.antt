@@ -1,4 +1,0 @@
-pub mod Faults
-pub mod Memory
-pub mod Parts
-pub mod Reading

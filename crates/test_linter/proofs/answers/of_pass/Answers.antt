@@ -1,5 +1,0 @@
-use Rattle.squawk_linter.specs.Reports.{cleared}
-use Rattle.test_linter.proofs.answers.of_pass.Goals as goal
-
-pub lint_with-requires : goal.lint_with-requires
-lint_with-requires g c = c.placed.ensures.lie c.args.linter.now.rules (cleared c.args.p.now c.args.linter.now.settings)
