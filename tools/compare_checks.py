@@ -147,16 +147,22 @@ def refused(name, data, kind, at=0, readable=b""):
 
 def as_finding(known, one):
     """A printed report, without its fix where that is not offered."""
-    fix_class = known.class_of(one.rule, one.start) if one.title is not None else None
+    fix_class = known.class_of(one.rule, one.start, one.end) if one.title is not None else None
     title, edits = (one.title, one.edits) if fix_class else (None, ())
     return Finding("warning", one.rule, one.message, one.start, one.end, one.note, one.help, title, edits, True, fix_class)
+
+
+def major_of(words):
+    """The major version of PostgreSQL that these words of the linter name."""
+    given = [found[1] for found in re.finditer(r"--pg-major[= ](\d+)", " ".join(words))]
+    return int(given[-1]) if given else 15
 
 
 def checked(printer, words, name, data):
     """A file of these bytes, and what comes of it."""
     done = fuzz.run(printer, words, data)
     if done.status in (0, 1):
-        known = fix_classes.Known(data, "--assume-in-transaction" in words)
+        known = fix_classes.Known(data, "--assume-in-transaction" in words, major_of(words))
         reports = [as_finding(known, one) for one in fuzz.parsed(done.out)]
         return Checked(name, data, reports, done.status)
     if done.status == 3:

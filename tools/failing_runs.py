@@ -13,7 +13,11 @@ class Trial(typing.NamedTuple):
     files: dict                # the files in the folder in which it runs, in the order in which they are written
     unread: tuple = (5,)       # the statuses with which it may end where one of them can't be read
     is_talk: bool = False      # whether it answers before it has read all
+    first: bytes = b""         # what it says on the error stream before all else
 
+
+# What `lavkheto fix --unsafe --write` says first where files are named.
+NEW_ALONE = b"note: a migration that was applied must not be changed: Flyway, Liquibase, Prisma and sqlx compare checksums; fix only new ones\n"
 
 # A migration in which each rule reports something.
 EVERY_RULE = """\
@@ -144,9 +148,9 @@ PROGRAMS = {
         "check, every rule": of_input(["check", *EVERY], EVERY_RULE),
         "check, a folder": Trial(["check", "--baseline", "known", "--statistics", "."], FOLDER, (2, 5)),
         "check, a baseline": Trial(["check", "--write-baseline", "1.sql", "2.sql"], {"1.sql": INDEX, "2.sql": DJANGO}),
-        "fix, a folder": Trial(["fix", "."], {".squawk.toml": CONFIG, **THREE}, (2, 5)),
+        "fix, a folder": Trial(["fix", "--unsafe", "."], {".squawk.toml": CONFIG, **THREE}, (2, 5)),
         "fix, the input": of_input(["fix", "--write", "--unsafe"], EVERY_FIX),
-        "fix, files are written": Trial(["fix", "--write", "--unsafe", "1.sql", "2.sql", "3.sql"], THREE),
+        "fix, files are written": Trial(["fix", "--write", "--unsafe", "1.sql", "2.sql", "3.sql"], THREE, first=NEW_ALONE),
         "gate, two files are accepted": Trial(["gate", "--works", "1.sql", "2.sql"], {"1.sql": CLEAN, "2.sql": CLEAN}),
         "gate, a folder": Trial(["gate", "."], {"1.sql": CLEAN, "2.sql": DJANGO}),
         "explain, all rules": Trial(["explain"], {}),

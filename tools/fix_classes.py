@@ -67,8 +67,8 @@ def statement_around(text, start, end):
 
 
 def words(statement):
-    """Its words in capitals, and all else as it is."""
-    return [token.text.decode("utf-8").upper() if token.kind == "word" else token.text.decode("utf-8") for token in statement.tokens]
+    """Its words in capitals (of ASCII), and all else as it is."""
+    return [(token.text.upper() if token.kind == "word" else token.text).decode("utf-8") for token in statement.tokens]
 
 
 def begins(said):
@@ -88,48 +88,93 @@ def chains(said):
 
 def sets_timeout(said):
     rest = [word for word in said[1:] if word not in ("SESSION", "LOCAL")]
-    return said[0] == "SET" and rest[:1] and rest[0].strip('"').lower() in ("lock_timeout", "statement_timeout")
+    return said[0] == "SET" and rest[:1] and folded(rest[0]) in ("lock_timeout", "statement_timeout")
 
 
-LONG = {"ANALYZE", "ANALYSE", "CALL", "CLUSTER", "COPY", "DELETE", "DO", "EXECUTE", "INSERT", "MERGE", "REFRESH", "REINDEX", "REPACK", "SELECT", "UPDATE", "VACUUM", "("}
-CONSTRAINTS = {"CONSTRAINT", "CHECK", "UNIQUE", "PRIMARY", "FOREIGN", "EXCLUDE", "NOT"}
+def folded(word):
+    """A name as PostgreSQL keeps it, of a word in capitals or of a quoted name."""
+    told = word[1:-1].replace('""', '"').encode("utf-8") if word.startswith('"') else word.encode("utf-8").lower()
+    return told[:63].decode("utf-8", "ignore")
 
 
-def is_long_action(said):
-    """An ALTER with an action that may read or write all rows, or wait for other transactions."""
-    pairs = list(zip(said[2:], said[3:]))
-    long = any(one in (("DETACH", "PARTITION"), ("VALIDATE", "CONSTRAINT"), ("SET", "NOT")) or one[0] == "ADD" and one[1] in CONSTRAINTS for one in pairs)
-    columns = said[1] in ("FOREIGN", "INDEX", "MATERIALIZED", "TABLE", "VIEW") and any(one == "ALTER" and other != "CONSTRAINT" for one, other in pairs)
-    return long or columns
+def path_at(said, at):
+    """The names with dots between them that begin at a number."""
+    names = [folded(said[at])]
+    while said[at + 1:at + 2] == ["."]:
+        at += 2
+        names.append(folded(said[at]))
+    return names
 
 
-def makes_from_rows(said):
-    """CREATE TABLE AS, CREATE MATERIALIZED VIEW, and a query after WITH."""
-    return said[:3] == ["CREATE", "MATERIALIZED", "VIEW"] or said[0] == "WITH" or makes_table(said) and "AS" in said and "(" not in said[:said.index("AS")]
+OUTSIDE = {("ALTER", "DATABASE"), ("ALTER", "SYSTEM"), ("CREATE", "DATABASE"), ("CREATE", "INDEX"), ("CREATE", "TABLESPACE"), ("CREATE", "UNIQUE"),
+           ("DROP", "DATABASE"), ("DROP", "INDEX"), ("DROP", "TABLESPACE")}
 
 
-def is_long(said):
-    """A statement that may take longer than a timeout allows."""
-    index = [word for word in said[:4] if word != "UNIQUE"]
-    return index[:2] in (["CREATE", "INDEX"], ["DROP", "INDEX"]) or said[0] in LONG or said[0] == "ALTER" and is_long_action(said) or makes_from_rows(said)
+def works_outside(said):
+    """It runs outside of transactions alone, or a fix may make it so."""
+    detaches = said[0] == "ALTER" and ("DETACH", "PARTITION") in zip(said, said[1:])
+    return tuple(said[:2]) in OUTSIDE or said[0] in ("CLUSTER", "DISCARD", "REINDEX", "VACUUM") or detaches
 
 
-def attaches(said):
-    return said[0] == "ALTER" and ("ATTACH" in said or "INHERIT" in said)
+def builds_concurrently(said):
+    """CREATE INDEX CONCURRENTLY."""
+    return said[:1] == ["CREATE"] and "INDEX" in said[1:3] and said[said.index("INDEX") + 1:][:1] == ["CONCURRENTLY"]
 
 
-def makes_table(said):
-    index = [word for word in said[:5] if word not in ("TEMP", "TEMPORARY", "LOCAL", "GLOBAL", "UNLOGGED")]
-    return index[:2] == ["CREATE", "TABLE"]
+def after_table(said):
+    """The number of the word after CREATE .. TABLE; 0 where it makes no table."""
+    at = 1
+    while said[at:at + 1] and said[at] in ("TEMP", "TEMPORARY", "LOCAL", "GLOBAL", "UNLOGGED"):
+        at += 1
+    return at + 1 if said[0] == "CREATE" and said[at:at + 1] == ["TABLE"] else 0
+
+
+def is_guarded(said, at):
+    return said[at:at + 3] == ["IF", "NOT", "EXISTS"]
+
+
+def depths(said):
+    depth = 0
+    for word in said:
+        depth -= word in (")", "]")
+        yield depth
+        depth += word in ("(", "[")
+
+
+def into_at(said):
+    """The number of the name after INTO of a SELECT; 0 where there is none."""
+    found = next((at for at, (word, depth) in enumerate(zip(said, depths(said))) if word == "INTO" and depth == 0), None)
+    if said[0] not in ("SELECT", "WITH") or found is None or "INSERT" in said or "MERGE" in said:
+        return 0
+    at = found + 1
+    while said[at] in ("TEMP", "TEMPORARY", "LOCAL", "GLOBAL", "UNLOGGED", "TABLE"):
+        at += 1
+    return at
+
+
+def made_table(said):
+    """The path of the table that a statement makes."""
+    at = after_table(said)
+    if not at:
+        at = into_at(said)
+        return path_at(said, at) if at else None
+    return path_at(said, at + 3 * is_guarded(said, at))
+
+
+def indexed_table(said):
+    """The path of the table that CREATE INDEX is on."""
+    at = said.index("ON") + 1
+    return path_at(said, at + (said[at] == "ONLY"))
 
 
 class Known:
     """What is known of the statements of a text."""
 
-    def __init__(self, text, assumes):
-        self.statements = statements_of(text)
+    def __init__(self, text, assumes, major=15):
+        self.text, self.statements = text, statements_of(text)
         self.said = [words(one) for one in self.statements]
         self.inside, self.limited = [], []
+        self.major = major
         inside = assumes and b"squawk-disable-assume-in-transaction" not in text
         limited = False
         for said in self.said:
@@ -137,25 +182,39 @@ class Known:
             self.limited.append(limited)
             inside = True if begins(said) else chains(said) if ends(said) else inside
             limited = limited or bool(sets_timeout(said))
-        self.is_long = any(map(is_long, self.said))
-        self.attaches = any(map(attaches, self.said))
+        self.works_outside = any(map(works_outside, self.said))
 
-    def class_of(self, rule, start):
+    def is_no_build(self, at):
+        """A CREATE INDEX that takes no CONCURRENTLY, or that would take an invalid index for the wanted one."""
+        said, before = self.said[at], self.said[:at]
+        parted = any(made_table(one) == indexed_table(said) for one in before if "PARTITION" in one and "BY" in one)
+        return parted or "ONLY" in said or any(is_guarded(said, i) for i in range(len(said)))
+
+    def is_of_system(self, at):
+        """A REINDEX of what is PostgreSQL's own, by how the name is written."""
+        said = self.said[at]
+        end = next((at for at, word in enumerate(said) if word in ("INDEX", "TABLE", "SCHEMA", "DATABASE", "SYSTEM")), 0)
+        return said[end] == "SYSTEM" or self.statements[at].tokens[end + 1].text.startswith((b"pg_", b"PG_", b'"pg_'))
+
+    def is_not_concurrent(self, rule, at):
+        """Work on an index that is not offered CONCURRENTLY."""
+        said = self.said[at]
+        refused = {"require-concurrent-index-creation": lambda: self.is_no_build(at),
+                   "require-concurrent-index-deletion": lambda: "CASCADE" in said or "," in said,
+                   "require-concurrent-reindex": lambda: self.major < 12 or self.is_of_system(at)}
+        return self.inside[at] or self.limited[at] or refused[rule]()
+
+    def is_refused(self, rule, at):
+        """The fix always fails there, or leaves what a hazard reports."""
+        if rule in ("require-concurrent-index-creation", "require-concurrent-index-deletion", "require-concurrent-reindex"):
+            return self.is_not_concurrent(rule, at)
+        return {"require-concurrent-partition-detach": self.inside[at] or self.major < 14, "prefer-repack": self.inside[at],
+                "require-lock-timeout": self.works_outside, "require-statement-timeout": self.works_outside,
+                "prefer-robust-stmts": builds_concurrently(self.said[at]), "prefer-identity": self.major < 10}.get(rule, False)
+
+    def class_of(self, rule, start, end):
         """The class of the fix of a report that begins there; None where it is not offered."""
         at = next((number for number, one in enumerate(self.statements) if one.end > start), None)
-        if at is None:
+        if at is None or self.text[max(start - 1, 0):start] in (b":", b'"') or self.text[end:end + 1] == b'"' or self.is_refused(rule, at):
             return None
-        said, safe = self.said[at], lambda doubt: "unsafe" if doubt else "safe"
-        if rule in ("require-concurrent-partition-detach", "prefer-repack"):
-            return None if self.inside[at] else "unsafe"
-        if rule in ("require-concurrent-index-creation", "require-concurrent-index-deletion", "require-concurrent-reindex"):
-            drops = rule == "require-concurrent-index-deletion"
-            if self.inside[at] or drops and ("CASCADE" in said or "," in said):
-                return None
-            guarded = rule == "require-concurrent-index-creation" and any(said[i:i + 3] == ["IF", "NOT", "EXISTS"] for i in range(len(said)))
-            return safe(guarded or self.limited[at])
-        if rule in ("require-lock-timeout", "require-statement-timeout"):
-            return safe(self.is_long)
-        if rule in ("prefer-bigint-over-int", "prefer-bigint-over-smallint", "prefer-identity"):
-            return safe(not makes_table(said) or "INHERITS" in said or self.attaches)
         return {"identifier-too-long": "safe", "require-enum-value-ordering": "template"}.get(rule, "unsafe")

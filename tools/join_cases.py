@@ -10,8 +10,8 @@ they are of words and programs that are not built yet. The examples of README.md
 block that begins with `$ echo 'TEXT' | ./squawk WORDS` or `$ printf 'TEXT' | ./squawk WORDS` is what the program prints; so is one with
 `./lavkheto check WORDS` in that place. In docs/RULES.md there are two kinds more:
 
-- of the section of a rule or a hazard, each SQL text under *Write*: neither the rules that are on nor the rule itself report anything of
-  it; of a hazard's section, no hazard either. The script refuses the page where the SQL under *Instead of* is not the text of an example of
+- of the section of a rule or a hazard, each SQL text under *Write*, and each SQL text of what a clean answer does not see: `lavkheto check`
+  reports nothing of it, neither by the rules and hazards that are on nor by the rule itself. The script refuses the page where the SQL under *Instead of* is not the text of an example of
   the section, or where the row in the tables at the head of the page is not what the section says;
 - each statement of the table of what a clean answer does not see: no rule that is on reports it, but for those that ask for a transaction
   or for timeouts.
@@ -63,9 +63,9 @@ def examples(page):
     return lines
 
 
-def clean(page, number, program, words, sql):
-    """The lines of a case: a text of which nothing is reported."""
-    lines = [f'# what to write, of {page}'] + [f'$ {words}'] * bool(words) + sql.split('\n') + ['---', NOTHING[program], 'status 0', '']
+def clean(page, number, words, sql):
+    """The lines of a case: a text of which `lavkheto check` reports nothing."""
+    lines = [f'# what to write, of {page}', f'$ {words}'] + sql.split('\n') + ['---', NOTHING['lavkheto'], 'status 0', '']
     return [(line, page, number) for line in lines]
 
 
@@ -76,11 +76,9 @@ def row_of(program, name, head):
     return f'| [`{name}`](#{name}) | {default.lower()} |{told} {lock} |'
 
 
-def words_for(program, name, default, shown):
+def words_for(name, default, shown):
     """The words under which nothing may be reported of what a section says to write."""
-    if program == 'lavkheto':
-        return ['check']
-    return [f'--include {name}'] * (default == 'Off') + re.findall(r'--pg-major \d+', shown)
+    return ['check'] + [f'--include {name}'] * (default == 'Off') + re.findall(r'--pg-major \d+', shown)
 
 
 def written(page):
@@ -95,23 +93,25 @@ def written(page):
         program = shown[0][2]
         if row_of(program, part[1], part[0].split('\n')[2]) not in text:
             sys.exit(f'{page}: {part[1]}: its row at the head of the page is not what the section says')
-        words = words_for(program, part[1], part[2], shown[0][3])
+        words = words_for(part[1], part[2], shown[0][3])
         write, details = part[0].index('\n**Write**'), part[0].index('\n**Details**')
         for found in re.finditer(r'^```sql\n(.*?)\n```$', part[0][write:details], re.M | re.S):
             number = text.count('\n', 0, part.start() + write + found.start()) + 2
-            lines += clean(page, number, program, ' '.join(words), found[1])
+            lines += clean(page, number, ' '.join(words), found[1])
     return lines
 
 
 def unseen(page):
-    """The statements of a page's table of what a clean answer does not see, as cases."""
+    """The statements of a page's table of what a clean answer does not see, and its texts of what to write, as cases."""
     text = (TOP / page).read_text(encoding='utf-8')
     heading = '\n## What a clean answer does not see\n'
     part = text[text.index(heading):].split('\n## ')[1]
     rows = [found[1] + ' ==>' for found in re.finditer(r'^\| `([^`]*)` \|', part, re.M)]
     lines = [f'# what a clean answer does not see, of {page}', '$ rows --exclude prefer-robust-stmts,require-timeout-settings']
     number = text.count('\n', 0, text.index(heading)) + 2
-    return [(line, page, number) for line in lines + rows + ['===', 'status 0', '']]
+    rows = [(line, page, number) for line in lines + rows + ['===', 'status 0', '']]
+    texts = [clean(page, number, 'check', found[1]) for found in re.finditer(r'^```sql\n(.*?)\n```$', part, re.M | re.S)]
+    return sum(texts, rows)
 
 
 def joined():

@@ -37,7 +37,7 @@ LAYERS = [
      "devices code_choice help_words check_words fix_words shown_words refused_word nearest_code check_config config_file path_pattern "
      "file_choice sql_files gate_files"),
     ("Output", "Formats are crates `report_..`; `check_print` chooses.",
-     "source_file checked_file report_* json_value check_print gate_report text_diff fix_output rule_pages"),
+     "source_file checked_file report_* json_value check_print gate_report text_diff psql_edit fix_output rule_pages"),
     ("Commands", "A crate `.._command` for each command, over any streams and files; `lavkheto` gives them those of the system.",
      "check_run check_baseline baseline_file check_setup check_progress file_answer *_command fix_run fix_asked lavkheto"),
     ("Language server", "The protocol as a state machine, with JSON, frames and the linter around it.",
@@ -108,10 +108,10 @@ def crate_lines():
 def first_line(path):
     """The first sentence of a tool's docstring or first comment, as far as it stands on one line."""
     lines = path.read_text(encoding="utf-8").splitlines()
-    found = next((line for line in lines if re.match(r'"""|# |;; |-- ', line)), None)
+    found = next((line for line in lines if re.match(r'r?"""|# |;; |-- ', line)), None)
     if found is None:
         sys.exit(f"tools/{path.name}: it has neither a docstring nor a comment")
-    return cut(re.split(r"\.(?:\s|$)", found.strip('"#;- '), maxsplit=1)[0].rstrip(":"), LONGEST_TOOL)
+    return cut(re.split(r"\.(?:\s|$)", found.removeprefix("r").strip('"#;- '), maxsplit=1)[0].rstrip(":"), LONGEST_TOOL)
 
 
 def tool_lines():

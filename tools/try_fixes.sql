@@ -1,9 +1,16 @@
--- What `tools/try_fixes` runs with, in four parts: the base schema, the tables that the texts of cases/ speak of, what is asked of a
--- database afterwards, and the examples. A part begins with a line of the form `-- == NAME`.
+-- What `tools/try_fixes` runs with, in parts: what the migrations with long names need, the base schema, its tables with many rows, the tables that
+-- the texts of cases/ speak of, what is asked of a database afterwards, and the examples. A part begins with a line of the form `-- == NAME`.
+
+-- == names
+CREATE SCHEMA s;
+CREATE TABLE orders (id bigint PRIMARY KEY, amount int);
+INSERT INTO orders SELECT g, g FROM generate_series(1, 5) g;
+CREATE FUNCTION f_row() RETURNS trigger LANGUAGE plpgsql AS 'BEGIN RETURN NEW; END';
+CREATE FUNCTION f_event() RETURNS event_trigger LANGUAGE plpgsql AS 'BEGIN END';
 
 -- == base
+DROP TABLE orders;
 CREATE EXTENSION btree_gist;
-CREATE SCHEMA s;
 CREATE TYPE mood AS ENUM ('sad', 'ok', 'happy');
 CREATE TYPE pair AS (a int, b text);
 CREATE DOMAIN positive AS bigint CHECK (VALUE > 0);
@@ -13,7 +20,6 @@ CREATE FUNCTION f_int(int) RETURNS int LANGUAGE sql IMMUTABLE AS 'SELECT $1';
 CREATE FUNCTION f_small(smallint) RETURNS int LANGUAGE sql IMMUTABLE AS 'SELECT 1';
 CREATE FUNCTION f_both(int) RETURNS text LANGUAGE sql IMMUTABLE AS $$ SELECT 'int' $$;
 CREATE FUNCTION f_both(bigint) RETURNS text LANGUAGE sql IMMUTABLE AS $$ SELECT 'big' $$;
-CREATE FUNCTION f_row() RETURNS trigger LANGUAGE plpgsql AS 'BEGIN RETURN NEW; END';
 
 -- keys, a check, an enum, columns of each kind
 CREATE TABLE people (id bigint PRIMARY KEY, name text NOT NULL, email text UNIQUE, born date CHECK (born > '1900-01-01'), height smallint);
@@ -135,7 +141,9 @@ SELECT concat_ws('|', 'sequence', seqrelid::regclass, format_type(seqtypid, NULL
     FROM pg_sequence JOIN pg_class c ON c.oid = seqrelid WHERE relpersistence <> 't';
 SELECT concat_ws('|', 'view', c.oid::regclass, pg_get_viewdef(c.oid)) FROM pg_class c
     WHERE relnamespace :ours AND relkind IN ('v', 'm') AND relpersistence <> 't';
-SELECT concat_ws('|', 'function', oid::regprocedure, pg_get_function_result(oid), prosrc, proacl) FROM pg_proc p
+SELECT concat_ws('|', 'function', oid::regprocedure, pg_get_function_arguments(oid), pg_get_function_result(oid), prosrc, pg_get_function_sqlbody(oid), proconfig,
+        proacl)
+    FROM pg_proc p
     WHERE pronamespace :ours AND NOT EXISTS (SELECT FROM pg_depend WHERE objid = p.oid AND deptype = 'e');
 SELECT concat_ws('|', 'trigger', pg_get_triggerdef(oid), tgenabled) FROM pg_trigger WHERE NOT tgisinternal;
 SELECT concat_ws('|', 'rule', pg_get_ruledef(oid)) FROM pg_rewrite WHERE rulename <> '_RETURN' AND ev_class >= 16384;
@@ -147,15 +155,65 @@ SELECT concat_ws('|', 'type', t.oid::regtype, typtype, typnotnull, typdefault, n
 SELECT concat_ws('|', 'statistics', pg_get_statisticsobjdef(oid)) FROM pg_statistic_ext;
 SELECT concat_ws('|', 'namespace', nspname, nspacl) FROM pg_namespace WHERE nspname !~ '^pg_';
 SELECT concat_ws('|', 'extension', extname, extversion) FROM pg_extension;
+SELECT concat_ws('|', 'comment', pg_describe_object(classoid, objoid, objsubid), description) FROM pg_description WHERE objoid >= 16384;
+SELECT concat_ws('|', 'other', pg_describe_object(classid, objid, objsubid), pg_describe_object(refclassid, refobjid, refobjsubid), deptype) FROM pg_depend
+    WHERE objid >= 16384 AND classid IN (SELECT ('pg_' || name)::regclass FROM unnest(ARRAY['am', 'cast', 'collation', 'conversion', 'default_acl', 'event_trigger',
+        'foreign_data_wrapper', 'foreign_server', 'opclass', 'operator', 'opfamily', 'publication', 'publication_rel', 'ts_config', 'ts_dict']) name)
+        AND NOT EXISTS (SELECT FROM pg_depend e WHERE (e.classid, e.objid) = (pg_depend.classid, pg_depend.objid) AND e.deptype = 'e');
+SELECT concat_ws('|', 'options', srvname, srvoptions) FROM pg_foreign_server;
 SELECT format('SELECT concat_ws(''|'', ''data'', %L, count(*), md5(string_agg(x::text, E''\n'' ORDER BY x::text))) FROM ONLY %s x', oid::regclass, oid::regclass)
     FROM pg_class WHERE relkind IN ('r', 'm') AND relispopulated AND relnamespace :ours AND relpersistence <> 't' ORDER BY 1 \gexec
 SELECT format('SELECT concat_ws(''|'', ''data'', %L, last_value, is_called) FROM %s', oid::regclass, oid::regclass)
     FROM pg_class WHERE relkind = 'S' AND relnamespace :ours AND relpersistence <> 't' ORDER BY 1 \gexec
 
 -- == examples
--- Each begins with a line `-- > FAULT`: what its fix is known to do. `as a query` means that its text is sent whole, as by `psql -c`, and
--- `as a transaction` that it runs in one, as by `psql -1`. `-- next file` begins another file of the same session; each file is fixed by
--- itself. `this_database` stands for the database that it runs in.
+-- Each begins with a line `-- > FAULT`: what its unsafe fix is known to do, or `none`. A safe fix has no fault in any of them. `not offered` means that
+-- the fix which did so is offered no more. `as a query` means that its text is sent whole, as by `psql -c`, and `as a transaction` that it runs in
+-- one, as by `psql -1`. `-- next file` begins another file of the same session; each file is fixed by itself. `this_database` stands for the
+-- database that it runs in.
+
+-- > none
+CREATE TABLE n (orders_that_were_placed_by_people_who_live_in_another_country_than_ours int);
+INSERT INTO n VALUES (1);
+SELECT orders_that_were_placed_by_people_who_live_in_another_country_than_mine FROM n;
+-- > none
+CREATE TABLE "Orders that were placed by people who live in another country than ours" (a int);
+COMMENT ON TABLE "Orders that were placed by people who live in another country t" IS 'x';
+SELECT count(*) FROM pg_class WHERE oid = '"Orders that were placed by people who live in another country than ours"'::regclass;
+-- > none
+CREATE TABLE orders_that_were_placed_by_people_who_live_in_another_country_than_ours (a int);
+DO $$ BEGIN EXECUTE format('INSERT INTO %I VALUES (1)', 'orders_that_were_placed_by_people_who_live_in_another_country_than_ours'); END $$;
+CREATE FUNCTION f() RETURNS bigint LANGUAGE sql AS 'SELECT sum(a) FROM orders_that_were_placed_by_people_who_live_in_another_country_than_ours';
+SELECT f();
+-- > none
+CREATE TABLE n (orders_that_were_placed_by_people_who_live_in_another_countréé_than_ours int);
+SELECT "orders_that_were_placed_by_people_who_live_in_another_countré" FROM n;
+-- > none
+CREATE TABLE n (orders_that_were_placed_by_people_who_live_in_another_country_than_ours int);
+CREATE TABLE IF NOT EXISTS orders_that_were_placed_by_people_who_live_in_another_country_than_ours (a int);
+CREATE TABLE IF NOT EXISTS orders_that_were_placed_by_people_who_live_in_another_country_than_mine (b int);
+SELECT * FROM jsonb_to_recordset('[{"orders_that_were_placed_by_people_who_live_in_another_country_than_ours": 1}]')
+    AS x (orders_that_were_placed_by_people_who_live_in_another_country_than_ours int);
+-- > none
+\set orders_that_were_placed_by_people_who_live_in_another_country_than_ours 5
+CREATE TABLE n (orders_that_were_placed_by_people_who_live_in_another_country_than_ours text);
+COPY n (orders_that_were_placed_by_people_who_live_in_another_country_than_ours) FROM STDIN;
+orders_that_were_placed_by_people_who_live_in_another_country_than_ours
+\.
+UPDATE n SET orders_that_were_placed_by_people_who_live_in_another_country_than_ours = :orders_that_were_placed_by_people_who_live_in_another_country_than_ours;
+-- > none
+\set orders_that_were_placed_by_people_who_live_in_another_country_than_ours 5
+SELECT :{?orders_that_were_placed_by_people_who_live_in_another_country_than_ours};
+-- > none
+CREATE TABLE n ("a" int);
+SELECT "a"orders_thät_were_placed_by_people_who_live_in_another_country_than_ours FROM n;
+-- > none
+CREATE TABLE n (orders_thät_were_placed_by_people_who_live_in_another_country_than_ours int);
+CREATE TABLE m AS SELECT orders_thät_were_placed_by_people_who_live_in_another_country_than_ours"x" FROM n;
+-- > none
+CREATE TABLE n (u int, orders_thät_were_placed_by_people_who_live_in_another_country_than_ours int);
+INSERT INTO n VALUES (6, 3);
+SELECT u&orders_thät_were_placed_by_people_who_live_in_another_country_than_ours FROM n;
 
 -- > fails
 CREATE TABLE n (c int CHECK (f_int(c) > 0));
@@ -252,23 +310,23 @@ CREATE TABLE n (a int); INSERT INTO n VALUES (1); SELECT pg_typeof(a) FROM n;
 
 -- > fails
 CREATE INDEX i ON parted (id);
--- > fails
+-- > fails, not offered
 CREATE INDEX i ON ONLY logs (msg);
--- > fails
+-- > fails, not offered
 CREATE TABLE n (a bigint, at date) PARTITION BY RANGE (at); CREATE INDEX i ON n (at);
--- > fails
+-- > fails, not offered
 CREATE TABLE n (a bigint) PARTITION BY RANGE (a); CREATE INDEX i ON ONLY n (a);
 -- > fails
 DROP INDEX events_kind;
--- > fails
+-- > fails, not offered
 REINDEX TABLE pg_catalog.pg_class;
--- > fails
+-- > fails, not offered
 REINDEX TABLE pg_index;
--- > fails
+-- > fails, not offered
 REINDEX INDEX pg_catalog.pg_class_oid_index;
 -- > fails
 REINDEX INDEX bookings_room_during_excl;
--- > not rebuilt
+-- > not rebuilt, not offered
 REINDEX SCHEMA pg_catalog;
 -- > not rebuilt
 REINDEX DATABASE this_database;
@@ -282,9 +340,9 @@ REINDEX SCHEMA public;
 CREATE TABLE n (a bigint); CREATE INDEX i ON n (a);
 -- > fails, as a query
 REINDEX TABLE broken; CREATE TABLE n (a bigint);
--- > fails, as a query
+-- > fails, not offered, as a query
 ALTER SYSTEM SET work_mem = '5MB';
--- > fails, as a query
+-- > fails, not offered, as a query
 DROP DATABASE IF EXISTS no_such_database;
 -- > fails, as a transaction
 CREATE INDEX i ON orders (total);
@@ -330,5 +388,5 @@ CREATE TABLE n (id serial); CREATE TABLE n2 () INHERITS (n); INSERT INTO n2 DEFA
 CREATE TABLE n (id serial); ALTER TABLE n ALTER COLUMN id DROP DEFAULT;
 -- > fails
 CREATE TABLE n (id serial); ALTER SEQUENCE n_id_seq OWNED BY NONE;
--- > fails, unsafe
+-- > fails
 ALTER TABLE logs DETACH PARTITION logs_1;

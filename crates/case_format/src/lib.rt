@@ -15,8 +15,8 @@
 //!   text a last line feed.
 //! - Where `===` is written in place of `---`, each line of the text has its line feed, and the output is to be the text
 //!   itself.
-//! - The output is as printed, each line with its line feed, up to `status N`. What follows the number is the one line on
-//!   the error sink, as in `status 4 error: syntax at 7`.
+//! - The output is as printed, each line with its line feed, up to `status N`. What follows the number is the line on the
+//!   error sink, as in `status 4 error: syntax at 7`, or its lines with a `⏎` between them.
 //! - Between cases empty lines are skipped, and lines that begin with `//`.
 //! - `$= WORD` is one word, whatever it has. Lines of words may be several, of both forms.
 //! - A line of a text or an output that begins with `\ ` is read from there on with escapes: `\r`, `\n`, `\t`, `\\`, `\xHH`

@@ -42,14 +42,17 @@ impl Answer {
         }
     }
 
-    /// Takes the number and the line on the error sink. Used by tests only; no contract.
+    /// Takes the number and the lines on the error sink. Used by tests only; no contract.
     pub(crate) fn take_status(&mut self, status: &str) -> Result<(), Fault> {
         let (number, line) = status.split_once(' ').unwrap_or((status, ""));
         match number.parse::<u8>() {
             Ok(status) => self.status = status,
             Err(_) => return Err(Fault::Status),
         }
-        if !line.is_empty() {
+        if line.is_empty() {
+            return Ok(());
+        }
+        for line in line.split('⏎') {
             self.err.extend_from_slice(line.as_bytes())?;
             self.err.push(b'\n')?;
         }

@@ -21,8 +21,6 @@ use Rattle.fix_run.specs.fix_words.declared.asked.Asked.TheVariants.{Fix, Help, 
 use Rattle.fix_run.specs.fix_words.declared.help.TheConstants.{HELP}
 use Rattle.fix_run.specs.fix_words.declared.request.Request.{Request}
 use Rattle.config_file.specs.squawk_run.declared.stop.Stop.TheVariants.{NoMemory}
-use Rattle.config_file.specs.devices.Faults.{Rose}
-use Rattle.config_file.specs.devices.Parts.{AppendsPart}
 use Rattle.config_file.specs.squawk_words.declared.choices.Choices.{Choices}
 
 -- what comes of which text, by the rules and settings that are chosen and by whether unsafe fixes are made too
@@ -80,10 +78,6 @@ abbrev pub HasFailed : AnswersBy → Asked → Devices → Sinks → Sinks → F
 HasFailed by (Fix request) d old new failure = HasFailedFor by request d old new failure
 HasFailed by Help d old new failure = HasNotHelped old.held new.held old.faults new.faults failure × KeepsContents old.written new.written
 HasFailed by (Refused fault) d old new failure = IsLineOf fault failure × IsNothing old new
-
--- lines were said, as far as the sink took them
-abbrev pub HasSaid : List ℕ → Option (List ℕ) → Option (List ℕ) → ℕ → ℕ → Type 0
-HasSaid lines old new before now = AppendsPart old new lines × (¬ (Rose before now) → Appends old new lines)
 
 -- what the words ask for was done, and its lines were said
 pub record HasRun (by : AnswersBy) (asked : Asked) (d : Devices) (old new : Sinks) (Said : List ℕ → Type 0) (status : Status) : Type 0 where

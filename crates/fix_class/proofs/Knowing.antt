@@ -1,5 +1,5 @@
 -- What is known of one statement more.
-use Rattle.std.proofs.Common.{◌≡◌, ℕ, ◌+◌, ◌<◌, ◌∙◌, ◌&&◌, not, Bool, List, [], ◌∷◌, ◌++◌, length, get_or, sym, ap, arith, below_more, length-append}
+use Rattle.std.proofs.Common.{◌≡◌, ℕ, ℤ, ◌+◌, ◌<◌, ◌∙◌, Bool, List, [], ◌∷◌, ◌++◌, length, get_or, sym, ap, arith, below_more, length-append}
 use Rattle.std.proofs.lemmas.List.{get_or_append_left}
 use Rattle.std.proofs.Math.Seq.{get_or-append_seam}
 use Rattle.std.specs.List.{list_any}
@@ -8,14 +8,13 @@ use Rattle.lint_report.specs.lint_base.declared.settings.LinterSettings.{LinterS
 use Rattle.lint_transaction.specs.Earlier.{any_below}
 use Rattle.lint_transaction.specs.Transaction.{is_open, stmt_at}
 use Rattle.fix_class.specs.declared.known.Known.{Known}
-use Rattle.fix_class.specs.Known.{attaches, is_assumed, is_long, is_new_table, known_at, limits, nothing}
+use Rattle.fix_class.specs.Known.{indexed_by, is_assumed, is_outside_work, is_partitioned_at, known_at, limits, major_of, nothing}
 
-pub known_is : (settings : LinterSettings) (tree : Tree) (i : ℕ) (a b c d : Bool) → a ≡ is_open (is_assumed settings tree) tree i
-    → b ≡ any_below (λ j. limits tree (stmt_at tree j)) i → c ≡ list_any is_long tree.stmts
-    → d ≡ is_new_table tree (stmt_at tree i) && not (list_any (attaches tree) tree.stmts)
-    → record { is_inside = a; is_limited = b; has_long = c; has_own_types = d } ≡ known_at settings tree i
+pub known_is : (settings : LinterSettings) (tree : Tree) (i : ℕ) (a b c d : Bool) (e : ℤ) → a ≡ is_open (is_assumed settings tree) tree i
+    → b ≡ any_below (λ j. limits tree (stmt_at tree j)) i → c ≡ is_partitioned_at tree i (indexed_by (stmt_at tree i).body) → d ≡ list_any is_outside_work tree.stmts
+    → e ≡ major_of settings → record { is_inside = a; is_limited = b; is_on_partitioned = c; has_outside_work = d; major = e } ≡ known_at settings tree i
 unfolding known_at
-known_is settings tree i a b c d p q r s = λ j. record { is_inside = p j; is_limited = q j; has_long = r j; has_own_types = s j }
+known_is settings tree i a b c d e p q r s t = λ j. record { is_inside = p j; is_limited = q j; is_on_partitioned = r j; has_outside_work = s j; major = t j }
 
 pub more_count : (all : List Known) (x : Known) (new : List Known) (i : ℕ) → length all ≡ i → new ≡ all ++ x ∷ [] → length new ≡ i + 1
 more_count all x new i e is = omega (arith, ap length is, length-append all (x ∷ []), e)

@@ -1,27 +1,31 @@
--- What is known of a statement by the text around it.
-use Rattle.std.specs.Prelude.{◌≡◌, ◌<◌, ℕ, Bool, true, false, not, ◌&&◌, ◌||◌, List, length, codes, slice_index_or, Option, Some, None}
+-- What is known of a statement by the settings and by the text around it.
+use Rattle.std.specs.Prelude.{◌≡◌, ◌<◌, ℕ, ℤ, pos, Bool, true, false, not, ◌&&◌, ◌||◌, List, length, codes, slice_index_or, Option, Some, None, if◌then◌else◌}
 use Rattle.std.specs.List.{list_any}
 use Rattle.lint_ignore.specs.sql_token.declared.token.Span.{Span}
-use Rattle.lint_ignore.specs.sql_tree.declared.kinds.ActionKind.{ActionKind}
 use Rattle.lint_ignore.specs.sql_tree.declared.kinds.ActionKind.TheVariants as action
 use Rattle.lint_ignore.specs.sql_tree.declared.kinds.StmtKind.{StmtKind}
 use Rattle.lint_ignore.specs.sql_tree.declared.kinds.StmtKind.TheVariants as stmt
 use Rattle.lint_ignore.specs.sql_tree.declared.nodes.Body.{Body}
 use Rattle.lint_ignore.specs.sql_tree.declared.nodes.Body.TheVariants as body
 use Rattle.lint_ignore.specs.sql_tree.declared.nodes.Stmt.{Stmt}
+use Rattle.lint_ignore.specs.sql_tree.Path.{path_cuts}
 use Rattle.lint_ignore.specs.sql_tree.Statement.{Tree}
 use Rattle.lint_report.specs.lint_base.declared.settings.LinterSettings.{LinterSettings}
 use Rattle.lint_ignore.specs.Comment.{has_disable_comment}
-use Rattle.lint_node.specs.Same.{same_kind}
+use Rattle.lint_node.specs.Parts.{has_action}
 use Rattle.lint_transaction.specs.Earlier.{any_below}
 use Rattle.lint_transaction.specs.Names.{is_one_name}
-use Rattle.lint_transaction.specs.Transaction.{is_open, stmt_at}
+use Rattle.lint_transaction.specs.Transaction.{created, is_open, is_path, stmt_at}
 use Rattle.fix_class.specs.declared.known.Known.{Known}
 use Rattle.fix_class.specs.Words.{says}
 
 -- A transaction is open before the first statement: the settings assume one, and no comment of the text says otherwise.
 abbrev pub is_assumed : LinterSettings → Tree → Bool
 is_assumed settings tree = settings.assume_in_transaction && not (has_disable_comment tree)
+
+-- the major version of PostgreSQL
+abbrev pub major_of : LinterSettings → ℤ
+major_of settings = slice_index_or settings.pg_version 0 (pos 0)
 
 -- ---- timeouts
 
@@ -37,68 +41,53 @@ parameter_by _ = None
 unfoldable pub limits : Tree → Stmt → Bool
 limits tree s = is_timeout tree (parameter_by s.body)
 
--- ---- what may take longer than a timeout allows
+-- ---- work outside of transactions
 
--- it may read or write all rows of a table, or wait for other transactions
-unfoldable pub is_long_action : ActionKind → Bool
-is_long_action action.AddConstraint = true
-is_long_action action.AlterColumn = true
-is_long_action action.DetachPartition = true
-is_long_action action.SetNotNull = true
-is_long_action action.ValidateConstraint = true
-is_long_action _ = false
+unfoldable pub is_outside_kind : StmtKind → Bool
+is_outside_kind stmt.AlterDatabase = true
+is_outside_kind stmt.AlterSystem = true
+is_outside_kind stmt.Cluster = true
+is_outside_kind stmt.CreateDatabase = true
+is_outside_kind stmt.CreateTablespace = true
+is_outside_kind stmt.Discard = true
+is_outside_kind stmt.DropDatabase = true
+is_outside_kind stmt.DropIndex = true
+is_outside_kind stmt.DropTablespace = true
+is_outside_kind stmt.Vacuum = true
+is_outside_kind _ = false
 
--- the same of a statement, or it runs what is not in the text
-unfoldable pub is_long_kind : StmtKind → Bool
-is_long_kind stmt.Analyze = true
-is_long_kind stmt.Call = true
-is_long_kind stmt.Cluster = true
-is_long_kind stmt.Copy = true
-is_long_kind stmt.CreateMaterializedView = true
-is_long_kind stmt.CreateTableAs = true
-is_long_kind stmt.Delete = true
-is_long_kind stmt.Do = true
-is_long_kind stmt.Execute = true
-is_long_kind stmt.Insert = true
-is_long_kind stmt.Merge = true
-is_long_kind stmt.ParenSelect = true
-is_long_kind stmt.Refresh = true
-is_long_kind stmt.Repack = true
-is_long_kind stmt.Select = true
-is_long_kind stmt.SelectInto = true
-is_long_kind stmt.Update = true
-is_long_kind stmt.Vacuum = true
-is_long_kind _ = false
+abbrev pub is_outside_by : StmtKind → Body → Bool
+is_outside_by kind (body.Index word unique concurrently guarded name path) = true
+is_outside_by kind (body.Reindex target word concurrent valued path) = true
+is_outside_by kind (body.Alter path actions) = is_outside_kind kind || has_action action.DetachPartition actions
+is_outside_by kind _ = is_outside_kind kind
 
--- An index that is built, dropped or rebuilt is concurrent, or a fix may make it so, and a timeout breaks it off half done.
-abbrev pub is_long_by : StmtKind → Body → Bool
-is_long_by kind (body.Index word unique concurrently guarded name path) = true
-is_long_by kind (body.Drop word concurrently guarded paths) = same_kind kind stmt.DropIndex
-is_long_by kind (body.Reindex target word concurrent valued path) = true
-is_long_by kind (body.Alter path actions) = list_any (λ a. is_long_action a.kind) actions
-is_long_by kind _ = is_long_kind kind
+-- The statement may be one that runs outside of transactions alone, or a fix may make it one: it works on an index, detaches a partition, or is about
+-- a database, a tablespace, the system or rows that are gone.
+abbrev pub is_outside_work : Stmt → Bool
+is_outside_work s = is_outside_by s.kind s.body
 
--- the statement may take longer than a timeout allows
-unfoldable pub is_long : Stmt → Bool
-is_long s = is_long_by s.kind s.body
+-- ---- partitioned tables
 
--- ---- the types of columns
+abbrev pub path_if : Bool → Option Span → Option Span
+path_if is None = None
+path_if is (Some path) = if is then Some path else None
 
-abbrev pub is_table_by : Body → Bool
-is_table_by (body.Table temp guarded on_commit_drop word path elems) = true
-is_table_by _ = false
+-- the path of the table that the statement makes with PARTITION BY
+unfoldable pub partitioned_table : Tree → Stmt → Option Span
+partitioned_table tree s = path_if (says tree (codes "partition") s && says tree (codes "by") s) (created s)
 
--- The statement makes a table whose columns are its own: those of a child of another table must have the types of the parent's.
-abbrev pub is_new_table : Tree → Stmt → Bool
-is_new_table tree s = is_table_by s.body && not (says tree (codes "inherits") s)
+-- an earlier statement makes the partitioned table of this path
+abbrev pub is_partitioned : Tree → List (List ℕ) → ℕ → Bool
+is_partitioned tree path i = any_below (λ j. is_path tree (partitioned_table tree (stmt_at tree j)) path) i
 
-abbrev pub is_alter_by : Body → Bool
-is_alter_by (body.Alter path actions) = true
-is_alter_by _ = false
+abbrev pub indexed_by : Body → Option Span
+indexed_by (body.Index word unique concurrently guarded name path) = Some path
+indexed_by _ = None
 
--- The statement may make a table the partition or the child of another one. PostgreSQL then compares the types of their columns.
-abbrev pub attaches : Tree → Stmt → Bool
-attaches tree s = is_alter_by s.body && (says tree (codes "attach") s || says tree (codes "inherit") s)
+abbrev pub is_partitioned_at : Tree → ℕ → Option Span → Bool
+is_partitioned_at tree i None = false
+is_partitioned_at tree i (Some path) = is_partitioned tree (path_cuts tree.text tree.toks path) i
 
 -- ---- all of it
 
@@ -107,12 +96,13 @@ unfoldable pub known_at : LinterSettings → Tree → ℕ → Known
 known_at settings tree i = record {
   is_inside = is_open (is_assumed settings tree) tree i;
   is_limited = any_below (λ j. limits tree (stmt_at tree j)) i;
-  has_long = list_any is_long tree.stmts;
-  has_own_types = is_new_table tree (stmt_at tree i) && not (list_any (attaches tree) tree.stmts);
+  is_on_partitioned = is_partitioned_at tree i (indexed_by (stmt_at tree i).body);
+  has_outside_work = list_any is_outside_work tree.stmts;
+  major = major_of settings;
 }
 
 abbrev pub nothing : Known
-nothing = record { is_inside = false; is_limited = false; has_long = false; has_own_types = false }
+nothing = record { is_inside = false; is_limited = false; is_on_partitioned = false; has_outside_work = false; major = pos 0 }
 
 -- this is known of the statements, one by one
 pub record AreKnown (settings : LinterSettings) (tree : Tree) (known : List Known) : Type 0 where

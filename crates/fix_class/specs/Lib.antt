@@ -1,6 +1,8 @@
 pub mod Words
 pub mod Known
+pub mod Partitioned
 pub mod Classes
+pub mod Laws
 pub use Rattle.lint_report.specs as lint_report
 pub use Rattle.lint_ignore.specs.sql_token
 pub use Rattle.lint_ignore.specs.sql_tree

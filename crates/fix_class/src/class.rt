@@ -1,35 +1,35 @@
 //! The classes.
-ghost use Rattle.std.specs.Prelude.{◌≡◌, IfOk};
+ghost use Rattle.std.specs.Prelude.{◌≡◌, IfOk, option_map};
 ghost use Rattle.lint_report.specs.lint_base.declared.settings.LinterSettings.{LinterSettings};
 ghost use Rattle.fix_class.specs.Classes as spec;
 ghost use Rattle.fix_class.specs.Known.{AreKnown};
 ghost use Rattle.statement_place.specs.Statements.{number_behind};
 
 use crate::known::{Known, each_known};
-use crate::word::says;
-use lint_ignore::{Body, Parse, Stmt};
-use lint_report::{FixClass, LinterSettings, NoMemory, Rule, Violation};
+use crate::word::{says, text_at};
+use lint_ignore::{Body, Parse, ReindexTarget, Span, Stmt};
+use lint_report::{FixClass, LinterSettings, NoMemory, Rule, TextRange, TextSize, Violation};
 use std::alloc::Global;
 use std::marker::Model;
 
-fn safe_unless(doubt: bool) -> FixClass
-    ensures { result ≡ spec.safe_unless doubt }
+// The first versions that have REINDEX CONCURRENTLY, DETACH PARTITION CONCURRENTLY, and identity columns.
+const REINDEX_VERSION: i32 = 12;
+
+const DETACH_VERSION: i32 = 14;
+
+const IDENTITY_VERSION: i32 = 10;
+
+fn class_unless(refused: bool, class: FixClass) -> Option<FixClass>
+    ensures { result ≡ spec.class_unless refused class }
 {
-    if doubt {
-        FixClass::Unsafe
-    } else {
-        FixClass::Safe
-    }
+    if refused { None } else { Some(class) }
 }
 
-// The class of a fix that puts CONCURRENTLY into a statement.
-fn concurrent(known: Known, doubt: bool) -> Option<FixClass>
-    ensures { result ≡ spec.concurrent known doubt }
+// Whether nothing is to be done CONCURRENTLY at a statement.
+fn is_out_of_place(known: Known) -> bool
+    ensures { result ≡ spec.is_out_of_place known }
 {
-    if known.is_inside {
-        return None;
-    }
-    Some(safe_unless(doubt || known.is_limited))
+    known.is_inside || known.is_limited
 }
 
 // Whether the index is built unless it is there.
@@ -42,6 +42,13 @@ fn is_guarded(s: &Stmt) -> bool
     }
 }
 
+// Whether the index is not to be built CONCURRENTLY.
+fn is_no_build(known: Known, p: &Parse<'_>, s: &Stmt) -> bool
+    ensures { result ≡ spec.is_no_build known p.now s.now }
+{
+    is_out_of_place(known) || is_guarded(s) || known.is_on_partitioned || says(p, "only", s)
+}
+
 // Whether more than one index is dropped.
 fn drops_many(s: &Stmt) -> bool
     ensures { result ≡ spec.drops_many_by s.now.body }
@@ -52,10 +59,64 @@ fn drops_many(s: &Stmt) -> bool
     }
 }
 
-fn is_too_much(p: &Parse<'_>, s: &Stmt) -> bool
-    ensures { result ≡ spec.is_too_much p.now s.now }
+// Whether an index is not to be dropped CONCURRENTLY.
+fn is_no_drop(known: Known, p: &Parse<'_>, s: &Stmt) -> bool
+    ensures { result ≡ spec.is_no_drop known p.now s.now }
 {
-    drops_many(s) || says(p, "cascade", s)
+    is_out_of_place(known) || drops_many(s) || says(p, "cascade", s)
+}
+
+// Whether a name is one of PostgreSQL itself.
+#[tactic(auto, unfolding(crate::specs::Classes::is_own_name))]
+fn is_own_name(text: &str) -> bool
+    ensures { result ≡ spec.is_own_name text.now }
+{
+    text.starts_with("pg_") || text.starts_with("PG_") || text.starts_with("\"pg_")
+}
+
+fn is_own_path(p: &Parse<'_>, path: Option<Span>) -> bool
+    ensures { result ≡ spec.is_own_path p.now path }
+{
+    match path {
+        Some(path) => is_own_name(text_at(p, path.first)),
+        None => false,
+    }
+}
+
+// Whether system catalogs are rebuilt.
+fn is_of_system(p: &Parse<'_>, s: &Stmt) -> bool
+    ensures { result ≡ spec.is_of_system_by p.now s.now.body }
+{
+    match s.body {
+        Body::Reindex { target, path, .. } => {
+            matches!(target, ReindexTarget::System) || is_own_path(p, path)
+        }
+        _ => false,
+    }
+}
+
+// Whether an index is not to be rebuilt CONCURRENTLY.
+fn is_no_rebuild(known: Known, p: &Parse<'_>, s: &Stmt) -> bool
+    ensures { result ≡ spec.is_no_rebuild known p.now s.now }
+{
+    is_out_of_place(known) || known.major < REINDEX_VERSION || is_of_system(p, s)
+}
+
+// Whether a partition is not to be detached CONCURRENTLY.
+fn is_no_detach(known: Known) -> bool
+    ensures { result ≡ spec.is_no_detach known }
+{
+    known.is_inside || known.major < DETACH_VERSION
+}
+
+// Whether an index is built CONCURRENTLY.
+fn is_concurrent_build(s: &Stmt) -> bool
+    ensures { result ≡ spec.is_concurrent_build_by s.now.body }
+{
+    match s.body {
+        Body::Index { concurrently, .. } => concurrently.is_some(),
+        _ => false,
+    }
 }
 
 // The class of a fix of a rule in a statement.
@@ -64,22 +125,25 @@ fn class_by(rule: Rule, known: Known, p: &Parse<'_>, s: &Stmt) -> Option<FixClas
     ensures { result ≡ spec.class_by rule known p.now s.now }
 {
     match rule {
-        Rule::RequireConcurrentIndexCreation => concurrent(known, is_guarded(s)),
-        Rule::RequireConcurrentIndexDeletion => {
-            if is_too_much(p, s) {
-                return None;
-            }
-            concurrent(known, false)
-        }
-        Rule::RequireConcurrentReindex => concurrent(known, false),
-        Rule::RequireConcurrentPartitionDetach | Rule::PreferRepack => concurrent(known, true),
-        Rule::RequireLockTimeout | Rule::RequireStatementTimeout => {
-            Some(safe_unless(known.has_long))
-        }
-        Rule::PreferBigintOverInt | Rule::PreferBigintOverSmallint | Rule::PreferIdentity => {
-            Some(safe_unless(!known.has_own_types))
-        }
         Rule::IdentifierTooLong => Some(FixClass::Safe),
+        Rule::RequireConcurrentIndexCreation => {
+            class_unless(is_no_build(known, p, s), FixClass::Unsafe)
+        }
+        Rule::RequireConcurrentIndexDeletion => {
+            class_unless(is_no_drop(known, p, s), FixClass::Unsafe)
+        }
+        Rule::RequireConcurrentReindex => {
+            class_unless(is_no_rebuild(known, p, s), FixClass::Unsafe)
+        }
+        Rule::RequireConcurrentPartitionDetach => {
+            class_unless(is_no_detach(known), FixClass::Unsafe)
+        }
+        Rule::PreferRepack => class_unless(known.is_inside, FixClass::Unsafe),
+        Rule::RequireLockTimeout | Rule::RequireStatementTimeout => {
+            class_unless(known.has_outside_work, FixClass::Unsafe)
+        }
+        Rule::PreferRobustStmts => class_unless(is_concurrent_build(s), FixClass::Unsafe),
+        Rule::PreferIdentity => class_unless(known.major < IDENTITY_VERSION, FixClass::Unsafe),
         Rule::RequireEnumValueOrdering => Some(FixClass::Template),
         _ => Some(FixClass::Unsafe),
     }
@@ -98,6 +162,32 @@ impl Model for FixClasses {
     ghost Value = { List Known };
 
     ghost view = { λ c. c.known.items };
+}
+
+fn is_byte(byte: u8, found: Option<&u8>) -> bool
+    ensures { result ≡ spec.is_byte byte (option_map (λ b. b.now) found.entry) }
+{
+    match found {
+        Some(b) => *b == byte,
+        None => false,
+    }
+}
+
+// Whether a colon or a double quote is right before a byte.
+fn is_behind_mark(text: &str, start: TextSize) -> bool
+    ensures { result ≡ spec.is_behind_mark text.now start }
+{
+    let start = start.raw() as usize;
+    let bytes = text.as_bytes();
+    start > 0 && (is_byte(b':', bytes.get(start - 1)) || is_byte(b'"', bytes.get(start - 1)))
+}
+
+// Whether such a mark is right before a range, or a double quote right behind it.
+fn is_glued(text: &str, range: TextRange) -> bool
+    ensures { result ≡ spec.is_glued text.now range }
+{
+    is_behind_mark(text, range.start())
+        || is_byte(b'"', text.as_bytes().get(range.end().raw() as usize))
 }
 
 impl FixClasses {
@@ -126,13 +216,16 @@ impl FixClasses {
         None
     }
 
-    /// The class of the fix of a report, whose statement has this number, from 0 on; `None` where the fix always fails where it is made, so
-    /// that it is not offered. It does not ask whether the report has a fix.
+    /// The class of the fix of a report, whose statement has this number, from 0 on; `None` where the fix is not offered: it would fail where it is
+    /// made, or leave what a hazard reports. It does not ask whether the report has a fix.
     #[tactic(auto, unfolding(crate::specs::Classes::class_of))]
     pub fn class_of(&self, p: &Parse<'_>, v: &Violation, number: usize) -> Option<FixClass>
         requires { number ≡ number_behind p.now v.now.text_range.start }
         ensures { (settings : LinterSettings) → AreKnown settings p.now self.now → result ≡ spec.class_of settings p.now v.now }
     {
+        if is_glued(p.text(), v.text_range) {
+            return None;
+        }
         self.class_at(p, v.code, number)
     }
 }

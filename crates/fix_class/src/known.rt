@@ -1,37 +1,45 @@
-//! What is known of a statement by the text around it.
-ghost use Rattle.std.specs.Prelude.{◌≡◌, ◌+◌, ◌&&◌, Bool, IfOk, not};
+//! What is known of a statement by the settings and by the text around it.
+ghost use Rattle.std.specs.Prelude.{◌≡◌, ◌+◌, Bool, IfOk};
 ghost use Rattle.std.specs.List.{list_any};
 ghost use Rattle.lint_transaction.specs.Earlier.{any_below};
 ghost use Rattle.lint_transaction.specs.Transaction.{is_open, stmt_at};
 ghost use Rattle.fix_class.specs.Known as spec;
 ghost use Rattle.fix_class.specs.Known.{AreKnown};
 
-use crate::word::says;
+use crate::partitioned::{is_on_partitioned, keep};
 use lint_ignore::{
-    Action, ActionKind, Body, Parse, Span, Stmt, StmtKind, has_disable_assume_in_transaction,
+    ActionKind, Body, Parse, Span, Stmt, StmtKind, has_disable_assume_in_transaction,
 };
-use lint_node::same_kind;
+use lint_node::has_action;
 use lint_report::{LinterSettings, NoMemory};
-use lint_transaction::{OpenTransaction, is_one_name};
+use lint_transaction::{OpenTransaction, SpanKey, SpanSet, is_one_name};
 use std::alloc::Global;
 
-/// What is known of a statement by the text around it.
+/// What is known of a statement by the settings and by the text around it.
 #[derive(Clone, Copy, Debug, PartialEq, Eq)]
 pub struct Known {
     /// A transaction is open before it.
     pub is_inside: bool,
     /// An earlier statement of the text sets a timeout.
     pub is_limited: bool,
-    /// The text has a statement that may take longer than a timeout allows.
-    pub has_long: bool,
-    /// It makes a table, and the types of its columns depend on no other table.
-    pub has_own_types: bool,
+    /// It builds an index on a partitioned table that the text makes.
+    pub is_on_partitioned: bool,
+    /// The text has work that runs outside of transactions alone, or that a fix may make so.
+    pub has_outside_work: bool,
+    /// The major version of PostgreSQL.
+    pub major: i32,
 }
 
 fn is_assumed(p: &Parse<'_>, settings: &LinterSettings) -> bool
     ensures { result ≡ spec.is_assumed settings.now p.now }
 {
     settings.assume_in_transaction && !has_disable_assume_in_transaction(p)
+}
+
+fn major_of(settings: &LinterSettings) -> i32
+    ensures { result ≡ spec.major_of settings.now }
+{
+    settings.pg_version[0]
 }
 
 fn is_timeout(p: &Parse<'_>, path: Option<Span>) -> bool
@@ -63,100 +71,42 @@ fn limits(p: &Parse<'_>, s: &Stmt) -> bool
     is_timeout(p, parameter(s))
 }
 
-// Whether an action may read or write all rows of a table, or wait for other transactions.
-#[tactic(auto, unfolding(crate::specs::Known::is_long_action))]
-fn is_long_action(kind: ActionKind) -> bool
-    ensures { result ≡ spec.is_long_action kind }
+#[tactic(auto, unfolding(crate::specs::Known::is_outside_kind))]
+fn is_outside_kind(kind: StmtKind) -> bool
+    ensures { result ≡ spec.is_outside_kind kind }
 {
     matches!(
         kind,
-        ActionKind::AddConstraint
-            | ActionKind::AlterColumn
-            | ActionKind::DetachPartition
-            | ActionKind::SetNotNull
-            | ActionKind::ValidateConstraint
-    )
-}
-
-// The same of a statement of this kind.
-#[tactic(auto, unfolding(crate::specs::Known::is_long_kind))]
-fn is_long_kind(kind: StmtKind) -> bool
-    ensures { result ≡ spec.is_long_kind kind }
-{
-    matches!(
-        kind,
-        StmtKind::Analyze
-            | StmtKind::Call
+        StmtKind::AlterDatabase
+            | StmtKind::AlterSystem
             | StmtKind::Cluster
-            | StmtKind::Copy
-            | StmtKind::CreateMaterializedView
-            | StmtKind::CreateTableAs
-            | StmtKind::Delete
-            | StmtKind::Do
-            | StmtKind::Execute
-            | StmtKind::Insert
-            | StmtKind::Merge
-            | StmtKind::ParenSelect
-            | StmtKind::Refresh
-            | StmtKind::Repack
-            | StmtKind::Select
-            | StmtKind::SelectInto
-            | StmtKind::Update
+            | StmtKind::CreateDatabase
+            | StmtKind::CreateTablespace
+            | StmtKind::Discard
+            | StmtKind::DropDatabase
+            | StmtKind::DropIndex
+            | StmtKind::DropTablespace
             | StmtKind::Vacuum
     )
 }
 
-fn has_long_action(actions: &[Action]) -> bool
-    ensures { result ≡ list_any (λ a. spec.is_long_action a.kind) actions.now }
-{
-    actions.iter().any(|a| is_long_action(a.kind))
-}
-
-// Whether a statement may take longer than a timeout allows.
-#[tactic(auto, unfolding(crate::specs::Known::is_long))]
-fn is_long(s: &Stmt) -> bool
-    ensures { result ≡ spec.is_long s.now }
+// Whether a statement runs outside of transactions alone, or a fix may make it so.
+fn is_outside_work(s: &Stmt) -> bool
+    ensures { result ≡ spec.is_outside_work s.now }
 {
     match &s.body {
         Body::Index { .. } | Body::Reindex { .. } => true,
-        Body::Drop { .. } => same_kind(s.kind, StmtKind::DropIndex),
-        Body::Alter { actions, .. } => has_long_action(actions.as_slice()),
-        _ => is_long_kind(s.kind),
+        Body::Alter { actions, .. } => {
+            is_outside_kind(s.kind) || has_action(ActionKind::DetachPartition, actions.as_slice())
+        }
+        _ => is_outside_kind(s.kind),
     }
 }
 
-fn has_long(p: &Parse<'_>) -> bool
-    ensures { result ≡ list_any spec.is_long p.now.stmts }
+fn has_outside_work(p: &Parse<'_>) -> bool
+    ensures { result ≡ list_any spec.is_outside_work p.now.stmts }
 {
-    p.tree().stmts.as_slice().iter().any(|s| is_long(s))
-}
-
-// Whether a statement makes a table whose columns are its own.
-fn is_new_table(p: &Parse<'_>, s: &Stmt) -> bool
-    ensures { result ≡ spec.is_new_table p.now s.now }
-{
-    matches!(s.body, Body::Table { .. }) && !says(p, "inherits", s)
-}
-
-// Whether a statement may make a table the partition or the child of another one.
-fn attaches(p: &Parse<'_>, s: &Stmt) -> bool
-    ensures { result ≡ spec.attaches p.now s.now }
-{
-    matches!(s.body, Body::Alter { .. }) && (says(p, "attach", s) || says(p, "inherit", s))
-}
-
-fn any_attaches(p: &Parse<'_>) -> bool
-    ensures { result ≡ list_any (spec.attaches p.now) p.now.stmts }
-{
-    p.tree().stmts.as_slice().iter().any(|s| attaches(p, s))
-}
-
-// Whether statement `i` makes a table, and the types of its columns depend on no other table.
-fn has_own_types(p: &Parse<'_>, any_attaches: bool, s: &Stmt, i: usize) -> bool
-    requires { s.now ≡ stmt_at p.now i }
-    ensures { result ≡ (spec.is_new_table p.now (stmt_at p.now i) && not any_attaches) }
-{
-    is_new_table(p, s) && !any_attaches
+    p.tree().stmts.as_slice().iter().any(|s| is_outside_work(s))
 }
 
 // Goes past statement `i`: whether one up to it sets a timeout.
@@ -184,20 +134,23 @@ pub(crate) fn each_known(
 ) -> Result<Vec<Known>, NoMemory>
     ensures { IfOk result (λ all. AreKnown settings.now p.now all.items) }
 {
-    let has_long = has_long(p);
-    let any_attaches = any_attaches(p);
+    let has_outside_work = has_outside_work(p);
+    let major = major_of(settings);
     let stmts = p.tree().stmts.as_slice();
     let mut transaction = OpenTransaction::new(is_assumed(p, settings));
     let mut is_limited = false;
+    let mut partitioned = SpanSet::new(alloc, SpanKey::Path);
     let mut all = Vec::new(alloc);
     for i in 0..stmts.len() {
         all.push(Known {
             is_inside: transaction.inside(),
             is_limited,
-            has_long,
-            has_own_types: has_own_types(p, any_attaches, &stmts[i], i),
+            is_on_partitioned: is_on_partitioned(&partitioned, p, &stmts[i], i),
+            has_outside_work,
+            major,
         })?;
         is_limited = step(&mut transaction, is_limited, p, &stmts[i], i);
+        keep(&mut partitioned, p, &stmts[i], i)?;
     }
     Ok(all)
 }

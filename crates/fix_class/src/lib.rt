@@ -6,6 +6,8 @@
 
 mod class;
 mod known;
+pub mod laws;
+mod partitioned;
 mod word;
 
 pub use class::FixClasses;

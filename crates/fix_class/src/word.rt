@@ -1,5 +1,7 @@
 //! Words of a statement that its tree does not keep.
 ghost use Rattle.std.specs.Prelude.{◌≡◌, ◌<◌, length};
+ghost use Rattle.lint_ignore.specs.sql_token.Token.{text_of};
+ghost use Rattle.lint_ignore.specs.sql_tree.Range.{token_at};
 ghost use Rattle.fix_class.specs.Words as spec;
 
 use lint_ignore::{Parse, Stmt, TokKind};
@@ -23,6 +25,18 @@ fn is_word_at(p: &Parse<'_>, word: &str, i: usize) -> bool
     ensures { result ≡ spec.is_word_at p.now word.now i }
 {
     is_word_by(p.tokens()[i].kind, p.token_text(i), word)
+}
+
+/// The text of the token of this number, which is empty past the last one.
+pub(crate) fn text_at<'t>(p: &Parse<'t>, number: u32) -> &'t str
+    ensures { result.now ≡ text_of p.now.text (token_at p.now.toks number) }
+{
+    let i = number as usize;
+    if i < p.tokens().len() {
+        p.token_text(i)
+    } else {
+        ""
+    }
 }
 
 // The number after the last token of a statement.

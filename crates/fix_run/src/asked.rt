@@ -17,7 +17,7 @@ use std::alloc::Global;
 const NAME: &str = "stdin";
 
 /// Whether the input is to be fixed, and no file: where no file is named, or `-` alone.
-pub(crate) fn reads_input(files: &Words) -> bool
+pub fn reads_input(files: &Words) -> bool
     ensures { result ≡ reads_input files.now }
 {
     match files.len() {

@@ -14,6 +14,7 @@ mod run;
 mod status;
 mod stop;
 
+pub use asked::reads_input;
 pub use fixer::{Fixer, TextOutcome};
 pub use run::{Done, fix};
 pub use stop::FixStop;

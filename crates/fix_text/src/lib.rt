@@ -13,5 +13,6 @@ mod others;
 pub use fixed::{Fixed, fix_text};
 
 // What crates above reach through this one.
-pub use law_next_fix::{LintError, Linter};
-pub use other_fix::{LinterSettings, Names, Text};
+pub use fix_class::laws::classes_tell;
+pub use law_next_fix::{LintError, Linter, sql_read_parse as parse};
+pub use other_fix::{LinterSettings, Names, OtherFix, Text};

@@ -8,7 +8,8 @@ Usage: lavkheto fix [OPTIONS] [FILES]..
 
 FILES are files, and folders for all *.sql files in them, in order of their names. Without FILES, or with - alone, standard input is fixed.
 A fix is safe, unsafe or a template (docs/RULES.md has the class of each). The safe ones are made. A template has a part that is to be
-filled in and is never made; lavkheto check shows it.
+filled in and is never made; lavkheto check shows it. Beside a command of psql, a line that begins with a backslash, no fix is safe.
+Fix only new migrations: one that was applied must not be changed, since Flyway, Liquibase, Prisma and sqlx compare checksums.
 
   --write                  write the files in place of printing a diff; what is made of standard input goes to standard output
   --unsafe                 make the unsafe fixes too, which may fail or change what the text means: look at each of them

@@ -30,7 +30,7 @@ pub struct Blanked {
 }
 
 /// Makes these bytes blank: white space stays, ends of lines among it.
-fn blank_out(text: &mut Vec<u8>, from: usize, to: usize)
+pub fn blank_out(text: &mut Vec<u8>, from: usize, to: usize)
     requires { (from ≤ to) × (to ≤ vec_len text.old) }
     ensures { text.new.items ≡ spec.blanked from to text.old.items }
 {

@@ -10,4 +10,9 @@ mod part;
 mod reading;
 mod statement;
 
-pub use blank::{Blanked, without_psql};
+pub use blank::{Blanked, blank_out, without_psql};
+pub use part::{Part, PartKind};
+pub use reading::{Found, Reading, next_part, start};
+
+// What crates above reach through this one.
+pub use sql_lex::NoMemory;

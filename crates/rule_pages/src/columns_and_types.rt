@@ -34,8 +34,12 @@ Write a new column beside the old one, which a trigger keeps equal. First:
     -- the old rows, some thousands at a time, each time in a transaction of its own
     UPDATE t SET a_new = a WHERE id BETWEEN 1 AND 10000 AND a_new IS DISTINCT FROM a;
 
-Then what else the old column has, each in its safe way: indexes, `NOT NULL`,
-keys, defaults. At last, in one short transaction:
+In this file the transaction and the batches are apart: let no tool put one
+transaction around both. Then what else the old column has, each in its safe
+way: indexes, `NOT NULL`, keys, defaults. A foreign key that refers to the
+column, and a view that names it, or a function with a body in `BEGIN ATOMIC`,
+refuse the drop: replace them first, each by one of the new column. At last, in
+one short transaction:
 
     BEGIN;
     SET LOCAL lock_timeout = '1s';
@@ -49,8 +53,43 @@ keys, defaults. At last, in one short transaction:
     ALTER TABLE t RENAME COLUMN a_new TO a;
     COMMIT;
 
+A serial key has a sequence that goes with the column, and that is an `integer`
+itself: it ends at 2147483647, whatever the column is by then. So the last
+transaction is another one. Before it `id_new` is filled and kept equal as
+above, is `NOT NULL`, and has a unique index, `t_id_new_key`:
+
+    BEGIN;
+    SET LOCAL lock_timeout = '1s';
+    SET LOCAL statement_timeout = '5s';
+    ALTER SEQUENCE t_id_seq AS bigint OWNED BY t.id_new;
+    ALTER TABLE t ALTER COLUMN id_new SET DEFAULT nextval('t_id_seq');
+    DROP TRIGGER t_id_new ON t;
+    -- squawk-ignore ban-drop-function
+    DROP FUNCTION t_id_new();
+    -- squawk-ignore ban-drop-column
+    ALTER TABLE t DROP COLUMN id;
+    -- squawk-ignore renaming-column
+    ALTER TABLE t RENAME COLUMN id_new TO id;
+    ALTER TABLE t ADD CONSTRAINT t_pkey PRIMARY KEY USING INDEX t_id_new_key;
+    COMMIT;
+
+`ALTER COLUMN id TYPE bigint` of a serial column leaves its sequence an
+`integer` too: `ALTER SEQUENCE t_id_seq AS bigint` belongs to it. That of an
+identity column is changed with the column.
+
 Prepared statements of open sessions that return the column fail until they are
-prepared anew, since its type is another one.
+prepared anew, since its type is another one: \"cached plan must not change
+result type\".
+
+Both tables of a key. Where a foreign key refers to the column, or the column
+refers to another table, the change takes ACCESS EXCLUSIVE on both tables; and
+where it is none of the quick ones below, both are read to check the key again.
+
+Statistics go. Each change of a type, the quick ones too, throws away what
+PostgreSQL knows of the column's values, and of extended statistics and indexes
+with expressions over it. Autovacuum doesn't come for that, and queries may get
+bad plans at once: run `ANALYZE t` right after the transaction. `ANALYZE t (a)`
+doesn't bring extended statistics over several columns back.
 
 Ignore the report only where you know that the change is quick:
 
@@ -73,6 +112,8 @@ Details
   and `ALTER FOREIGN TABLE`, and each `ALTER ATTRIBUTE` of `ALTER TYPE`. The
   types are not compared: a change that rewrites nothing, such as from
   `varchar(50)` to `text`, is reported as well.
+- False alarms: what the table above calls quick; a table that the same
+  transaction created, and a composite type that no table uses.
 - In PostgreSQL: as in the table above (ALTER TABLE, \"SET DATA TYPE\" and
   Notes). `ALTER ATTRIBUTE` is refused while a table has a column of the type.
   A typed table (`CREATE TABLE .. OF`) is written anew by it, with `CASCADE`
@@ -113,6 +154,9 @@ Write
     -- the old rows, some thousands at a time, each time in a transaction of its own
     UPDATE t SET token = gen_random_uuid() WHERE id BETWEEN 1 AND 10000 AND token IS NULL;
 
+Let no tool put one transaction around both: the lock of the first would be
+held until the last row is filled.
+
 For a stored generated column add a plain one, let a trigger fill it, and fill
 the old rows, as at `changing-column-type`. For an identity column add a plain
 `bigint` and fill it, make it `NOT NULL`, and then add the identity, which
@@ -120,9 +164,10 @@ begins above the greatest value.
 
 A value in a form that the rule doesn't know is reported though nothing is
 rewritten: `-1`, `(now())`, `interval '1 day'`, `CURRENT_DATE`, `CURRENT_USER`,
-`LOCALTIME`, `CURRENT_TIMESTAMP(3)`, `lower('A')`, `jsonb_build_object()`.
-Write `'-1'`, `now()`, `'1 day'::interval`; name a function of your own with
-`--non-volatile`; ignore the report of the others.
+`LOCALTIME`, `CURRENT_TIMESTAMP(3)`, `lower('A')`, `date_trunc('day', now())`,
+`to_char(now(), 'YYYY')`, `jsonb_build_object()`. Write `'-1'`, `now()`, `'1
+day'::interval`; name a function of your own with `--non-volatile`; ignore the
+report of the others.
 
 It does not see `bigserial` and the other serial types, and a domain with a
 constraint as the column's type, with or without a default: both rewrite the
@@ -215,7 +260,9 @@ pub(crate) const BAN_ADD_COLUMN: &str = "ban-add-column
 
 A client that selects `*` and reads values by their places gets one more.
 `INSERT INTO u SELECT * FROM t` has one more value than `u` has columns, and
-fails.
+fails. A statement with `*` that a session has prepared, as many drivers do,
+fails with \"cached plan must not change result type\" until it is prepared anew;
+one that names its columns goes on.
 
 Instead of
 
@@ -260,7 +307,8 @@ pub(crate) const BAN_DROP_COLUMN: &str = "ban-drop-column
 
 Each client that still names the column fails, and so does the old version of
 the application while the new one is rolled out. Many ORMs name every column in
-every query.
+every query. A prepared statement with `*` fails with \"cached plan must not
+change result type\" until it is prepared anew.
 
 Instead of
 
@@ -278,8 +326,10 @@ have a default:
     ALTER TABLE users DROP COLUMN email;
     COMMIT;
 
-It does not see which views, functions and indexes use the column. Its indexes
-go with it, those over several columns too.
+It does not see which views, functions and indexes use the column. A view
+refuses the drop, and so does a function with a body in `BEGIN ATOMIC`; one
+with a body in a string fails later. Its indexes go with it, those over several
+columns too, and so does the sequence that it owns.
 
 Details
 
@@ -492,6 +542,8 @@ pub(crate) const BAN_ALTER_GENERATED_EXPRESSION: &str = "ban-alter-generated-exp
 A new expression changes what clients read. A generated column takes no value,
 so a client that writes every column it finds fails.
 
+`SET EXPRESSION` is of PostgreSQL 17.
+
 Instead of
 
     ALTER TABLE t ALTER COLUMN a SET EXPRESSION AS (b + 1);
@@ -512,6 +564,8 @@ Write a new column that a trigger fills:
 
     -- the old rows, some thousands at a time, each time in a transaction of its own
     UPDATE t SET a_new = b + 1 WHERE id BETWEEN 1 AND 10000 AND a_new IS NULL;
+
+Let no tool put one transaction around both.
 
 It does not see a function in the expression that gives other values from now
 on.
@@ -539,8 +593,8 @@ tables, composite types, domains, parameters and casts.
 pub(crate) const PREFER_BIGINT_OVER_INT: &str = "prefer-bigint-over-int
 
   default: on
-  fix:     safe or unsafe (safe in a new table that is attached to no other; in
-           `ALTER COLUMN .. TYPE` it asks for another type)
+  fix:     unsafe (what uses the column may need the old type, also in a later
+           migration or in a client)
   lock:    none now; a wider type rewrites the table one day
   manual:  Numeric Types,
            https://www.postgresql.org/docs/current/datatype-numeric.html
@@ -589,8 +643,8 @@ Details
 pub(crate) const PREFER_BIGINT_OVER_SMALLINT: &str = "prefer-bigint-over-smallint
 
   default: on
-  fix:     safe or unsafe (safe in a new table that is attached to no other; in
-           `ALTER COLUMN .. TYPE` it asks for another type)
+  fix:     unsafe (what uses the column may need the old type, also in a later
+           migration or in a client)
   lock:    none now; a wider type rewrites the table one day
   manual:  Numeric Types,
            https://www.postgresql.org/docs/current/datatype-numeric.html
@@ -637,8 +691,9 @@ Details
 pub(crate) const PREFER_IDENTITY: &str = "prefer-identity
 
   default: on
-  fix:     safe or unsafe (safe in a new table that is attached to no other; in
-           `ALTER COLUMN .. TYPE` PostgreSQL refuses it)
+  fix:     unsafe (tables that inherit the column have no values for it, and in
+           `ALTER COLUMN .. TYPE` PostgreSQL refuses it; none before version
+           10)
   lock:    none in a new table; in `ADD COLUMN` ACCESS EXCLUSIVE, until the
            table is written anew
   manual:  Identity Columns,
@@ -676,53 +731,5 @@ Details
       help: use an `identity` column instead
       fix: Replace with `identity` column
         replace 19..28 \"bigint generated by default as identity\"
-    violations: 1
-";
-
-/// `prefer-text-field`.
-pub(crate) const PREFER_TEXT_FIELD: &str = "prefer-text-field
-
-  default: on
-  fix:     unsafe (it drops the limit)
-  lock:    none now; a longer limit takes ACCESS EXCLUSIVE for a moment, a
-           shorter one until the table is written anew
-  manual:  Character Types,
-           https://www.postgresql.org/docs/current/datatype-character.html
-
-A length is a guess that is outgrown. A longer one is quick, yet needs a moment
-with nobody on the table; a shorter one writes the table anew.
-
-Instead of
-
-    CREATE TABLE t (a varchar(50)[]);
-
-Write
-
-    CREATE TABLE IF NOT EXISTS t (a text[]);
-
-With a limit where one is needed: `a text CHECK (length(a) <= 50)`. A check can
-be changed by a new one that is added as not valid and validated later. The fix
-drops the limit and adds no check.
-
-It does not see a limit on a column of a domain.
-
-Details
-
-- Reported: each column of the type `varchar`, `character varying` or `char
-  varying` with a length, arrays too, and of a path to `varchar` with arguments
-  (`pg_catalog.varchar(50)`). The fix puts `text` in place of the type; the
-  brackets of an array stay.
-- Not reported: `varchar` without a length; `nchar varying(5)` and `national
-  character varying(5)`; `char(3)`, which `ban-char-field` reports.
-- In PostgreSQL: a longer length writes and reads nothing (9.2 and later),
-  under ACCESS EXCLUSIVE; a smaller one rewrites the table (ALTER TABLE,
-  Notes). `text` is stored in the same way, and no slower (section 8.3, the tip
-  there).
-
-    $ echo 'CREATE TABLE t (a varchar(50)[]);' | ./squawk --only prefer-text-field
-    18..31: warning[prefer-text-field]: changing the size of a `varchar` field requires an `access exclusive` lock, that will prevent all reads and writes to the table
-      help: use a `text` field with a `check` constraint
-      fix: Replace with `text`
-        replace 18..29 \"text\"
     violations: 1
 ";

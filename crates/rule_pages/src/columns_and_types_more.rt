@@ -1,5 +1,53 @@
 //! The rules of the group "Columns and types". Written by tools/rule_pages.py.
 
+/// `prefer-text-field`.
+pub(crate) const PREFER_TEXT_FIELD: &str = "prefer-text-field
+
+  default: on
+  fix:     unsafe (it drops the limit)
+  lock:    none now; a longer limit takes ACCESS EXCLUSIVE for a moment, a
+           shorter one until the table is written anew
+  manual:  Character Types,
+           https://www.postgresql.org/docs/current/datatype-character.html
+
+A length is a guess that is outgrown. A longer one is quick, yet needs a moment
+with nobody on the table; a shorter one writes the table anew.
+
+Instead of
+
+    CREATE TABLE t (a varchar(50)[]);
+
+Write
+
+    CREATE TABLE IF NOT EXISTS t (a text[]);
+
+With a limit where one is needed: `a text CHECK (length(a) <= 50)`. A check can
+be changed by a new one that is added as not valid and validated later. The fix
+drops the limit and adds no check.
+
+It does not see a limit on a column of a domain.
+
+Details
+
+- Reported: each column of the type `varchar`, `character varying` or `char
+  varying` with a length, arrays too, and of a path to `varchar` with arguments
+  (`pg_catalog.varchar(50)`). The fix puts `text` in place of the type; the
+  brackets of an array stay.
+- Not reported: `varchar` without a length; `nchar varying(5)` and `national
+  character varying(5)`; `char(3)`, which `ban-char-field` reports.
+- In PostgreSQL: a longer length writes and reads nothing (9.2 and later),
+  under ACCESS EXCLUSIVE; a smaller one rewrites the table (ALTER TABLE,
+  Notes). `text` is stored in the same way, and no slower (section 8.3, the tip
+  there).
+
+    $ echo 'CREATE TABLE t (a varchar(50)[]);' | ./squawk --only prefer-text-field
+    18..31: warning[prefer-text-field]: changing the size of a `varchar` field requires an `access exclusive` lock, that will prevent all reads and writes to the table
+      help: use a `text` field with a `check` constraint
+      fix: Replace with `text`
+        replace 18..29 \"text\"
+    violations: 1
+";
+
 /// `prefer-timestamp-tz`.
 pub(crate) const PREFER_TIMESTAMP_TZ: &str = "prefer-timestamp-tz
 

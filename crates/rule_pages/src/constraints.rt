@@ -17,13 +17,16 @@ Instead of
 
     ALTER TABLE t ADD CONSTRAINT k CHECK (a > 0);
 
-Write
+Write two files:
 
     BEGIN;
     SET LOCAL lock_timeout = '1s';
     SET LOCAL statement_timeout = '5s';
     ALTER TABLE t ADD CONSTRAINT k CHECK (a > 0) NOT VALID;
     COMMIT;
+
+The second file can be run again where it is cancelled, which the first one
+can't when it is done:
 
     -- each row is read, while others read and write the table
     BEGIN;
@@ -33,11 +36,12 @@ Write
     COMMIT;
 
 `NOT VALID` is for `CHECK` and `FOREIGN KEY` and, from PostgreSQL 18 on, `NOT
-NULL`; a foreign key of a partitioned table takes it from 18 on. PostgreSQL
-refuses it for the others, whatever the help says. For `UNIQUE` and `PRIMARY
-KEY` build the index first. For `EXCLUDE` there is no such way: add it while
-nobody uses the table, or to a new table. A constraint with `NOT ENFORCED`
-(PostgreSQL 18) checks nothing, and is reported all the same: ignore it.
+NULL`; a foreign key of a partitioned table takes it from 18 on, and before
+each partition does. PostgreSQL refuses it for the others, whatever the help
+says. For `UNIQUE` and `PRIMARY KEY` build the index first. For `EXCLUDE` there
+is no such way: add it while nobody uses the table, or to a new table. A
+constraint with `NOT ENFORCED` (PostgreSQL 18) checks nothing, and is reported
+all the same: ignore it.
 
 It does not see `ADD COLUMN a int CHECK (a > 0)`, which reads the whole table
 under ACCESS EXCLUSIVE, with and without a default; `SET NOT NULL` of a domain
@@ -90,13 +94,15 @@ Instead of
 
     ALTER TABLE t ADD FOREIGN KEY (a) REFERENCES u (b);
 
-Write
+Write two files:
 
     BEGIN;
     SET LOCAL lock_timeout = '1s';
     SET LOCAL statement_timeout = '5s';
     ALTER TABLE t ADD CONSTRAINT t_a_fkey FOREIGN KEY (a) REFERENCES u (b) NOT VALID;
     COMMIT;
+
+The second file can be run again where it is cancelled:
 
     -- each row is looked up, while others read and write both tables
     BEGIN;
@@ -108,6 +114,20 @@ Write
 For a new column add the column first, without `REFERENCES`, and then the key
 in the same way. Have an index on the referencing column: without one each
 `DELETE` in the referenced table reads the whole referencing one.
+
+Before PostgreSQL 18 a foreign key of a partitioned table takes no `NOT VALID`:
+PostgreSQL refuses it, and the linter doesn't know. Add and validate a key as
+above on each partition. Then add the key of the partitioned table, which finds
+them and reads no row. It takes SHARE ROW EXCLUSIVE on all partitions, and
+ACCESS EXCLUSIVE on the referenced table for a moment; a partition whose key
+isn't validated is read then:
+
+    BEGIN;
+    SET LOCAL lock_timeout = '1s';
+    SET LOCAL statement_timeout = '5s';
+    -- squawk-ignore constraint-missing-not-valid, adding-foreign-key-constraint
+    ALTER TABLE logs ADD CONSTRAINT logs_a_fkey FOREIGN KEY (a) REFERENCES u (b);
+    COMMIT;
 
 It does not see foreign keys in `CREATE TABLE`, which take SHARE ROW EXCLUSIVE
 on the referenced table: writes to it wait until the transaction ends; a
@@ -121,6 +141,8 @@ Details
 - Not reported: a `FOREIGN KEY` on a table that the same open transaction
   created. A `REFERENCES` of a new column is reported there too, and whatever
   words follow it. Foreign keys in `CREATE TABLE` are left alone.
+- False alarms: a `REFERENCES` of a new column without a default, which reads
+  no row.
 - In PostgreSQL: SHARE ROW EXCLUSIVE on both tables; for a column that is
   added, ACCESS EXCLUSIVE on its table. A column that is added without a
   default has no row to look up (ALTER TABLE, \"ADD table_constraint\" and \"ADD
@@ -150,13 +172,25 @@ Instead of
 
     ALTER TABLE t ADD PRIMARY KEY (id);
 
-Write with a column that is `NOT NULL` already (else see
-`adding-not-nullable-field` first), in a migration without a transaction:
+Write two files, with columns that are `NOT NULL` already (else see
+`adding-not-nullable-field` first). One runs without a transaction, and can be
+run again; `require-concurrent-index-creation` says what to do where it stops:
 
     SET lock_timeout = 0;
     SET statement_timeout = 0;
-    DROP INDEX CONCURRENTLY IF EXISTS t_pkey;
+    -- squawk-ignore invalid-index-kept
     CREATE UNIQUE INDEX CONCURRENTLY IF NOT EXISTS t_pkey ON t (id);
+    RESET lock_timeout;
+    RESET statement_timeout;
+    -- stops at the invalid index of a failed build
+    DO $$ BEGIN
+      IF NOT (SELECT indisvalid FROM pg_index WHERE indexrelid = 't_pkey'::regclass) THEN
+        RAISE 'index t_pkey is invalid: REINDEX INDEX CONCURRENTLY t_pkey';
+      END IF;
+    END $$;
+
+The second one is a transaction. Where it runs into its timeout, run this one
+again: the index stays.
 
     BEGIN;
     SET LOCAL lock_timeout = '1s';
@@ -165,7 +199,8 @@ Write with a column that is `NOT NULL` already (else see
     COMMIT;
 
 It does not see with `USING INDEX`, whether the columns are `NOT NULL`: if not,
-all rows are searched for nulls under ACCESS EXCLUSIVE.
+all rows are searched for nulls under ACCESS EXCLUSIVE, unless a validated
+`CHECK` says `id IS NOT NULL`.
 
 Details
 
@@ -200,12 +235,24 @@ Instead of
 
     ALTER TABLE t ADD CONSTRAINT t_b_key UNIQUE (b);
 
-Write in a migration without a transaction:
+Write two files. One runs without a transaction, and can be run again;
+`require-concurrent-index-creation` says what to do where it stops:
 
     SET lock_timeout = 0;
     SET statement_timeout = 0;
-    DROP INDEX CONCURRENTLY IF EXISTS t_b_key;
+    -- squawk-ignore invalid-index-kept
     CREATE UNIQUE INDEX CONCURRENTLY IF NOT EXISTS t_b_key ON t (b);
+    RESET lock_timeout;
+    RESET statement_timeout;
+    -- stops at the invalid index of a failed build
+    DO $$ BEGIN
+      IF NOT (SELECT indisvalid FROM pg_index WHERE indexrelid = 't_b_key'::regclass) THEN
+        RAISE 'index t_b_key is invalid: REINDEX INDEX CONCURRENTLY t_b_key';
+      END IF;
+    END $$;
+
+The second one is a transaction. Where it runs into its timeout, run this one
+again: the index stays.
 
     BEGIN;
     SET LOCAL lock_timeout = '1s';
@@ -214,7 +261,8 @@ Write in a migration without a transaction:
     COMMIT;
 
 It does not see duplicates: the build fails at the first one, and leaves an
-invalid index, which slows writes until it is dropped.
+invalid index, which slows writes, and may refuse new duplicates, until it is
+dropped or mended. Take the duplicates away first.
 
 Details
 
@@ -255,13 +303,33 @@ Instead of
 
     ALTER TABLE t ALTER COLUMN a SET NOT NULL;
 
-Write a check that says it first, from PostgreSQL 12 on:
+Write from PostgreSQL 18 on the constraint itself as not valid, and validate it
+in a second file (from the manual of version 18):
+
+    BEGIN;
+    SET LOCAL lock_timeout = '1s';
+    SET LOCAL statement_timeout = '5s';
+    ALTER TABLE t ADD CONSTRAINT t_a_not_null NOT NULL a NOT VALID;
+    COMMIT;
+
+    -- each row is read, while others read and write the table
+    BEGIN;
+    SET LOCAL lock_timeout = '1s';
+    SET LOCAL statement_timeout = 0;
+    ALTER TABLE t VALIDATE CONSTRAINT t_a_not_null;
+    COMMIT;
+
+From PostgreSQL 12 to 17 a check that says it comes first, in a file of its
+own:
 
     BEGIN;
     SET LOCAL lock_timeout = '1s';
     SET LOCAL statement_timeout = '5s';
     ALTER TABLE t ADD CONSTRAINT a_not_null CHECK (a IS NOT NULL) NOT VALID;
     COMMIT;
+
+The second file has two transactions, so it must not run inside of a tool's. It
+can be run again until its second one is done:
 
     -- each row is read, while others read and write the table
     BEGIN;
@@ -279,8 +347,15 @@ Write a check that says it first, from PostgreSQL 12 on:
     ALTER TABLE t DROP CONSTRAINT a_not_null;
     COMMIT;
 
+Never both in one `ALTER TABLE`: in `ALTER TABLE t ALTER a SET NOT NULL, DROP
+CONSTRAINT a_not_null` the drop comes first, and the whole table is read under
+ACCESS EXCLUSIVE. Nor does every check prove it: `a IS NOT NULL` alone or as a
+part of an `AND` does, `a > 0` and `a IS NOT NULL OR b > 0` don't, though the
+linter excuses them too.
+
 It does not see that a check was dropped, or its validation rolled back, before
-`SET NOT NULL`; what a check of another migration says.
+`SET NOT NULL` or in the same `ALTER TABLE`; that a check says something else;
+what a check of another migration says.
 
 Details
 
@@ -298,6 +373,8 @@ Details
   statement. A table is identified by its last name, so that `s.t` and `t`
   count as one. `ALTER FOREIGN TABLE`, `ALTER DOMAIN`, and the columns of
   `CREATE TABLE` and `ADD COLUMN` are not looked at.
+- False alarms: a column that is `NOT NULL` already; one for which a check of
+  an earlier migration proves it; a table that the same transaction created.
 - In PostgreSQL: `SET NOT NULL` takes ACCESS EXCLUSIVE and scans the table for
   nulls; from version 12 on it does not scan where a valid `CHECK` proves that
   there are none (ALTER TABLE, \"SET/DROP NOT NULL\"). `VALIDATE CONSTRAINT`
@@ -516,13 +593,15 @@ Instead of
 
     ALTER DOMAIN d ADD CHECK (VALUE > 0);
 
-Write the constraint on each table, one after the other:
+Write the constraint on each table, one after the other, in two files each:
 
     BEGIN;
     SET LOCAL lock_timeout = '1s';
     SET LOCAL statement_timeout = '5s';
     ALTER TABLE t ADD CONSTRAINT t_c_positive CHECK (c > 0) NOT VALID;
     COMMIT;
+
+In a second file:
 
     BEGIN;
     SET LOCAL lock_timeout = '1s';
@@ -543,6 +622,8 @@ Details
   CHECK`, `ADD NOT NULL`), with `NOT VALID` too.
 - Not reported: `SET NOT NULL`, `SET DEFAULT` and `VALIDATE CONSTRAINT` of a
   domain.
+- False alarms: `NOT VALID`, which locks no table, and a domain that no table
+  uses.
 - In PostgreSQL: all columns of the domain are checked, unless `NOT VALID` is
   given (ALTER DOMAIN, \"ADD domain_constraint [ NOT VALID ]\" and Notes).
 

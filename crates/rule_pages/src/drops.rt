@@ -63,15 +63,20 @@ misses for a week is easier to bring back than a dropped one.
     -- squawk-ignore ban-drop-table
     DROP TABLE IF EXISTS a;
 
-It does not see tables that go with their schema, owner, type or extension
-(`CASCADE`, `DROP OWNED`).
+A partition takes the partitioned table and the default partition with it: all
+three are under ACCESS EXCLUSIVE, and who reads any partition through the table
+waits. Detach it first, in a file of its own; then the drop locks it alone.
+
+It does not see whether the table is a partition; tables that go with their
+schema, owner, type or extension (`CASCADE`, `DROP OWNED`).
 
 Details
 
 - Reported: each `DROP TABLE` and `DROP FOREIGN TABLE`.
 - In PostgreSQL: ACCESS EXCLUSIVE on the table and on those that its foreign
-  keys refer to, which may be busy ones (section 13.3.1; DROP TABLE and DROP
-  FOREIGN TABLE).
+  keys refer to, which may be busy ones; of a partition also on the partitioned
+  table and the default partition (section 13.3.1; DROP TABLE and DROP FOREIGN
+  TABLE).
 
     $ echo 'DROP TABLE IF EXISTS a, b CASCADE;' | ./squawk --only ban-drop-table
     0..34: warning[ban-drop-table]: dropping a table may break existing clients
@@ -471,7 +476,7 @@ pub(crate) const REQUIRE_CONCURRENT_PARTITION_DETACH: &str = "require-concurrent
 
   default: on
   fix:     unsafe (adds `CONCURRENTLY`, which fails where there is a default
-           partition; none in a transaction)
+           partition; none in a transaction and before version 14)
   lock:    ACCESS EXCLUSIVE on the partitioned table, the partition and a
            default partition, for a moment
   manual:  ALTER TABLE,
@@ -484,17 +489,23 @@ Instead of
 
     ALTER TABLE t DETACH PARTITION p;
 
-Write in a migration that runs without a transaction:
+Write from PostgreSQL 14 on, in a file of its own that runs without a
+transaction:
 
     SET lock_timeout = 0;
     SET statement_timeout = 0;
     -- squawk-ignore prefer-robust-stmts
     ALTER TABLE t DETACH PARTITION p CONCURRENTLY;
+    RESET lock_timeout;
+    RESET statement_timeout;
 
 It waits for all who use the partitioned table, without holding anybody up;
 then it takes ACCESS EXCLUSIVE on the partition alone, and who reads the
 partition by its own name waits. If it is interrupted, `ALTER TABLE t DETACH
-PARTITION p FINALIZE` ends it.
+PARTITION p FINALIZE` ends it. A second run fails, since the partition is gone.
+Beside a default partition it is refused: there set a short `lock_timeout`, and
+detach it plainly. Before PostgreSQL 14 there is no `CONCURRENTLY` here, though
+the report and its fix ask for it with `--pg-major 13` too.
 
 It does not see `DETACH PARTITION .. CONCURRENTLY` in a transaction, where
 PostgreSQL refuses it.
@@ -536,13 +547,16 @@ Instead of
 
     ALTER TABLE logs DETACH PARTITION logs_2024 CONCURRENTLY;
 
-Write
+Write from PostgreSQL 14 on, in a file of its own that runs without a
+transaction:
 
     SET lock_timeout = 0;
     SET statement_timeout = 0;
     -- release 41 reads old rows from logs_2024 itself
     -- squawk-ignore ban-detach-inheritance, prefer-robust-stmts
     ALTER TABLE logs DETACH PARTITION logs_2024 CONCURRENTLY;
+    RESET lock_timeout;
+    RESET statement_timeout;
 
 It does not see a partition that is dropped.
 

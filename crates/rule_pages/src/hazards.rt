@@ -16,16 +16,21 @@ Instead of
 
     BEGIN; DROP INDEX CONCURRENTLY IF EXISTS i; COMMIT;
 
-Write in a migration of its own, without a transaction:
+Write in a file of its own that runs without a transaction:
 
     SET lock_timeout = 0;
     SET statement_timeout = 0;
     DROP INDEX CONCURRENTLY IF EXISTS i;
+    RESET lock_timeout;
+    RESET statement_timeout;
 
 It does not see a tool that puts the file into a transaction, unless you say
 `--assume-in-transaction`, and then not in a file of one statement; a file that
 is sent as one query (`psql -c`), which is a transaction too; `REINDEX TABLE`
-of a partitioned table and `CREATE SUBSCRIPTION`, which fail as well.
+of a partitioned table and `CREATE SUBSCRIPTION`, which fail as well; what
+fails outside of a transaction (`LOCK TABLE`, `SAVEPOINT`, `DECLARE` of a
+cursor); `SET TRANSACTION` after a query; a new value of an enum that is used
+in its transaction, also where that transaction created the type.
 
 Details
 
@@ -85,10 +90,10 @@ Write a plain column first, and fill it:
     -- the old rows, some thousands at a time, each time in a transaction of its own
     UPDATE t SET c = id WHERE id BETWEEN 1 AND 10000 AND c IS NULL;
 
-Then make it `NOT NULL`, and add the identity, which begins above the greatest
-value. In place of `VACUUM FULL` and `CLUSTER` use pg_repack, or `REPACK
-(CONCURRENTLY)` from PostgreSQL 19 on. pg_repack moves a table to another
-tablespace too.
+Let no tool put one transaction around both. Then make it `NOT NULL`, and add
+the identity, which begins above the greatest value. In place of `VACUUM FULL`
+and `CLUSTER` use pg_repack, or `REPACK (CONCURRENTLY)` from PostgreSQL 19 on.
+pg_repack moves a table to another tablespace too.
 
 It does not see what a rule reports already: another type, a default that is
 computed for each row, a stored generated column, an identity column; a domain
@@ -154,13 +159,15 @@ Instead of
 
     ALTER TABLE t ADD COLUMN c bigint CHECK (c > 0);
 
-Write
+Write two files:
 
     BEGIN;
     SET LOCAL lock_timeout = '1s';
     SET LOCAL statement_timeout = '5s';
     ALTER TABLE t ADD COLUMN c bigint, ADD CONSTRAINT c_positive CHECK (c > 0) NOT VALID;
     COMMIT;
+
+In a second file, which can be run again where it is cancelled:
 
     -- each row is read, while others read and write the table
     BEGIN;
@@ -212,19 +219,27 @@ Instead of
 
     SET lock_timeout = '1s'; CREATE INDEX CONCURRENTLY i ON t (a);
 
-Write in a migration that runs without a transaction:
+Write in a file of its own that runs without a transaction, and can be run
+again:
 
     SET lock_timeout = 0;
     SET statement_timeout = 0;
-    -- what a failed build left
-    DROP INDEX CONCURRENTLY IF EXISTS i;
+    -- squawk-ignore invalid-index-kept
     CREATE INDEX CONCURRENTLY IF NOT EXISTS i ON t (a);
-    -- for what comes after
-    SET lock_timeout = '1s';
-    SET statement_timeout = '5s';
+    RESET lock_timeout;
+    RESET statement_timeout;
+    -- stops at the invalid index of a failed build
+    DO $$ BEGIN
+      IF NOT (SELECT indisvalid FROM pg_index WHERE indexrelid = 'i'::regclass) THEN
+        RAISE 'index i is invalid: REINDEX INDEX CONCURRENTLY i';
+      END IF;
+    END $$;
+
+Where more follows in the session, set both again after the build: nothing
+reports a statement that runs under the `0`.
 
 It does not see timeouts that the role, the database or the server has;
-`set_config`.
+`set_config`; a `0` that is still in force at a later statement.
 
 Details
 
@@ -273,16 +288,35 @@ Instead of
 
     CREATE INDEX CONCURRENTLY IF NOT EXISTS i ON t (a);
 
-Write in a migration that runs without a transaction:
+Write in a file of its own that runs without a transaction and can be run
+again, with a look at the index that stops the migration, and the ignore
+comment that the look makes true:
 
     SET lock_timeout = 0;
     SET statement_timeout = 0;
-    -- what a failed build left
-    DROP INDEX CONCURRENTLY IF EXISTS i;
+    -- squawk-ignore invalid-index-kept
     CREATE INDEX CONCURRENTLY IF NOT EXISTS i ON t (a);
+    RESET lock_timeout;
+    RESET statement_timeout;
+    -- stops at the invalid index of a failed build
+    DO $$ BEGIN
+      IF NOT (SELECT indisvalid FROM pg_index WHERE indexrelid = 'i'::regclass) THEN
+        RAISE 'index i is invalid: REINDEX INDEX CONCURRENTLY i';
+      END IF;
+    END $$;
+
+Where it stops, mend the index by hand: `REINDEX INDEX CONCURRENTLY i`, without
+a timeout and outside of a transaction. For a unique index take the duplicates
+away first. Then run the file again.
+
+Write the drop that the help names only where you know that the index is
+invalid. It drops a valid one too: when the file is run a second time, queries
+lose the index until it is built again; a unique one keeps duplicates out no
+more, and they make the build fail; and one that a constraint uses by now can't
+be dropped, so that the migration fails.
 
 It does not see whether an index of that name is there, and whether it is
-valid.
+valid; the look at `indisvalid`.
 
 Details
 
@@ -294,7 +328,7 @@ Details
 - In PostgreSQL: the second run said \"already exists, skipping\", with status 0,
   and the index stayed invalid. With the drop before it the index was valid.
 - False alarms: a migration that is never run twice, or whose first build never
-  fails.
+  fails; one that looks at `indisvalid` afterwards.
 
     $ echo 'CREATE INDEX CONCURRENTLY IF NOT EXISTS i ON t (a);' | ./lavkheto check --only invalid-index-kept
     warning[invalid-index-kept]: after a failed build `if not exists` keeps the invalid index

@@ -4,9 +4,9 @@
 pub(crate) const REQUIRE_CONCURRENT_INDEX_CREATION: &str = "require-concurrent-index-creation
 
   default: on
-  fix:     safe or unsafe (unsafe with `IF NOT EXISTS` and after a timeout that
-           the migration sets; none in a transaction, where `CONCURRENTLY`
-           fails)
+  fix:     unsafe (it fails for a partitioned table; none in a transaction,
+           after a timeout that the migration sets, with `IF NOT EXISTS`, with
+           `ONLY`, and on a table that it makes with `PARTITION BY`)
   lock:    SHARE, until the index is built
   manual:  CREATE INDEX,
            https://www.postgresql.org/docs/current/sql-createindex.html#SQL-CREATEINDEX-CONCURRENTLY
@@ -18,23 +18,50 @@ Instead of
 
     CREATE INDEX i ON t (a);
 
-Write in a migration that runs without a transaction:
+Write in a file of its own that runs without a transaction, and can be run
+again:
 
     SET lock_timeout = 0;
     SET statement_timeout = 0;
-    -- what a failed build left
-    DROP INDEX CONCURRENTLY IF EXISTS i;
+    -- squawk-ignore invalid-index-kept
     CREATE INDEX CONCURRENTLY IF NOT EXISTS i ON t (a);
+    RESET lock_timeout;
+    RESET statement_timeout;
+    -- stops at the invalid index of a failed build
+    DO $$ BEGIN
+      IF NOT (SELECT indisvalid FROM pg_index WHERE indexrelid = 'i'::regclass) THEN
+        RAISE 'index i is invalid: REINDEX INDEX CONCURRENTLY i';
+      END IF;
+    END $$;
 
-A build that fails leaves an invalid index under the name. `IF NOT EXISTS`
-alone takes it for the index, so the drop comes first. A timeout makes the
-build fail, even while it waits for a transaction that uses another table: so
-both are 0 here.
+A timeout makes the build fail, even while it waits for a transaction that uses
+another table: so both are 0 here, and `RESET` puts back what the session began
+with. A build that fails leaves an invalid index under the name, and `IF NOT
+EXISTS` takes it for the wanted one: so the last statement looks, and stops the
+migration. Then mend the index by hand, without a timeout and outside of a
+transaction, and run the file again:
+
+    SET lock_timeout = 0;
+    SET statement_timeout = 0;
+    REINDEX INDEX CONCURRENTLY i;
+    RESET lock_timeout;
+    RESET statement_timeout;
+
+A `DROP INDEX CONCURRENTLY IF EXISTS i` before the build would mend it too. But
+it drops a valid index as well, when the file is run a second time: queries are
+slow until the next build ends, and where the index is unique, duplicates get
+in meanwhile, at which that build fails. `IF NOT EXISTS` goes by the name
+alone: an index of that name on another table or on other columns is kept as
+well. The linter doesn't look into the `DO` block, so the comment leaves out
+the hazard `invalid-index-kept`.
+
+An index with an expression has no statistics until the table is analyzed: run
+`ANALYZE t` after the build.
 
 A partitioned table takes no `CONCURRENTLY`. Build an index on each partition
 as above. Then create the index of the table itself, which reads no row, and
 attach those of the partitions; it is valid when all are attached. For that
-moment readers of the partition wait too:
+moment readers of the partition wait too. In a file of its own:
 
     BEGIN;
     SET LOCAL lock_timeout = '1s';
@@ -45,7 +72,8 @@ moment readers of the partition wait too:
     COMMIT;
 
 It does not see a build that failed and left its index invalid; timeouts that
-cancel a concurrent build; whether a partition has the index already.
+cancel a concurrent build; whether the table is partitioned, where a concurrent
+build fails, and whether a partition has the index already.
 
 Details
 
@@ -77,9 +105,9 @@ Details
 pub(crate) const REQUIRE_CONCURRENT_INDEX_DELETION: &str = "require-concurrent-index-deletion
 
   default: on
-  fix:     safe or unsafe (unsafe after a timeout that the migration sets; none
-           in a transaction, with two indexes and with `CASCADE`, where
-           `CONCURRENTLY` fails)
+  fix:     unsafe (it fails for the index of a partitioned table; none in a
+           transaction, after a timeout that the migration sets, with two
+           indexes and with `CASCADE`)
   lock:    ACCESS EXCLUSIVE on the table, for a moment
   manual:  DROP INDEX,
            https://www.postgresql.org/docs/current/sql-dropindex.html
@@ -92,15 +120,18 @@ Instead of
 
     DROP INDEX i;
 
-Write in a migration that runs without a transaction:
+Write in a file of its own that runs without a transaction:
 
     SET lock_timeout = 0;
     SET statement_timeout = 0;
     DROP INDEX CONCURRENTLY IF EXISTS i;
+    RESET lock_timeout;
+    RESET statement_timeout;
 
-A timeout here leaves the index invalid: then drop it again. The index of a
-`UNIQUE` or `PRIMARY KEY` constraint goes with `DROP CONSTRAINT`, and that of a
-partitioned table takes no `CONCURRENTLY`: for both set a short `lock_timeout`.
+A timeout here leaves the index invalid: then run the file again. The index of
+a `UNIQUE` or `PRIMARY KEY` constraint goes with `DROP CONSTRAINT`, and that of
+a partitioned table takes no `CONCURRENTLY`: for both set a short
+`lock_timeout`.
 
 It does not see `DROP INDEX CONCURRENTLY` in a transaction, where PostgreSQL
 refuses it; which queries the index served (`ban-drop-index`).
@@ -109,6 +140,7 @@ Details
 
 - Reported: each `DROP INDEX` without `CONCURRENTLY`. The fix puts the word in.
 - Not reported: an index that goes with its table or its constraint.
+- False alarms: an index that the same transaction made.
 - In PostgreSQL: ACCESS EXCLUSIVE on the table. With `CONCURRENTLY` it blocks
   nobody, may not run in a transaction block, drops one index, and takes no
   `CASCADE` (DROP INDEX).
@@ -125,8 +157,9 @@ Details
 pub(crate) const REQUIRE_CONCURRENT_REINDEX: &str = "require-concurrent-reindex
 
   default: on
-  fix:     safe or unsafe (unsafe after a timeout that the migration sets; none
-           in a transaction, where `CONCURRENTLY` fails)
+  fix:     unsafe (it skips invalid indexes and those of exclusion constraints;
+           none in a transaction, after a timeout that the migration sets, of
+           system catalogs, and before version 12)
   lock:    SHARE on the table and ACCESS EXCLUSIVE on each index, until they
            are rebuilt
   manual:  REINDEX,
@@ -139,14 +172,17 @@ Instead of
 
     REINDEX TABLE t;
 
-Write in a migration that runs without a transaction:
+Write in a file of its own that runs without a transaction:
 
     SET lock_timeout = 0;
     SET statement_timeout = 0;
     REINDEX TABLE CONCURRENTLY t;
+    RESET lock_timeout;
+    RESET statement_timeout;
 
 If it fails it leaves an invalid index whose name ends with `_ccnew`: drop that
-one and begin again.
+one and begin again. `REINDEX TABLE CONCURRENTLY` passes over an index that is
+invalid already; `REINDEX INDEX CONCURRENTLY` mends it.
 
 It does not see `REINDEX .. CONCURRENTLY` in a transaction, where PostgreSQL
 refuses it; an index left invalid.
@@ -188,12 +224,21 @@ Instead of
 
     BEGIN; CREATE INDEX CONCURRENTLY i ON t (a); COMMIT;
 
-Write in a migration of its own, without a transaction:
+Write in a file of its own that runs without a transaction, as at
+`require-concurrent-index-creation`, which says what to do where it stops:
 
     SET lock_timeout = 0;
     SET statement_timeout = 0;
-    DROP INDEX CONCURRENTLY IF EXISTS i;
+    -- squawk-ignore invalid-index-kept
     CREATE INDEX CONCURRENTLY IF NOT EXISTS i ON t (a);
+    RESET lock_timeout;
+    RESET statement_timeout;
+    -- stops at the invalid index of a failed build
+    DO $$ BEGIN
+      IF NOT (SELECT indisvalid FROM pg_index WHERE indexrelid = 'i'::regclass) THEN
+        RAISE 'index i is invalid: REINDEX INDEX CONCURRENTLY i';
+      END IF;
+    END $$;
 
 It does not see `DROP INDEX CONCURRENTLY`, `REINDEX .. CONCURRENTLY` and
 `DETACH PARTITION .. CONCURRENTLY` in a transaction, which fail as well; a tool
@@ -237,13 +282,15 @@ Instead of
 
     DROP INDEX i;
 
-Write
+Write in a file of its own that runs without a transaction:
 
     SET lock_timeout = 0;
     SET statement_timeout = 0;
     -- pg_stat_user_indexes shows no scan since May, on the replicas too
     -- squawk-ignore ban-drop-index
     DROP INDEX CONCURRENTLY IF EXISTS i;
+    RESET lock_timeout;
+    RESET statement_timeout;
 
 It does not see indexes that go with their table, column or constraint.
 

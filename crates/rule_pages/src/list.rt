@@ -5,9 +5,9 @@ pub const RULE_LIST: &str =
     "Rule                                          Default  Fix             Lock
 
 Indexes
-require-concurrent-index-creation             on       safe or unsafe  SHARE, until the index is built
-require-concurrent-index-deletion             on       safe or unsafe  ACCESS EXCLUSIVE on the table, for a moment
-require-concurrent-reindex                    on       safe or unsafe  SHARE on the table and ACCESS EXCLUSIVE on each index, until they are rebuilt
+require-concurrent-index-creation             on       unsafe          SHARE, until the index is built
+require-concurrent-index-deletion             on       unsafe          ACCESS EXCLUSIVE on the table, for a moment
+require-concurrent-reindex                    on       unsafe          SHARE on the table and ACCESS EXCLUSIVE on each index, until they are rebuilt
 ban-concurrent-index-creation-in-transaction  on       none            none, it fails
 ban-drop-index                                off      none            ACCESS EXCLUSIVE on the table, for a moment; none that hurts with `CONCURRENTLY`
 
@@ -34,9 +34,9 @@ ban-set-default                               off      none            ACCESS EX
 ban-alter-identity                            on       none            ACCESS EXCLUSIVE, for a moment
 ban-drop-generated-expression                 on       none            ACCESS EXCLUSIVE, for a moment
 ban-alter-generated-expression                off      none            ACCESS EXCLUSIVE, until the table and its indexes are written anew
-prefer-bigint-over-int                        on       safe or unsafe  none now; a wider type rewrites the table one day
-prefer-bigint-over-smallint                   on       safe or unsafe  none now; a wider type rewrites the table one day
-prefer-identity                               on       safe or unsafe  none in a new table; in `ADD COLUMN` ACCESS EXCLUSIVE, until the table is written anew
+prefer-bigint-over-int                        on       unsafe          none now; a wider type rewrites the table one day
+prefer-bigint-over-smallint                   on       unsafe          none now; a wider type rewrites the table one day
+prefer-identity                               on       unsafe          none in a new table; in `ADD COLUMN` ACCESS EXCLUSIVE, until the table is written anew
 prefer-text-field                             on       unsafe          none now; a longer limit takes ACCESS EXCLUSIVE for a moment, a shorter one until the table is written anew
 prefer-timestamp-tz                           on       unsafe          none now; a later change rewrites the table, unless the session's TimeZone is UTC
 ban-char-field                                on       unsafe          none now; a later change rewrites the table
@@ -91,8 +91,8 @@ Transactions and timeouts
 prefer-robust-stmts                           on       unsafe          none of its own
 transaction-nesting                           on       none            none of its own
 ban-uncommitted-transaction                   on       unsafe          all locks of the migration, until the session ends
-require-lock-timeout                          on       safe or unsafe  that of the statement, and the queue behind it
-require-statement-timeout                     on       safe or unsafe  that of the statement
+require-lock-timeout                          on       unsafe          that of the statement, and the queue behind it
+require-statement-timeout                     on       unsafe          that of the statement
 prefer-repack                                 on       unsafe          ACCESS EXCLUSIVE, until the table and its indexes are written anew
 
 Names

@@ -53,7 +53,7 @@ Details
 pub(crate) const IDENTIFIER_TOO_LONG: &str = "identifier-too-long
 
   default: on
-  fix:     safe (it writes what PostgreSQL keeps)
+  fix:     safe (it writes what PostgreSQL keeps; none for a variable of psql)
   lock:    none of its own
   manual:  Identifiers,
            https://www.postgresql.org/docs/current/sql-syntax-lexical.html#SQL-SYNTAX-IDENTIFIERS

@@ -32,7 +32,7 @@ pub fn rule_page(rule: Rule) -> &'static str
         Rule::PreferIdentity => columns_and_types::PREFER_IDENTITY,
         Rule::PreferRepack => transactions_and_timeouts::PREFER_REPACK,
         Rule::PreferRobustStmts => transactions_and_timeouts::PREFER_ROBUST_STMTS,
-        Rule::PreferTextField => columns_and_types::PREFER_TEXT_FIELD,
+        Rule::PreferTextField => columns_and_types_more::PREFER_TEXT_FIELD,
         Rule::PreferTimestampTz => columns_and_types_more::PREFER_TIMESTAMP_TZ,
         Rule::BanCharField => columns_and_types_more::BAN_CHAR_FIELD,
         Rule::BanDropColumn => columns_and_types::BAN_DROP_COLUMN,

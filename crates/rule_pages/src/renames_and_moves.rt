@@ -42,8 +42,13 @@ directions. First:
     -- the old rows, some thousands at a time, each time in a transaction of its own
     UPDATE users SET mail = email WHERE id BETWEEN 1 AND 10000 AND mail IS DISTINCT FROM email;
 
-Then indexes and constraints, each in its safe way. When no release names the
-old column any more:
+Let no tool put one transaction around both. Until all old rows are filled, let
+no client write a null under the new name: the trigger takes it for an old
+client's row, and undoes it. Then indexes and constraints, each in its safe
+way, but no default of the new column while any client writes the old one: an
+old client's `INSERT` would store the default in both columns, and its own
+value is lost without an error. When no release names the old column any more,
+the new one gets its default, and in a transaction:
 
     BEGIN;
     SET LOCAL lock_timeout = '1s';
@@ -88,8 +93,8 @@ Instead of
 
     ALTER TABLE users RENAME TO accounts;
 
-Write a view under the old name, with the rights of the table, in the same
-transaction:
+Write from PostgreSQL 15 on a view under the old name, with the rights of the
+table, in the same transaction:
 
     BEGIN;
     SET LOCAL lock_timeout = '1s';
@@ -103,10 +108,11 @@ transaction:
 
 Grants stay with the table: without the `GRANT` the application is refused.
 Without `security_invoker` (PostgreSQL 15 and later) the view reads as its
-owner, and shows every row in spite of row level security. PostgreSQL writes
-through such a view. But `COPY users FROM` fails, no foreign key can refer to
-the view, and columns that the table gets later aren't in it. Drop the view
-when nothing uses it.
+owner, and shows every row in spite of row level security: before 15 give no
+table with row level security such a view. PostgreSQL writes through such a
+view. But `COPY users FROM` fails, no foreign key can refer to the view, and
+columns that the table gets later aren't in it. Drop the view when nothing uses
+it.
 
 It does not see whether a view is there, and what it lets through.
 

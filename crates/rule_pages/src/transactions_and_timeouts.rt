@@ -27,13 +27,30 @@ Write one transaction, which is undone as a whole:
     ALTER TABLE t DROP CONSTRAINT k, DROP a, OWNER TO u;
     COMMIT;
 
-Or, for what runs outside of a transaction only, statements that can be run
-again:
+Or, for what runs outside of a transaction only, a file of its own with
+statements that can be run again, as at `require-concurrent-index-creation`:
 
     SET lock_timeout = 0;
     SET statement_timeout = 0;
-    DROP INDEX CONCURRENTLY IF EXISTS t_b;
+    -- squawk-ignore invalid-index-kept
     CREATE INDEX CONCURRENTLY IF NOT EXISTS t_b ON t (b);
+    RESET lock_timeout;
+    RESET statement_timeout;
+    -- stops at the invalid index of a failed build
+    DO $$ BEGIN
+      IF NOT (SELECT indisvalid FROM pg_index WHERE indexrelid = 't_b'::regclass) THEN
+        RAISE 'index t_b is invalid: REINDEX INDEX CONCURRENTLY t_b';
+      END IF;
+    END $$;
+
+Two transactions in one file can't be run again where the second one fails,
+since the first one is done: the linter doesn't see that. Write two files. And
+`IF EXISTS` and `IF NOT EXISTS` are not free: they take the lock of the
+statement first, and look then. `ADD COLUMN IF NOT EXISTS` of a column that is
+there, and `DROP CONSTRAINT IF EXISTS` of none, take ACCESS EXCLUSIVE, `CREATE
+INDEX IF NOT EXISTS` SHARE, with the queue behind it; `CREATE TABLE IF NOT
+EXISTS` of a table that is there, and `DROP TABLE IF EXISTS` of none, take
+none. So don't run such a text at each start of an application.
 
 It does not see every `ALTER` but `ALTER TABLE`, and `CREATE` and `DROP` of
 most kinds; whether a statement that can be run again does the same again.
@@ -44,10 +61,10 @@ Details
   without `IF EXISTS`, and `ADD COLUMN` without `IF NOT EXISTS`, of an `ALTER
   TABLE`. The fix inserts the words after `CONSTRAINT` or `COLUMN`; where
   `COLUMN` is left out there is no fix. - Every other action of an `ALTER
-  TABLE`, also one that can be run twice (`OWNER TO`) or says `IF EXISTS`
-  (`DROP IDENTITY`, `DROP EXPRESSION`). - `CREATE INDEX` of an index with a
-  name and `CREATE TABLE` without `IF NOT EXISTS`; `DROP INDEX`, `DROP TABLE`
-  and `DROP TYPE` without `IF EXISTS`. Each has a fix.
+  TABLE`, also one that can be run twice (`OWNER TO`, `VALIDATE CONSTRAINT`) or
+  says `IF EXISTS` (`DROP IDENTITY`, `DROP EXPRESSION`). - `CREATE INDEX` of an
+  index with a name and `CREATE TABLE` without `IF NOT EXISTS`; `DROP INDEX`,
+  `DROP TABLE` and `DROP TYPE` without `IF EXISTS`. Each has a fix.
 
 In a transaction, only `CREATE INDEX CONCURRENTLY` of an index with a name,
 which never runs in one. - Not reported: `VALIDATE CONSTRAINT` after a `DROP
@@ -66,8 +83,7 @@ PostgreSQL: what a transaction did is undone as a whole where it fails (section
 3.4); without one each statement stays done. `IF EXISTS` and `IF NOT EXISTS`
 give a notice in place of the error (ALTER TABLE, CREATE INDEX, CREATE TABLE,
 DROP INDEX, DROP TABLE, DROP TYPE). `IF NOT EXISTS` compares the name alone: an
-invalid index that a build with `CONCURRENTLY` left is there too, and must be
-dropped first.
+invalid index that a build with `CONCURRENTLY` left is there too.
 
     $ echo 'ALTER TABLE t DROP CONSTRAINT k, DROP a, OWNER TO u;' | ./squawk --only prefer-robust-stmts
     14..31: warning[prefer-robust-stmts]: missing `if exists`, the migration can't be rerun if it fails part way through
@@ -180,8 +196,8 @@ Details
 pub(crate) const REQUIRE_LOCK_TIMEOUT: &str = "require-lock-timeout
 
   default: on
-  fix:     safe or unsafe (unsafe in a migration with a statement that may take
-           long)
+  fix:     unsafe (outside of a transaction the `SET` stays for the session;
+           none in a migration that builds, drops or rebuilds an index)
   lock:    that of the statement, and the queue behind it
   manual:  lock_timeout,
            https://www.postgresql.org/docs/current/runtime-config-client.html#GUC-LOCK-TIMEOUT
@@ -209,8 +225,24 @@ PARTITION .. CONCURRENTLY` set both timeouts to 0. While they wait they hold
 nobody up, but for who reads the detached partition by its own name; and one
 that is cancelled leaves an invalid index or half a detachment.
 
+A setting that sets nothing satisfies this rule and the next one, and no hazard
+speaks of it. After each of these a statement waits without end, or not as long
+as it seems:
+
+- `SET lock_timeout = 0`, as before a build, and nothing after it: no timeout
+- `SET LOCAL` outside of a transaction: nothing changes; PostgreSQL warns
+- `SET LOCAL` in a transaction, and a statement after its `COMMIT` or in the
+  next `BEGIN`: what was in force before
+- `SET` in a transaction that is rolled back: what was in force before
+- `RESET lock_timeout`, `RESET ALL`, `DISCARD ALL` after it: what the session
+  began with, often no timeout
+- `SET lock_timeout = 5`: 5 milliseconds
+- `SET lock_timeout = '1h'`: an hour, in which all later statements on the
+  table wait
+
 It does not see a timeout around a concurrent build; one that the tool, the
-role or the database sets; whether the value is a good one: `0` counts.
+role or the database sets; whether the value is a good one, and whether it is
+still in force.
 
 Details
 
@@ -245,8 +277,8 @@ Details
 pub(crate) const REQUIRE_STATEMENT_TIMEOUT: &str = "require-statement-timeout
 
   default: on
-  fix:     safe or unsafe (unsafe in a migration with a statement that may take
-           long)
+  fix:     unsafe (outside of a transaction the `SET` stays for the session;
+           none in a migration that builds, drops or rebuilds an index)
   lock:    that of the statement
   manual:  statement_timeout,
            https://www.postgresql.org/docs/current/runtime-config-client.html#GUC-STATEMENT-TIMEOUT
@@ -308,6 +340,8 @@ Write from PostgreSQL 19 on, in a migration that runs without a transaction:
     SET lock_timeout = 0;
     SET statement_timeout = 0;
     REPACK (CONCURRENTLY) t USING INDEX i;
+    RESET lock_timeout;
+    RESET statement_timeout;
 
 One table at a time. Before 19, use the extension pg_repack, or a quiet hour.
 

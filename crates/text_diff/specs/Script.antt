@@ -35,10 +35,11 @@ old_part s = if is_old s.mark then s.line.now ∷ [] else []
 abbrev pub new_part : Step → List (List ℕ)
 new_part s = if is_new s.mark then s.line.now ∷ [] else []
 
--- the lines of the old text, and those of the new one
+-- the lines of the old text
 abbrev pub old_lines : List Step → List (List ℕ)
 old_lines steps = flat_map old_part steps
 
+-- the lines of the new text
 abbrev pub new_lines : List Step → List (List ℕ)
 new_lines steps = flat_map new_part steps
 

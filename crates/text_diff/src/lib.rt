@@ -13,4 +13,6 @@ mod script;
 mod step;
 
 pub use diff::push_diff;
+pub use line::lines as lines_of;
+pub use script::script as steps_of;
 pub use step::{Mark, Step};

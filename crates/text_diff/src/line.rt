@@ -22,7 +22,7 @@ fn cut_line(text: &[u8]) -> Option<(&[u8], &[u8])>
 }
 
 /// The lines of a text, each with its line feed. The error comes when memory runs out.
-pub(crate) fn lines<'t>(alloc: Global, text: &'t [u8]) -> Result<Vec<&'t [u8]>, NoMemory>
+pub fn lines<'t>(alloc: Global, text: &'t [u8]) -> Result<Vec<&'t [u8]>, NoMemory>
     ensures { IfOk result (λ all. map (λ line. line.now) all.items ≡ lines_of text.entry.now) }
 {
     let mut all = Vec::new(alloc);

@@ -138,7 +138,7 @@ fn is_left(old: &[&[u8]], new: &[&[u8]]) -> bool
 
 /// What becomes of each line where these lines become those. It is a short script where the changes are few, and not always the shortest.
 /// The error comes when memory runs out.
-pub(crate) fn script<'t>(
+pub fn script<'t>(
     alloc: Global,
     old: &[&'t [u8]],
     new: &[&'t [u8]],

@@ -1,0 +1,2 @@
+pub mod Exchange
+pub use Rattle.psql_text.specs as psql_text
