@@ -15,7 +15,8 @@ use std::rt::Files;
 // The most folders that a folder may have in it, at any depth.
 const MOST_FOLDERS: u32 = 1_000_000;
 
-/// The files of a runtime. It counts the calls that the system refused, but for those on a file that is not there.
+/// The files of a runtime. It counts the calls that the system refused, but for those on a file that is not there, and those that ran
+/// out of memory.
 #[derive(Drop)]
 pub struct SystemFiles<'r, R> {
     rt: &'r R,
@@ -40,8 +41,10 @@ impl<'r, R: Files + AllocGlobal + Clone + Drop> SystemFiles<'r, R> {
         ensures fits { RefusedFits result Unknown self.old self.new }
         ensures later { self.old ≤ self.new }
     {
-        if error.kind() == ErrorKind::NotFound {
-            return FileError::Missing;
+        match error.kind() {
+            ErrorKind::NotFound => return FileError::Missing,
+            ErrorKind::OutOfMemory => return FileError::NoMemory,
+            _ => {}
         }
         self.faults = self.faults.saturating_add(1);
         FileError::Fault
