@@ -1,5 +1,5 @@
 #!/usr/bin/env python3
-"""Compares what `lavkheto check` is to write with what Python makes of the reports that a built `squawk_main` prints.
+"""Compares the expected output of `lavkheto check` with what Python makes of the reports that a built `squawk_main` prints.
 
     tools/compare_checks.py PRINTER            the outputs of `cases/check.txt`
     tools/compare_checks.py PRINTER CHECKER    and what a built `lavkheto` writes: over the files of these cases, and over each text of

@@ -215,6 +215,8 @@ class Known:
     def class_of(self, rule, start, end):
         """The class of the fix of a report that begins there; None where it is not offered."""
         at = next((number for number, one in enumerate(self.statements) if one.end > start), None)
-        if at is None or self.text[max(start - 1, 0):start] in (b":", b'"') or self.text[end:end + 1] == b'"' or self.is_refused(rule, at):
+        if at is None or self.text[max(start - 1, 0):start] in (b":", b"?", b'"') or self.text[end:end + 1] == b'"' or self.is_refused(rule, at):
             return None
-        return {"identifier-too-long": "safe", "require-enum-value-ordering": "template"}.get(rule, "unsafe")
+        if rule == "identifier-too-long":
+            return "safe" if self.text[start:end].isascii() else "unsafe"
+        return {"require-enum-value-ordering": "template"}.get(rule, "unsafe")

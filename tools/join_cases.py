@@ -1,5 +1,5 @@
 #!/usr/bin/env python3
-"""Joins the cases of `cases/` into the standard input of `case_runner`, and counts them for its wanted output.
+"""Joins the cases of `cases/` into the standard input of `case_runner`, and counts them for its expected output.
 
   tools/join_cases.py            writes crates/case_runner/stdin and crates/case_runner/stdout
   tools/join_cases.py --check    says whether both are up to date; the exit status is 1 where they are not
@@ -69,10 +69,10 @@ def clean(page, number, words, sql):
     return [(line, page, number) for line in lines]
 
 
-def row_of(program, name, head):
-    """The row of a rule or a hazard in the tables at the head of the page, by the first line of its section."""
+def row_of(is_hazard, name, head):
+    """The row of a rule or a hazard in the tables at the head of the page, by the first line of its section. Hazards have no fix."""
     default, fix, lock = HEAD.match(head).groups()
-    told = f' {fix or "none"} |' if program == 'squawk' else ''
+    told = '' if is_hazard else f' {fix or "none"} |'
     return f'| [`{name}`](#{name}) | {default.lower()} |{told} {lock} |'
 
 
@@ -84,16 +84,15 @@ def words_for(name, default, shown):
 def written(page):
     """The texts of a page's rules and hazards under *Write*, as cases."""
     text = (TOP / page).read_text(encoding='utf-8')
-    lines = []
+    lines, hazards = [], text.index('\n## Hazards\n')
     for part in re.finditer(r'^### `([a-z-]+)`\n\n\*\*(On|Off)\*\*.*?(?=^##|\Z)', text, re.M | re.S):
-        shown = re.findall(r"^\$ (?:echo|printf(?: --)?) (?:'([^']*)'|\"([^\"]*)\") \| \./(squawk|lavkheto)(.*)$", part[0], re.M)
+        shown = re.findall(r"^\$ (?:echo|printf(?: --)?) (?:'([^']*)'|\"([^\"]*)\") \| \./lavkheto(.*)$", part[0], re.M)
         bad = re.search(r'^\*\*Instead of\*\*\n\n```sql\n(.*?)\n```', part[0], re.M | re.S)
-        if bad is None or bad[1] not in [(one or other).replace('\\n', '\n').rstrip('\n') for one, other, *_ in shown]:
+        if bad is None or bad[1] not in [(one or other).replace('\\n', '\n').rstrip('\n') for one, other, _ in shown]:
             sys.exit(f'{page}: {part[1]}: its bad example is the text of no run in its details')
-        program = shown[0][2]
-        if row_of(program, part[1], part[0].split('\n')[2]) not in text:
+        if row_of(part.start() > hazards, part[1], part[0].split('\n')[2]) not in text:
             sys.exit(f'{page}: {part[1]}: its row at the head of the page is not what the section says')
-        words = words_for(part[1], part[2], shown[0][3])
+        words = words_for(part[1], part[2], shown[0][2])
         write, details = part[0].index('\n**Write**'), part[0].index('\n**Details**')
         for found in re.finditer(r'^```sql\n(.*?)\n```$', part[0][write:details], re.M | re.S):
             number = text.count('\n', 0, part.start() + write + found.start()) + 2

@@ -4,8 +4,9 @@
     tools/rule_pages.py            writes the sources
     tools/rule_pages.py --check    says whether the sources are those of the page; the exit status is 1 where they are not
 
-A rule's page is its section without Markdown's signs. What it calls "above", the first paragraph of its group, stands before it.
-SQL and other code is indented, and never wrapped; a row of a table is an item of a list. Of a link to another page of docs/ the page's name is kept.
+A rule's page is its section without Markdown's signs. What it calls "above", the first paragraph of its group, follows its own first one, and a
+marked paragraph (`<a id="..">`) to which it has a link comes behind its details, whatever section it is in. SQL and other code is indented, and
+never wrapped; a row of a table is an item of a list. Of a link to another page of docs/ the page's name is kept, and of one to a rule the rule's.
 The list of all rules and hazards is the tables at the head of docs/RULES.md.
 """
 import argparse
@@ -21,6 +22,7 @@ WIDTH = 79
 MOST_LINES = 700
 WRITTEN = "Written by tools/rule_pages.py."
 ALIAS = "require-timeout-settings"
+MARK = re.compile(r'<a id="([^"]*)"></a>')
 FACTS = re.compile(r"\*\*(On|Off)\*\* · (?:no fix|fix: (.*?)) · lock: (.*?)(?: · manual: (.*))?$")
 
 
@@ -39,10 +41,19 @@ def hazards():
     return re.findall(r'^            Hazard::(\w+) => "([a-z-]+)",$', text, re.M)
 
 
+NAMES = {name for _, name in rules() + hazards()}
+
+
+def linked(found):
+    """The words of a link, and the rule or the hazard that it leads to, unless they name it."""
+    words, place = found.groups()
+    return f"{words} (`{place}`)" if place in NAMES and f"`{place}`" != words else words
+
+
 def plain(text):
     """A paragraph's words without links and bold type."""
     text = " ".join(re.sub(r'<a id="[^"]*"></a>', "", text).split())
-    text = re.sub(r"\[([^\]]*)\]\(#[^)]*\)", r"\1", text)
+    text = re.sub(r"\[([^\]]*)\]\(#([^)]*)\)", linked, text)
     text = re.sub(r"\[([^\]]*)\]\(([A-Z]\w*\.md)[^)]*\)", r"\1 (docs/\2)", text)
     text = re.sub(r"\[([^\]]*)\]\((https[^)]*)\)", r"\1 (\2)", text)
     return re.sub(r"\*\*|(?<!\w)\*(?=\w)|(?<=\w)\*(?!\w)", "", text)
@@ -56,16 +67,30 @@ def row_item(row):
     return "- " + ": ".join(cell.strip() for cell in row.strip("|").split("|") if cell.strip())
 
 
+def pieces(lines):
+    """The paragraphs and items of a block, each with how far it is indented and whether it is an item. A paragraph goes on with the lines
+    that are as far in as its text."""
+    found = []
+    for line in lines:
+        indent = len(line) - len(line.lstrip())
+        is_item = line.startswith("- ", indent)
+        if is_item or not found or indent < found[-1][0] + 2 * found[-1][1]:
+            found.append((indent, is_item, []))
+        found[-1][2].append(line[indent + 2 * is_item:])
+    return found
+
+
 def block(lines):
     """The lines of a paragraph, a list, a table or a piece of code."""
     if lines[0].startswith("```"):
         return ["    " + line if line else "" for line in lines[1:-1]]
     if lines[0].startswith("|"):
         lines = [row_item(row) for row in lines[2:]]
-    if not lines[0].startswith("- "):
-        return wrapped(" ".join(lines))
-    items = re.split(r"\n- ", "\n" + "\n".join(lines))[1:]
-    return [line for item in items for line in wrapped(" ".join(item.split("\n")), "- ", "  ")]
+    shown = []
+    for indent, is_item, words in pieces(lines):
+        first = " " * indent + "- " * is_item
+        shown += wrapped(" ".join(words), first, " " * len(first))
+    return shown
 
 
 def blocks(lines):
@@ -105,11 +130,19 @@ def facts(line):
     return [line for key, text in shown for line in wrapped(text, f"  {key + ':':<9}", " " * 11)]
 
 
+def marked():
+    """The marked paragraphs of the page, by their marks."""
+    found = [lines for _, head, sections in parts() for section in [head, *sections.values()] for lines in blocks(section)]
+    return {mark[1]: lines for lines in found if (mark := MARK.match(lines[0]))}
+
+
 def page(name, head, lines):
     """A rule's page. The first paragraph of its group comes where the section says "as above"."""
-    first, *rest = blocks(lines)
-    told = blocks(head)[:1] if any("[as above]" in line for line in lines) else []
-    shown = [[name], facts(first[0])] + [block(lines) for lines in told + rest]
+    first, why, *rest = [one for one in blocks(lines) if not MARK.match(one[0])]
+    above = blocks(head)[:1] if any("[as above]" in line for line in lines) else []
+    behind = [one for mark, one in marked().items() if any(f"](#{mark})" in line for line in lines)]
+    end = next((at for at, one in enumerate(rest) if at > rest.index(["**Details**"]) and one[0].startswith("```")), len(rest))
+    shown = [[name], facts(first[0])] + [block(one) for one in [why] + above + rest[:end] + behind + rest[end:]]
     return "\n\n".join("\n".join(lines) for lines in shown) + "\n"
 
 
@@ -284,9 +317,8 @@ def sources():
     """The files of the crate, by their paths in it."""
     found = modules()
     places = {name: (module, constant(name)) for module, _, pages in found for name in pages}
-    names = {name for _, name in rules() + hazards()}
-    if set(places) != names:
-        sys.exit(f"not the same rules and hazards: {set(places) ^ names}")
+    if set(places) != NAMES:
+        sys.exit(f"not the same rules and hazards: {set(places) ^ NAMES}")
     files = {f"src/{module}.rt": module_source(about, pages) for module, about, pages in found}
     files["src/list.rt"] = list_source()
     files["src/page.rt"] = functions_source(places)

@@ -1,5 +1,5 @@
 -- What comes of the bytes of a file.
-use Rattle.std.specs.Prelude.{◌≡◌, Bool, List}
+use Rattle.std.specs.Prelude.{◌≡◌, ◌⊎◌, Bool, List, None}
 use Rattle.std.specs.Str.{IsUtf8}
 use Rattle.std.specs.Str.Lossy.{utf8_valid_len}
 use Rattle.check_run.specs.checked_file.declared.answer.Answer.{Answer}
@@ -12,12 +12,14 @@ use Rattle.law_reports.specs.sql_read.Cause.{IsTreeOf}
 use Rattle.law_reports.specs.sql_tree.Statement.{IsSyntaxAt, Tree}
 use Rattle.law_reports.specs.text_reports.declared.find.TextLinter.{TextLinter}
 use Rattle.law_reports.specs.text_reports.Reports.{all_reports}
+use Rattle.file_answer.specs.Backslash.{IsBackslashAt, first_backslash}
 use Rattle.file_answer.specs.Reading.{IsReadBy}
 
--- all that is reported of a text, which has one tree
+-- all that is reported of a text, which has one tree, and no command of psql that was not read
 pub record AreReportsOf (l : TextLinter) (t : Text) (reports : List Report) : Type 0 where
   pub tree : Tree
   pub of_text : IsTreeOf t tree
+  pub none : first_backslash tree ≡ None
   pub are : reports ≡ all_reports tree l.linter.rules l.hazards l.linter.settings
 
 -- this comes of these bytes: what is reported, or why nothing can be
@@ -28,7 +30,7 @@ IsAnswerOf l t (Refused refusal.Unreadable) = ⊥
 IsAnswerOf l t (Refused (refusal.NotUtf8 at)) = (¬ (IsUtf8 t)) × (at ≡ utf8_valid_len t)
 IsAnswerOf l t (Refused refusal.TooLong) = ⊥
 IsAnswerOf l t (Refused (refusal.Unterminated at)) = IsUtf8 t × OpenAt t at
-IsAnswerOf l t (Refused (refusal.Syntax at)) = IsUtf8 t × IsSyntaxAt t at
+IsAnswerOf l t (Refused (refusal.Syntax at)) = IsUtf8 t × (IsSyntaxAt t at ⊎ IsBackslashAt t at)
 
 -- this comes of the bytes of a file: what is read of them, and what comes of that
 pub record IsLintedAs (is_strict : Bool) (l : TextLinter) (t : Text) (j : Linted) : Type 0 where

@@ -1,4 +1,5 @@
-pub mod Reading
 pub mod Answers
+pub mod Backslash
+pub mod Reading
 pub use Rattle.check_run.specs as check_run
 pub use Rattle.law_reports.specs as law_reports

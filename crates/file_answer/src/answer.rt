@@ -2,13 +2,14 @@
 ghost use Rattle.std.specs.Prelude.{◌≡◌, ◌<◌, ◌^◌, IfOk, length};
 ghost use Rattle.check_run.specs.checked_file.Files.{readable_of};
 ghost use Rattle.check_run.specs.checked_file.Sound.{IsIn, IsSoundAnswer};
-ghost use Rattle.law_reports.specs.sql_read.Cause.{IsCause};
+ghost use Rattle.law_reports.specs.sql_read.Cause.{IsCause, IsTreeOf};
 ghost use Rattle.law_reports.specs.text_reports.declared.find.TextLinter.{TextLinter};
 ghost use Rattle.file_answer.specs.Answers.{IsAnswerOf, IsLintedAs};
 
+use crate::backslash::first_backslash;
 use crate::read::read_bytes;
 use check_run::{Answer, Linted, Refusal};
-use law_reports::{LintError, NoMemory, TextLinter, TextSize, find_reports, parse};
+use law_reports::{LintError, NoMemory, Parse, TextLinter, TextSize, find_reports, parse};
 use simdutf8::compat::from_utf8;
 use std::alloc::Global;
 
@@ -32,8 +33,29 @@ fn refused(text: &str, error: LintError) -> Result<Answer, NoMemory>
     }
 }
 
-// Lints a text.
+// Lints the tree of a text.
 #[tactic(auto, using(crate::proofs::Placing::reports_in))]
+fn lint_tree(
+    alloc: Global,
+    linter: &mut TextLinter,
+    text: &str,
+    file: &Parse<'_>,
+) -> Result<Answer, NoMemory>
+    requires { IsTreeOf text.now file.now }
+    ensures answer { IfOk result (IsAnswerOf linter.old text.now) }
+    ensures placed { IfOk result (IsIn text.now) }
+    ensures same { linter.new ≡ linter.old }
+{
+    match first_backslash(file) {
+        Some(at) => Ok(Answer::Refused(Refusal::Syntax { at })),
+        None => {
+            let reports = find_reports(alloc, linter, file)?;
+            Ok(Answer::Reports(reports))
+        }
+    }
+}
+
+// Lints a text.
 fn lint_str(alloc: Global, linter: &mut TextLinter, text: &str) -> Result<Answer, NoMemory>
     requires { length text.now < 2 ^ 32 }
     ensures answer { IfOk result (IsAnswerOf linter.old text.now) }
@@ -42,8 +64,8 @@ fn lint_str(alloc: Global, linter: &mut TextLinter, text: &str) -> Result<Answer
 {
     match parse(alloc, text) {
         Ok(file) => {
-            let reports = find_reports(alloc, linter, &file)?;
-            Ok(Answer::Reports(reports))
+            let answer = lint_tree(alloc, linter, text, &file)?;
+            Ok(answer)
         }
         Err(error) => {
             let answer = refused(text, error)?;

@@ -4,6 +4,7 @@
 #![tactic(auto)]
 
 mod answer;
+mod backslash;
 mod linter;
 mod read;
 

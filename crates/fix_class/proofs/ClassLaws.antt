@@ -9,13 +9,14 @@ use Rattle.lint_ignore.specs.sql_tree.Statement.{Tree}
 use Rattle.lint_report.specs.lint_base.declared.rule.Rule.{Rule}
 use Rattle.lint_report.specs.lint_base.declared.rule.Rule.TheVariants as rule
 use Rattle.lint_report.specs.lint_base.declared.settings.LinterSettings.{LinterSettings}
+use Rattle.lint_report.specs.lint_base.declared.violation.Violation.{Violation}
 use Rattle.lint_report.specs.declared.fix_class.FixClass.{FixClass}
-use Rattle.lint_report.specs.declared.fix_class.FixClass.TheVariants.{Safe, Unsafe}
+use Rattle.lint_report.specs.declared.fix_class.FixClass.TheVariants.{Safe, Unsafe, Template}
 use Rattle.lint_transaction.specs.Earlier.{any_below}
 use Rattle.lint_transaction.specs.Transaction.{no_stmt, stmt_at}
 use Rattle.statement_place.specs.Statements.{number_behind}
 use Rattle.fix_class.specs.declared.known.Known.{Known}
-use Rattle.fix_class.specs.Classes.{class_by, class_of, class_unless, is_glued, is_no_build, is_no_drop, is_no_rebuild, is_out_of_place}
+use Rattle.fix_class.specs.Classes.{class_at, class_by, class_by_bytes, class_of, class_unless, is_ascii_in, is_glued, is_no_build, is_no_drop, is_no_rebuild, is_out_of_place}
 use Rattle.fix_class.specs.Known.{is_outside_work, known_at, limits}
 use Rattle.fix_class.specs.Laws.{ConcurrentFixesAreAlone, IsAlone, IsConcurrentRule, IsTimeoutRule, SafeFixesCutNames, TimeoutFixesSpareOutsideWork}
 
@@ -88,29 +89,55 @@ alone settings tree i h =
     let both = or_parts _ _ h in
     record { outside = both.0; unlimited = none_below (λ j. limits tree (stmt_at tree j)) i both.1 }
 
--- ---- the laws
+-- ---- by place and bytes
 
 -- what is offered is not glued to a mark, and is by the statement
 by_place : (glued : Bool) (there : Option FixClass) (class : FixClass) → (if glued then None else there) ≡ Some class → (glued ≡ false) × (there ≡ Some class)
 by_place true there class h = absurd (cc)
 by_place false there class h = (refl, h)
 
+safe_by_bytes : (ascii : Bool) (there : Option FixClass) → class_by_bytes ascii there ≡ Some Safe → (ascii ≡ true) × (there ≡ Some Safe)
+safe_by_bytes true (Some Safe) h = (refl, refl)
+safe_by_bytes false (Some Safe) h = absurd (cc)
+safe_by_bytes ascii (Some Unsafe) h = absurd (cc)
+safe_by_bytes ascii (Some Template) h = absurd (cc)
+safe_by_bytes ascii None h = absurd (cc)
+
+-- a class, whichever it is
+record Offered (there : Option FixClass) : Type 0 where
+  class : FixClass
+  is : there ≡ Some class
+
+offered_by_bytes : (ascii : Bool) (there : Option FixClass) (class : FixClass) → class_by_bytes ascii there ≡ Some class → Offered there
+offered_by_bytes ascii None class h = absurd (cc)
+offered_by_bytes ascii (Some found) class h = record { class = found; is = refl }
+
+-- the fix is offered by the statement
+offered_there : (settings : LinterSettings) (tree : Tree) (v : Violation) (class : FixClass) → class_of settings tree v ≡ Some class
+    → Offered (class_at settings tree v.code (number_behind tree v.text_range.start))
+unfolding class_of
+offered_there settings tree v class h =
+    offered_by_bytes (is_ascii_in tree.text v.text_range) _ class (by_place (is_glued tree.text v.text_range) _ class h).1
+
+-- ---- the laws
+
 pub safe_fixes_cut_names : SafeFixesCutNames
 unfolding class_of
 safe_fixes_cut_names settings tree v h =
     let i = number_behind tree v.text_range.start in
     let both = by_place (is_glued tree.text v.text_range) _ Safe h in
+    let safe = safe_by_bytes (is_ascii_in tree.text v.text_range) _ both.1 in
     record {
-      rule_is = safe_by v.code (known_at settings tree i) tree (stmt_at tree i) (at_statement _ _ Safe both.1);
+      rule_is = safe_by v.code (known_at settings tree i) tree (stmt_at tree i) (at_statement _ _ Safe safe.1);
       apart = both.0;
+      ascii = safe.0;
     }
 
 pub concurrent_fixes_are_alone : ConcurrentFixesAreAlone
-unfolding class_of
 concurrent_fixes_are_alone settings tree v class r h =
     let i = number_behind tree v.text_range.start in
-    let both = by_place (is_glued tree.text v.text_range) _ class h in
-    alone settings tree i (out_of_place_by v.code (known_at settings tree i) tree (stmt_at tree i) class r (at_statement _ _ class both.1))
+    let there = offered_there settings tree v class h in
+    alone settings tree i (out_of_place_by v.code (known_at settings tree i) tree (stmt_at tree i) there.class r (at_statement _ _ there.class there.is))
 
 no_work : (settings : LinterSettings) (tree : Tree) (i : ℕ) → (known_at settings tree i).has_outside_work ≡ false → list_any is_outside_work tree.stmts ≡ false
 unfolding known_at
@@ -124,9 +151,8 @@ none_at tree j l h =
     ]
 
 pub timeout_fixes_spare_outside_work : TimeoutFixesSpareOutsideWork
-unfolding class_of
 timeout_fixes_spare_outside_work settings tree v class r h j l =
     let i = number_behind tree v.text_range.start in
-    let both = by_place (is_glued tree.text v.text_range) _ class h in
+    let there = offered_there settings tree v class h in
     none_at tree j l
-    (no_work settings tree i (no_work_by v.code (known_at settings tree i) tree (stmt_at tree i) class r (at_statement _ _ class both.1)))
+    (no_work settings tree i (no_work_by v.code (known_at settings tree i) tree (stmt_at tree i) there.class r (at_statement _ _ there.class there.is)))

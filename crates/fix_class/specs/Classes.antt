@@ -3,9 +3,9 @@
 -- A fix is safe where the text does the same on every server, whoever else is connected, and however the file is sent. Of all rules that holds of
 -- one. What is offered beside it is unsafe: it may fail, wait, or change what the text means, so somebody looks at it. Where it always fails, or leaves
 -- what a hazard reports, it is not offered.
-use Rattle.std.specs.Prelude.{ℕ, ◌-◌, pos, Bool, true, false, not, ◌&&◌, ◌||◌, List, length, codes, nat_eq, nat_lt, slice_get, is_some, Option, Some, None, if◌then◌else◌}
+use Rattle.std.specs.Prelude.{ℕ, ◌-◌, pos, Bool, true, false, not, ◌&&◌, ◌||◌, List, length, take, drop, codes, nat_eq, nat_le, nat_lt, slice_get, is_some, Option, Some, None, if◌then◌else◌}
 use Rattle.std.specs.Int.Signed.{le_z}
-use Rattle.std.specs.List.{starts_with}
+use Rattle.std.specs.List.{list_all, starts_with}
 use Rattle.lint_report.specs.text_pos.Range.{Range}
 use Rattle.lint_ignore.specs.sql_token.declared.token.Span.{Span}
 use Rattle.lint_ignore.specs.sql_token.Token.{Text, text_of}
@@ -115,14 +115,32 @@ abbrev pub is_byte : ℕ → Option ℕ → Bool
 is_byte byte None = false
 is_byte byte (Some b) = nat_eq b byte
 
--- The byte before this place is a colon or a double quote: what begins here is the name of a variable of psql, or goes on from a name.
+-- a colon, a question mark or a double quote
+abbrev pub is_mark : Option ℕ → Bool
+is_mark found = is_byte 58 found || is_byte 63 found || is_byte 34 found
+
+-- The byte before this place is such a mark: what begins here is the name of a variable of psql (`:name`, `:{?name}`), or goes on from a name.
 abbrev pub is_behind_mark : Text → ℕ → Bool
-is_behind_mark text start = nat_lt 0 start && (is_byte 58 (slice_get text (start - 1)) || is_byte 34 (slice_get text (start - 1)))
+is_behind_mark text start = nat_lt 0 start && is_mark (slice_get text (start - 1))
 
 -- such a mark is right before these bytes, or a double quote is right behind them
 abbrev pub is_glued : Text → Range → Bool
 is_glued text range = is_behind_mark text range.start || is_byte 34 (slice_get text range.end)
 
--- the class of the fix of a report, by its rule and by the statement that it begins in; without one the fix is not offered
+abbrev pub is_ascii_byte : ℕ → Bool
+is_ascii_byte b = nat_lt b 128
+
+-- these bytes are in the text, and all of them are ASCII
+abbrev pub is_ascii_in : Text → Range → Bool
+is_ascii_in text range = nat_le range.end (length text) && list_all is_ascii_byte (take (range.end - range.start) (drop range.start text))
+
+-- A safe fix of other bytes is unsafe: how many bytes they are to the server hangs on the encoding of the database.
+abbrev pub class_by_bytes : Bool → Option FixClass → Option FixClass
+class_by_bytes is_ascii (Some Safe) = if is_ascii then Some Safe else Some Unsafe
+class_by_bytes is_ascii class = class
+
+-- the class of the fix of a report, by its rule, by the statement that it begins in and by its bytes; without one the fix is not offered
 unfoldable pub class_of : LinterSettings → Tree → Violation → Option FixClass
-class_of settings tree v = if is_glued tree.text v.text_range then None else class_at settings tree v.code (number_behind tree v.text_range.start)
+class_of settings tree v =
+    if is_glued tree.text v.text_range then None
+    else class_by_bytes (is_ascii_in tree.text v.text_range) (class_at settings tree v.code (number_behind tree v.text_range.start))

@@ -1,5 +1,5 @@
 -- Laws of the classes: what holds of the text around a statement whose fix is safe, or is offered at all.
-use Rattle.std.specs.Prelude.{◌≡◌, ◌<◌, ℕ, false, length, Some}
+use Rattle.std.specs.Prelude.{◌≡◌, ◌<◌, ℕ, true, false, length, Some}
 use Rattle.lint_ignore.specs.sql_tree.Statement.{Tree}
 use Rattle.lint_report.specs.lint_base.declared.rule.Rule.{Rule}
 use Rattle.lint_report.specs.lint_base.declared.rule.Rule.TheVariants as rule
@@ -9,15 +9,16 @@ use Rattle.lint_report.specs.declared.fix_class.FixClass.{FixClass}
 use Rattle.lint_report.specs.declared.fix_class.FixClass.TheVariants.{Safe}
 use Rattle.lint_transaction.specs.Transaction.{is_open, stmt_at}
 use Rattle.statement_place.specs.Statements.{number_behind}
-use Rattle.fix_class.specs.Classes.{class_of, is_glued}
+use Rattle.fix_class.specs.Classes.{class_of, is_ascii_in, is_glued}
 use Rattle.fix_class.specs.Known.{is_assumed, is_outside_work, limits}
 
 -- ---- safe fixes
 
--- The fix cuts a name that is too long, as PostgreSQL itself does, and the name is no variable of psql and no part of another name.
+-- The fix cuts a name that is too long, as PostgreSQL itself does; the name is no variable of psql, no part of another name, and written in ASCII.
 pub record IsNameCut (tree : Tree) (v : Violation) : Type 0 where
   pub rule_is : v.code ≡ rule.IdentifierTooLong
   pub apart : is_glued tree.text v.text_range ≡ false
+  pub ascii : is_ascii_in tree.text v.text_range ≡ true
 
 -- A safe fix is such a cut.
 abbrev pub SafeFixesCutNames : Type 0

@@ -1,5 +1,6 @@
 //! The classes.
 ghost use Rattle.std.specs.Prelude.{◌≡◌, IfOk, option_map};
+ghost use Rattle.std.specs.List.{list_all};
 ghost use Rattle.lint_report.specs.lint_base.declared.settings.LinterSettings.{LinterSettings};
 ghost use Rattle.fix_class.specs.Classes as spec;
 ghost use Rattle.fix_class.specs.Known.{AreKnown};
@@ -173,13 +174,19 @@ fn is_byte(byte: u8, found: Option<&u8>) -> bool
     }
 }
 
-// Whether a colon or a double quote is right before a byte.
+// Whether it is a colon, a question mark or a double quote.
+fn is_mark(found: Option<&u8>) -> bool
+    ensures { result ≡ spec.is_mark (option_map (λ b. b.now) found.entry) }
+{
+    is_byte(b':', found) || is_byte(b'?', found) || is_byte(b'"', found)
+}
+
+// Whether such a mark is right before a byte.
 fn is_behind_mark(text: &str, start: TextSize) -> bool
     ensures { result ≡ spec.is_behind_mark text.now start }
 {
     let start = start.raw() as usize;
-    let bytes = text.as_bytes();
-    start > 0 && (is_byte(b':', bytes.get(start - 1)) || is_byte(b'"', bytes.get(start - 1)))
+    start > 0 && is_mark(text.as_bytes().get(start - 1))
 }
 
 // Whether such a mark is right before a range, or a double quote right behind it.
@@ -188,6 +195,32 @@ fn is_glued(text: &str, range: TextRange) -> bool
 {
     is_behind_mark(text, range.start())
         || is_byte(b'"', text.as_bytes().get(range.end().raw() as usize))
+}
+
+fn is_ascii(bytes: &[u8]) -> bool
+    ensures { result ≡ list_all spec.is_ascii_byte bytes.now }
+{
+    bytes.iter().all(|byte| *byte < 128)
+}
+
+// Whether the bytes of a range are in a text, and all of them are ASCII.
+fn is_ascii_in(text: &str, range: TextRange) -> bool
+    ensures { result ≡ spec.is_ascii_in text.now range }
+{
+    let bytes = text.as_bytes();
+    let start = range.start().raw() as usize;
+    let end = range.end().raw() as usize;
+    end <= bytes.len() && is_ascii(&bytes[start..end])
+}
+
+// A safe fix of bytes that are not all ASCII is unsafe.
+fn class_by_bytes(is_ascii: bool, class: Option<FixClass>) -> Option<FixClass>
+    ensures { result ≡ spec.class_by_bytes is_ascii class }
+{
+    match class {
+        Some(FixClass::Safe) if !is_ascii => Some(FixClass::Unsafe),
+        _ => class,
+    }
 }
 
 impl FixClasses {
@@ -226,6 +259,7 @@ impl FixClasses {
         if is_glued(p.text(), v.text_range) {
             return None;
         }
-        self.class_at(p, v.code, number)
+        let class = self.class_at(p, v.code, number);
+        class_by_bytes(is_ascii_in(p.text(), v.text_range), class)
     }
 }

@@ -1,2 +1,4 @@
+pub mod Moving
 pub mod Placing
+pub mod Putting
 pub mod Names

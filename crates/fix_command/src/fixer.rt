@@ -1,12 +1,14 @@
 //! The linter as what fixes texts.
 ghost use Rattle.std.specs.Prelude.{◌≡◌, ◌<◌, ◌^◌, Bool, IfOk, length};
-ghost use Rattle.fix_command.specs.Fixes.{IsAnswerOf};
+ghost use Rattle.fix_command.specs.Fixes.{IsAnswerFor, IsAnswerOf};
 ghost use Rattle.fix_asked.specs.fix_run.Outcomes.{IsPlacedIn};
 ghost use Rattle.fix_text.specs.squawk_linter.declared.linter.Linter.{Linter as AnyLinter};
 ghost use Rattle.fix_text.specs.sql_read.Cause.{IsCause};
 
+use crate::beside::outcome_beside;
 use fix_asked::{Choices, Chosen, Fixer, NoMemory, Refusal, TextOutcome, TextSize};
 use fix_text::{LintError, Linter, LinterSettings, Names, Text, fix_text};
+use psql_edit::without_psql;
 use std::alloc::Global;
 
 /// A linter that fixes texts. No text changes it.
@@ -52,7 +54,7 @@ fn copied(alloc: Global, linter: &Linter) -> Result<Linter, NoMemory>
     })
 }
 
-// What comes of a text that is refused.
+// What comes of a text of SQL that is refused.
 #[tactic(auto, using(crate::proofs::Placing::open_in, crate::proofs::Placing::syntax_in))]
 fn refused(text: &str, error: LintError) -> Result<TextOutcome, NoMemory>
     requires short { length text.now < 2 ^ 32 }
@@ -72,7 +74,7 @@ fn refused(text: &str, error: LintError) -> Result<TextOutcome, NoMemory>
     }
 }
 
-// What comes of a text. The linter is not to be used again.
+// What comes of a text of SQL. The linter is not to be used again.
 fn outcome_of(
     alloc: Global,
     linter: &mut Linter,
@@ -95,12 +97,30 @@ fn outcome_of(
     }
 }
 
+// What comes of a text, by what of it is no SQL to psql. The linter is not to be used again.
+fn answer(
+    alloc: Global,
+    linter: &mut Linter,
+    wide: bool,
+    text: &str,
+) -> Result<TextOutcome, NoMemory>
+    requires { length text.now < 2 ^ 32 }
+    ensures answer { IfOk result (IsAnswerFor wide linter.old text.now) }
+    ensures placed { IfOk result (IsPlacedIn text.now) }
+{
+    let found = without_psql(alloc, text)?;
+    match found {
+        None => outcome_of(alloc, linter, wide, text),
+        Some(read) => outcome_beside(alloc, linter, wide, text, read.first, read.text.as_str()),
+    }
+}
+
 impl Fixer for FixLinter {
-    ghost answers = { λ fixer text made. IsAnswerOf fixer.with_unsafe fixer.linter text made };
+    ghost answers = { λ fixer text made. IsAnswerFor fixer.with_unsafe fixer.linter text made };
 
     fn fix(&self, alloc: Global, text: &str) -> Result<TextOutcome, NoMemory> {
         let mut linter = copied(alloc, &self.linter)?;
-        outcome_of(alloc, &mut linter, self.with_unsafe, text)
+        answer(alloc, &mut linter, self.with_unsafe, text)
     }
 }
 

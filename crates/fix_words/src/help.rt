@@ -7,8 +7,9 @@ pub const HELP: &str =
 Usage: lavkheto fix [OPTIONS] [FILES]..
 
 FILES are files, and folders for all *.sql files in them, in order of their names. Without FILES, or with - alone, standard input is fixed.
-A fix is safe, unsafe or a template (docs/RULES.md has the class of each). The safe ones are made. A template has a part that is to be
-filled in and is never made; lavkheto check shows it. Beside a command of psql, a line that begins with a backslash, no fix is safe.
+A fix is safe, unsafe or a template (docs/RULES.md has the class of each). No rule whose fixes are made here has a safe one, so without
+--unsafe nothing is changed. A template has a part that is to be filled in and is never made; lavkheto check shows it. Lines for psql,
+which are its commands and the rows of COPY, stay as they are; where a fix would change one, the file is refused as one that can't be parsed.
 Fix only new migrations: one that was applied must not be changed, since Flyway, Liquibase, Prisma and sqlx compare checksums.
 
   --write                  write the files in place of printing a diff; what is made of standard input goes to standard output
@@ -31,8 +32,8 @@ Status: 0 nothing is to be fixed, or all is written; 1 a diff was printed; 2 a w
 4 a file can't be parsed; 5 a file can't be read; 6 a write failed; 7 out of memory. The greatest of those that apply.
 
 Examples:
-  lavkheto fix migrations
-  lavkheto fix --write migrations/2.sql
   lavkheto fix --unsafe migrations | less
-  lavkheto fix --write < old.sql > new.sql
+  lavkheto fix --unsafe --write migrations/2.sql
+  lavkheto fix --unsafe --only prefer-text-field migrations
+  lavkheto fix --unsafe --write < old.sql > new.sql
 ";

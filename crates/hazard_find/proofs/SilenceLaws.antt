@@ -22,10 +22,11 @@ use Rattle.hazard_base.specs.HazardSets.{has}
 use Rattle.hazard_find.specs.declared.here.Here.{Here}
 use Rattle.hazard_find.specs.Columns.{added_json, is_scanned}
 use Rattle.hazard_find.specs.Earlier.{is_assumed, is_dropped_index, is_made_view, is_old, is_under_timeout, refreshed_view}
-use Rattle.hazard_find.specs.Findings.{action_findings, action_range, action_rewrite_finding, built_under_timeout, builds, check_added, check_finding, check_findings, detach_finding, enabled_of, findings_at, findings_by, findings_of, in_transaction, index_kept, json_added, json_at, json_finding, keeps, kept_finding, refresh_blocks, refresh_finding, refreshes, refused_finding, refused_in, rewrite_finding, rewritten, serial_added, serial_finding, some_if, statement_findings, timeout_finding}
+use Rattle.hazard_find.specs.Findings.{action_findings, action_range, action_rewrite_finding, built_under_timeout, builds, check_added, check_finding, check_findings, detach_finding, enabled_of, findings_at, findings_by, findings_of, in_transaction, index_kept, json_added, json_at, json_finding, kept_finding, refresh_blocks, refresh_finding, refreshes, refused_finding, refused_in, rewrite_finding, rewritten, serial_added, serial_finding, some_if, statement_findings, timeout_finding}
 use Rattle.lint_ignore.specs.sql_tree.Range.{stmt_range_of}
+use Rattle.hazard_find.specs.Guards.{is_guarded, keeps}
 use Rattle.hazard_find.specs.Here.{has_more, index_of, known_at, table_of}
-use Rattle.hazard_find.specs.Laws.{BuildsAreUnlimited, ColumnsAreNoJson, ColumnsAreUnchecked, IndexesAreDroppedFirst, IsSilent, TablesAreKept, TransactionsAreKept, ViewsAreMadeFirst, is_of}
+use Rattle.hazard_find.specs.Laws.{BuildsAreUnlimited, ColumnsAreNoJson, ColumnsAreUnchecked, IndexesAreDroppedOrGuarded, IsSilent, TablesAreKept, TransactionsAreKept, ViewsAreMadeFirst, is_of}
 use Rattle.hazard_find.specs.Refused.{detaches, refused}
 use Rattle.hazard_find.specs.Rewrites.{action_rewrites, adds_serial}
 
@@ -217,7 +218,8 @@ module _ (settings : LinterSettings) (tree : Tree) (i : ℕ) where
   unfolding known_at
   timeout_known = refl
 
-  index_known : (known_at settings tree i).is_dropped_index ≡ is_dropped_index tree i (index_of (stmt_at tree i))
+  index_known : ((known_at settings tree i).is_dropped_index || (known_at settings tree i).is_guarded)
+      ≡ (is_dropped_index tree i (index_of (stmt_at tree i)) || is_guarded tree i (index_of (stmt_at tree i)))
   unfolding known_at
   index_known = refl
 
@@ -275,10 +277,11 @@ builds_none enabled known tree s on limited outside quiet =
     (no_one hazard.BuildUnderTimeout enabled (known.is_under_timeout && not known.is_inside && builds s) _ on refl quiet)
 
 keeps_none : (enabled : HazardSet) (known : Here) (tree : Tree) (s : Stmt) → has enabled hazard.InvalidIndexKept ≡ true → keeps s ≡ true
-    → list_any (is_of hazard.InvalidIndexKept) (enabled_of enabled (kept_finding known tree s)) ≡ false → known.is_dropped_index ≡ true
+    → list_any (is_of hazard.InvalidIndexKept) (enabled_of enabled (kept_finding known tree s)) ≡ false → (known.is_dropped_index || known.is_guarded) ≡ true
 unfolding kept_finding index_kept
 keeps_none enabled known tree s on kept quiet =
-    first_on known.is_dropped_index (keeps s) kept (no_one hazard.InvalidIndexKept enabled (not known.is_dropped_index && keeps s) _ on refl quiet)
+    first_on (known.is_dropped_index || known.is_guarded) (keeps s) kept
+    (no_one hazard.InvalidIndexKept enabled (not (known.is_dropped_index || known.is_guarded) && keeps s) _ on refl quiet)
 
 refreshes_none : (enabled : HazardSet) (known : Here) (tree : Tree) (s : Stmt) → has enabled hazard.RefreshBlocksReads ≡ true → refreshes s ≡ true
     → list_any (is_of hazard.RefreshBlocksReads) (enabled_of enabled (refresh_finding known tree s)) ≡ false → known.is_made_view ≡ true
@@ -327,8 +330,8 @@ builds_are_unlimited enabled settings tree silent i l limited outside =
     builds_none enabled known tree (stmt_at tree i) silent.enabled_here (timeout_known settings tree i ∙ limited) (inside_known settings tree i ∙ outside)
     (timeout_quiet h enabled known tree (stmt_at tree i) (at_statement h enabled settings tree silent i l))
 
-pub indexes_are_dropped_first : IndexesAreDroppedFirst
-indexes_are_dropped_first enabled settings tree silent i l kept =
+pub indexes_are_dropped_or_guarded : IndexesAreDroppedOrGuarded
+indexes_are_dropped_or_guarded enabled settings tree silent i l kept =
     let h = hazard.InvalidIndexKept in
     let known : Here = known_at settings tree i in
     sym (index_known settings tree i)

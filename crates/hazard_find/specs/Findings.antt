@@ -1,5 +1,5 @@
 -- What is found in a text.
-use Rattle.std.specs.Prelude.{ℕ, Bool, false, not, ◌&&◌, List, [], ◌∷◌, ◌++◌, codes, length, is_some, Option, Some, None, if◌then◌else◌}
+use Rattle.std.specs.Prelude.{ℕ, Bool, false, not, ◌&&◌, ◌||◌, List, [], ◌∷◌, ◌++◌, codes, length, is_some, Option, Some, None, if◌then◌else◌}
 use Rattle.std.specs.List.{flat_map}
 use Rattle.std.specs.Option.{option_map}
 use Rattle.hazard_base.specs.text_pos.Range.{Range}
@@ -25,6 +25,7 @@ use Rattle.hazard_base.specs.declared.hazard_set.HazardSet.{HazardSet}
 use Rattle.hazard_base.specs.HazardSets.{has}
 use Rattle.hazard_find.specs.declared.here.Here.{Here}
 use Rattle.hazard_find.specs.Columns.{added_json, is_scanned}
+use Rattle.hazard_find.specs.Guards.{keeps}
 use Rattle.hazard_find.specs.Here.{known_at}
 use Rattle.hazard_find.specs.Refused.{detaches, refused}
 use Rattle.hazard_find.specs.Rewrites.{action_rewrites, adds_serial, rewrites}
@@ -84,7 +85,7 @@ index_kept range = record {
   range = range;
   message = codes "after a failed build `if not exists` keeps the invalid index";
   note = None;
-  help = Some (codes "`drop index concurrently if exists i;` before it");
+  help = Some (codes "after it, a `do` block that stops where `indisvalid` is false; then `reindex index concurrently i`");
 }
 
 unfoldable pub refresh_blocks : Range → Finding
@@ -117,14 +118,6 @@ builds_by kind _ = false
 unfoldable pub builds : Stmt → Bool
 builds s = builds_by s.kind s.body
 
-abbrev pub keeps_by : Body → Bool
-keeps_by (body.Index word unique concurrently guarded name path) = is_some concurrently && guarded
-keeps_by _ = false
-
--- CREATE INDEX CONCURRENTLY IF NOT EXISTS
-unfoldable pub keeps : Stmt → Bool
-keeps s = keeps_by s.body
-
 abbrev pub refreshes_by : Body → Bool
 refreshes_by (body.Refresh concurrently) = not concurrently
 refreshes_by _ = false
@@ -150,7 +143,7 @@ unfoldable pub timeout_finding : Here → Tree → Stmt → Option Finding
 timeout_finding known tree s = some_if (known.is_under_timeout && not known.is_inside && builds s) (built_under_timeout (stmt_range_of tree.toks s))
 
 unfoldable pub kept_finding : Here → Tree → Stmt → Option Finding
-kept_finding known tree s = some_if (not known.is_dropped_index && keeps s) (index_kept (stmt_range_of tree.toks s))
+kept_finding known tree s = some_if (not (known.is_dropped_index || known.is_guarded) && keeps s) (index_kept (stmt_range_of tree.toks s))
 
 unfoldable pub refresh_finding : Here → Tree → Stmt → Option Finding
 refresh_finding known tree s = some_if (not known.is_made_view && refreshes s) (refresh_blocks (stmt_range_of tree.toks s))

@@ -1,4 +1,4 @@
--- What is known of a statement by the settings and by the statements before it.
+-- What is known of a statement by the settings and by the statements before it, and by the ones that look at its index later.
 use Rattle.std.specs.Prelude.{ℕ, pos, Bool, not, nat_lt, length, slice_index_or, Option, Some, None, if◌then◌else◌}
 use Rattle.std.specs.Int.Signed.{le_z}
 use Rattle.lint_ignore.specs.sql_token.declared.token.Span.{Span}
@@ -11,6 +11,7 @@ use Rattle.lint_node.specs.Altered.{altered_path}
 use Rattle.lint_transaction.specs.Transaction.{is_open, stmt_at}
 use Rattle.hazard_find.specs.declared.here.Here.{Here}
 use Rattle.hazard_find.specs.Earlier.{is_assumed, is_dropped_index, is_made_view, is_old, is_under_timeout, refreshed_view}
+use Rattle.hazard_find.specs.Guards.{is_guarded}
 
 abbrev pub table_by : Stmt → Body → Option Span
 table_by s (body.Cluster table index) = table
@@ -48,6 +49,7 @@ known_at settings tree i = record {
   has_repack = has_repack settings;
   is_old = is_old (is_assumed settings tree) tree i (table_of (stmt_at tree i));
   is_dropped_index = is_dropped_index tree i (index_of (stmt_at tree i));
+  is_guarded = is_guarded tree i (index_of (stmt_at tree i));
   is_made_view = is_made_view tree i (refreshed_view tree (stmt_at tree i));
   is_under_timeout = is_under_timeout tree i;
 }

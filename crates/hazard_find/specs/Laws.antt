@@ -1,5 +1,5 @@
 -- What it means that a hazard is enabled and not found in a text.
-use Rattle.std.specs.Prelude.{◌≡◌, ◌<◌, ℕ, Bool, true, false, length, None, Contains}
+use Rattle.std.specs.Prelude.{◌≡◌, ◌<◌, ℕ, Bool, true, false, ◌||◌, length, None, Contains}
 use Rattle.std.specs.List.{list_any}
 use Rattle.lint_ignore.specs.sql_tree.declared.nodes.Action.{Action}
 use Rattle.lint_ignore.specs.sql_tree.declared.nodes.Constraint.{Constraint}
@@ -15,7 +15,8 @@ use Rattle.hazard_base.specs.Hazards.{same_hazard}
 use Rattle.hazard_base.specs.HazardSets.{has}
 use Rattle.hazard_find.specs.Columns.{added_json, is_scanned}
 use Rattle.hazard_find.specs.Earlier.{is_assumed, is_dropped_index, is_made_view, is_old, is_under_timeout, refreshed_view}
-use Rattle.hazard_find.specs.Findings.{builds, findings_of, keeps, refreshes}
+use Rattle.hazard_find.specs.Findings.{builds, findings_of, refreshes}
+use Rattle.hazard_find.specs.Guards.{is_guarded, keeps}
 use Rattle.hazard_find.specs.Here.{has_more, index_of, table_of}
 use Rattle.hazard_find.specs.Refused.{detaches, refused}
 use Rattle.hazard_find.specs.Rewrites.{action_rewrites, adds_serial}
@@ -56,11 +57,13 @@ BuildsAreUnlimited =
     → (i : ℕ) → i < length tree.stmts → is_under_timeout tree i ≡ true → is_open (is_assumed settings tree) tree i ≡ false
     → builds (stmt_at tree i) ≡ false
 
--- Before each CREATE INDEX CONCURRENTLY IF NOT EXISTS the index is dropped, if it is there.
-abbrev pub IndexesAreDroppedFirst : Type 0
-IndexesAreDroppedFirst =
+-- Before each CREATE INDEX CONCURRENTLY IF NOT EXISTS the index is dropped, if it is there, or a statement after it looks whether the
+-- index is valid.
+abbrev pub IndexesAreDroppedOrGuarded : Type 0
+IndexesAreDroppedOrGuarded =
     (enabled : HazardSet) (settings : LinterSettings) (tree : Tree) → IsSilent hazard.InvalidIndexKept enabled settings tree
-    → (i : ℕ) → i < length tree.stmts → keeps (stmt_at tree i) ≡ true → is_dropped_index tree i (index_of (stmt_at tree i)) ≡ true
+    → (i : ℕ) → i < length tree.stmts → keeps (stmt_at tree i) ≡ true
+    → (is_dropped_index tree i (index_of (stmt_at tree i)) || is_guarded tree i (index_of (stmt_at tree i))) ≡ true
 
 -- Each view that is filled anew without CONCURRENTLY was made by the text itself.
 abbrev pub ViewsAreMadeFirst : Type 0

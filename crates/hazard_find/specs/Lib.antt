@@ -1,11 +1,13 @@
 pub mod Columns
 pub mod Earlier
 pub mod Findings
+pub mod Guards
 pub mod Here
 pub mod Laws
 pub mod Look
 pub mod Refused
 pub mod Rewrites
+pub mod Shown
 pub mod Timeouts
 pub mod Walk
 pub use Rattle.hazard_base.specs as hazard_base

@@ -1,10 +1,11 @@
 //! The findings of each hazard.
 
-ghost use Rattle.std.specs.Prelude.{◌≡◌, ◌&&◌, not};
+ghost use Rattle.std.specs.Prelude.{◌≡◌, ◌&&◌, ◌||◌, not};
 ghost use Rattle.hazard_base.specs.text_pos.Range.{Range};
 ghost use Rattle.hazard_find.specs.Findings as spec;
 
 use crate::columns::{added_json, is_scanned};
+use crate::guards::keeps;
 use crate::here::Here;
 use crate::refused::{detaches, refused};
 use crate::rewrites::{action_rewrites, adds_serial, rewrites};
@@ -41,7 +42,8 @@ const TIMEOUT_HELP: &str =
 
 const KEPT: &str = "after a failed build `if not exists` keeps the invalid index";
 
-const KEPT_HELP: &str = "`drop index concurrently if exists i;` before it";
+const KEPT_HELP: &str =
+    "after it, a `do` block that stops where `indisvalid` is false; then `reindex index concurrently i`";
 
 const REFRESH: &str = "readers of the view wait until its query has run";
 
@@ -172,21 +174,6 @@ fn builds(s: &Stmt) -> bool
     }
 }
 
-/// Whether a statement is CREATE INDEX CONCURRENTLY IF NOT EXISTS.
-#[tactic(auto, unfolding(crate::specs::Findings::keeps))]
-fn keeps(s: &Stmt) -> bool
-    ensures { result ≡ spec.keeps s.now }
-{
-    match s.body {
-        Body::Index {
-            concurrently,
-            guarded,
-            ..
-        } => concurrently.is_some() && guarded,
-        _ => false,
-    }
-}
-
 /// Whether a statement is REFRESH MATERIALIZED VIEW without CONCURRENTLY.
 #[tactic(auto, unfolding(crate::specs::Findings::refreshes))]
 fn refreshes(s: &Stmt) -> bool
@@ -242,7 +229,7 @@ pub(crate) fn timeout_finding(here: Here, p: &Parse<'_>, s: &Stmt) -> Option<Fin
 pub(crate) fn kept_finding(here: Here, p: &Parse<'_>, s: &Stmt) -> Option<Finding>
     ensures { result ≡ spec.kept_finding here p.now s.now }
 {
-    if !here.is_dropped_index && keeps(s) {
+    if !(here.is_dropped_index || here.is_guarded) && keeps(s) {
         Some(index_kept(p.stmt_range(s)))
     } else {
         None

@@ -1,12 +1,14 @@
-//! What is known of a statement by the settings and by the statements before it.
+//! What is known of a statement by the settings and by the statements before it, and by the ones that look at its index later.
 
 ghost use Rattle.std.specs.Prelude.{◌≡◌, ℕ};
 ghost use Rattle.lint_transaction.specs.Transaction.{stmt_at};
 ghost use Rattle.hazard_find.specs.Earlier.{is_assumed};
+ghost use Rattle.hazard_find.specs.Guards as later;
 ghost use Rattle.hazard_find.specs.Here as spec;
 ghost use Rattle.hazard_find.specs.Walk.{IsKept};
 
 use crate::earlier::{Earlier, refreshed_view};
+use crate::guards::{Look, is_guarded};
 use hazard_base::LinterSettings;
 use lint_ignore::{Body, Parse, Span, Stmt, has_disable_assume_in_transaction};
 use lint_node::altered_path;
@@ -27,6 +29,8 @@ pub(crate) struct Here {
     pub is_old: bool,
     /// An earlier statement drops the index that it names, if it is there.
     pub is_dropped_index: bool,
+    /// A later statement looks whether that index is valid.
+    pub is_guarded: bool,
     /// An earlier statement makes the view that it fills anew.
     pub is_made_view: bool,
     /// A timeout that the text set can cancel it.
@@ -91,12 +95,14 @@ fn has_more(p: &Parse<'_>) -> bool
 #[tactic(auto, unfolding(crate::specs::Here::known_at))]
 pub(crate) fn known_at(
     earlier: &Earlier,
+    looks: &[Look],
     p: &Parse<'_>,
     set: &LinterSettings,
     i: usize,
     s: &Stmt,
 ) -> Here
-    requires { s.now ≡ stmt_at p.now i }
+    requires statement { s.now ≡ stmt_at p.now i }
+    requires looks { looks.now ≡ later.looks p.now }
     ensures { IsKept p.now (is_assumed set.now p.now) i earlier.now → result ≡ spec.known_at set.now p.now i }
 {
     Here {
@@ -105,6 +111,7 @@ pub(crate) fn known_at(
         has_repack: has_repack(set),
         is_old: earlier.is_old(p, table_of(s)),
         is_dropped_index: earlier.is_dropped_index(p, index_of(s)),
+        is_guarded: is_guarded(p, looks, i, index_of(s)),
         is_made_view: earlier.is_made_view(p, refreshed_view(p, s)),
         is_under_timeout: earlier.is_under_timeout(),
     }

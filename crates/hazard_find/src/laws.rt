@@ -1,6 +1,6 @@
 //! Laws: what a text does not do in which a hazard is enabled and not found.
 
-ghost use Rattle.hazard_find.specs.Laws.{BuildsAreUnlimited, ColumnsAreNoJson, ColumnsAreUnchecked, IndexesAreDroppedFirst, TablesAreKept, TransactionsAreKept, ViewsAreMadeFirst};
+ghost use Rattle.hazard_find.specs.Laws.{BuildsAreUnlimited, ColumnsAreNoJson, ColumnsAreUnchecked, IndexesAreDroppedOrGuarded, TablesAreKept, TransactionsAreKept, ViewsAreMadeFirst};
 
 /// Where a hazard is enabled and not found, no statement has it.
 pub fn silence_tells()
@@ -8,7 +8,7 @@ pub fn silence_tells()
     ensures tables { TablesAreKept }
     ensures checks { ColumnsAreUnchecked }
     ensures timeouts { BuildsAreUnlimited }
-    ensures indexes { IndexesAreDroppedFirst }
+    ensures indexes { IndexesAreDroppedOrGuarded }
     ensures views { ViewsAreMadeFirst }
     ensures types { ColumnsAreNoJson }
 {}

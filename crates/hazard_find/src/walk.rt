@@ -7,6 +7,7 @@ ghost use Rattle.lint_transaction.specs.Transaction.{stmt_at};
 ghost use Rattle.hazard_find.specs.Earlier.{is_assumed};
 ghost use Rattle.hazard_find.specs.Findings as spec;
 ghost use Rattle.hazard_find.specs.Findings.{enabled_of, findings_of};
+ghost use Rattle.hazard_find.specs.Guards as later;
 ghost use Rattle.hazard_find.specs.Walk.{IsKept};
 
 use crate::earlier::Earlier;
@@ -14,6 +15,7 @@ use crate::finding::{
     action_rewrite_finding, check_finding, detach_finding, json_finding, kept_finding,
     refresh_finding, refused_finding, rewrite_finding, serial_finding, timeout_finding,
 };
+use crate::guards::{Look, find_looks};
 use crate::here::{Here, is_assumed, known_at};
 use hazard_base::{Finding, HazardSet, LinterSettings, NoMemory};
 use lint_ignore::{Action, Constraint, Parse, Stmt};
@@ -124,19 +126,21 @@ fn push_findings(
 fn step(
     list: &mut Vec<Finding>,
     earlier: &mut Earlier,
+    looks: &[Look],
     enabled: &HazardSet,
     p: &Parse<'_>,
     set: &LinterSettings,
     i: usize,
     s: &Stmt,
 ) -> Result<(), NoMemory>
-    requires { s.now ≡ stmt_at p.now i }
+    requires statement { s.now ≡ stmt_at p.now i }
+    requires looks { looks.now ≡ later.looks p.now }
     ensures kept { OnOk result (IsKept p.now (is_assumed set.now p.now) i earlier.old
         → IsKept p.now (is_assumed set.now p.now) (i + 1) earlier.new) }
     ensures found { OnOk result (IsKept p.now (is_assumed set.now p.now) i earlier.old
         → list.new.items ≡ list.old.items ++ spec.findings_at enabled.now set.now p.now i) }
 {
-    push_findings(list, enabled, known_at(earlier, p, set, i, s), p, s)?;
+    push_findings(list, enabled, known_at(earlier, looks, p, set, i, s), p, s)?;
     earlier.update(p, s)
 }
 
@@ -154,9 +158,19 @@ pub fn find(
 {
     let stmts = file.tree().stmts.as_slice();
     let mut earlier = Earlier::new(alloc, is_assumed(file, set));
+    let looks = find_looks(alloc, file)?;
     let mut list = Vec::new(alloc);
     for i in 0..stmts.len() {
-        step(&mut list, &mut earlier, enabled, file, set, i, &stmts[i])?;
+        step(
+            &mut list,
+            &mut earlier,
+            &looks,
+            enabled,
+            file,
+            set,
+            i,
+            &stmts[i],
+        )?;
     }
     Ok(list)
 }

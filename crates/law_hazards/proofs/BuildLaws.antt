@@ -1,10 +1,10 @@
--- Builds that are done CONCURRENTLY have time, and invalid indexes are dropped before them.
-use Rattle.std.proofs.Common.{◌≡◌, ◌⊎◌, ◌∙◌, inl, inr, sym, ap, subst, refl, ℕ, ◌+◌, Bool, true, false, ◌&&◌, ◌||◌, not, cond, List, [], ◌∷◌, codes, drop, Option, Some, None, Contains, eqb-true, option_and_then, option_map}
-use Rattle.std.specs.Prelude.{nat_eq}
+-- Builds that are done CONCURRENTLY have time, and invalid indexes are dropped before them, or looked at after them.
+use Rattle.std.proofs.Common.{◌≡◌, ◌⊎◌, ◌∙◌, inl, inr, sym, ap, subst, refl, arith, ltb-true, ℕ, zero, suc, ◌+◌, ◌<◌, Bool, true, false, ◌&&◌, ◌||◌, not, cond, List, [], ◌∷◌, codes, drop, filter, length, take, Option, Some, None, Contains, eqb-true, option_and_then, option_map}
+use Rattle.std.specs.Prelude.{nat_eq, nat_lt}
 use Rattle.std.specs.List.{list_any}
 use Rattle.std.specs.Str.{bytes_eq}
 use Rattle.std.proofs.lemmas.Bool.{and_parts, and_right, false_from_ne_true, not_from_false, or_cases, or_left, or_parts, or_right, false≢true, true≢false}
-use Rattle.std.proofs.lemmas.List.Folds.{Any-from_list_any}
+use Rattle.std.proofs.lemmas.List.Folds.{Any-from_list_any, list_any-append}
 use Rattle.std.proofs.lemmas.Slice.Eq.{bytes_eq-Decides}
 use Rattle.law_renumber.specs.sql_keyword.declared.words.TheConstants.Keyword as keyword
 use Rattle.law_renumber.specs.sql_keyword.declared.words.Keyword.{Keyword}
@@ -12,6 +12,7 @@ use Rattle.law_renumber.specs.sql_token.declared.token.Span.{Span}
 use Rattle.law_renumber.specs.sql_token.declared.token.Tok.{Tok}
 use Rattle.law_renumber.specs.sql_token.declared.token.TokKind.{TokKind}
 use Rattle.law_renumber.specs.sql_token.declared.token.TokKind.TheVariants as kinds
+use Rattle.law_renumber.specs.sql_token.Terminal.{is_significant_token}
 use Rattle.law_renumber.specs.sql_token.Token.{Text, text_of}
 use Rattle.law_renumber.specs.sql_tree.declared.kinds.StmtKind.{StmtKind}
 use Rattle.law_renumber.specs.sql_tree.declared.kinds.StmtKind.TheVariants as stmt
@@ -21,20 +22,23 @@ use Rattle.law_renumber.specs.sql_tree.declared.nodes.Stmt.{Stmt}
 use Rattle.law_renumber.specs.sql_tree.Range.{token_at}
 use Rattle.law_renumber.specs.sql_tree.Statement.{Tree}
 use Rattle.hazard_find.specs.lint_node.Same.{same_kind}
+use Rattle.hazard_find.specs.lint_transaction.Earlier.{concat_below}
 use Rattle.hazard_find.specs.lint_transaction.Names.{is_one_name, name_at}
 use Rattle.hazard_find.specs.lint_transaction.Transaction.{same_path, stmt_at}
 use Rattle.hazard_find.proofs.of_lint_transaction.EarlierLaws.{and_true}
 use Rattle.hazard_find.proofs.of_lint_transaction.Paths.{same_so}
 use Rattle.hazard_find.specs.hazard_base.declared.hazard.Hazard.TheVariants as hazard
-use Rattle.hazard_find.specs.Earlier.{dropped_by, drops, is_dropped_index, is_limited, is_under_timeout, last_cut, lock_timeout, statement_timeout}
-use Rattle.hazard_find.specs.Findings.{builds, builds_by, keeps, keeps_by}
+use Rattle.hazard_find.specs.Earlier.{dropped_by, drops, is_dropped, is_dropped_index, is_limited, is_under_timeout, last_cut, lock_timeout, statement_timeout}
+use Rattle.hazard_find.specs.Findings.{builds, builds_by}
+use Rattle.hazard_find.specs.Guards.{guards, is_guarded, is_look, is_look_kind, keeps, keeps_by, look_of, looks, tokens_show}
 use Rattle.hazard_find.specs.Here.{index_by, index_of, one_name}
-use Rattle.hazard_find.specs.Laws.{BuildsAreUnlimited, IndexesAreDroppedFirst}
-use Rattle.hazard_find.specs.Look.{after_optional, after_words, path_after, path_at, path_from, says, token_from}
+use Rattle.hazard_find.specs.Laws.{BuildsAreUnlimited, IndexesAreDroppedOrGuarded}
+use Rattle.hazard_find.specs.Look.{after_optional, after_words, path_after, path_at, path_from, says, text_at, token_from}
+use Rattle.hazard_find.specs.Shown.{bare, shows}
 use Rattle.hazard_find.specs.Timeouts.{changes, discards_all, gives_limit, is_bare_zero, is_limit, is_limit_at, is_literal, is_parameter, is_to, is_zero_time, limits, parameter_by, resets, sets, value_after}
-use Rattle.law_hazards.specs.Builds.{IsConcurrent, IsDroppedFirst, IsSomeTime, IsTimeout, IsTo, Sets, SetsTime, Unsets}
+use Rattle.law_hazards.specs.Builds.{HasWord, IsConcurrent, IsDroppedFirst, IsLookedAtLater, IsSomeTime, IsTimeout, IsTo, Sets, SetsTime, Unsets}
 use Rattle.law_hazards.specs.Builds.{IsConcurrent as way, IsTimeout as which, Unsets as ends}
-use Rattle.law_hazards.specs.Laws.{BuildsHaveTime, InvalidIndexesGoFirst}
+use Rattle.law_hazards.specs.Laws.{BuildsHaveTime, InvalidIndexesAreSeen}
 use Rattle.law_hazards.specs.Tables.{names}
 use Rattle.law_hazards.specs.Words.{begin_with, is_key, shown, statement_tokens}
 use Rattle.law_hazards.proofs.Nodes.{both_on, kind_is, kind_on, name_on}
@@ -244,30 +248,129 @@ drop_of p kind _ h = absurd (false≢true h)
 abbrev cut : Tree → ℕ → List (List ℕ)
 cut tree number = names tree (record { first = number; last = number })
 
-dropped_first : (tree : Tree) (i : ℕ) (name : Option ℕ) → is_dropped_index tree i (one_name name) ≡ true → (number : ℕ) × (name ≡ Some number) × IsDroppedFirst tree i number
-unfolding is_dropped_index
-dropped_first tree i None h = absurd (false≢true h)
-dropped_first tree i (Some number) h =
+dropped_first : (tree : Tree) (i number : ℕ) → is_dropped tree (cut tree number) i ≡ true → IsDroppedFirst tree i number
+dropped_first tree i number h =
     let f = found_below (λ j. drops tree (cut tree number) (stmt_at tree j)) i h in
-    let d = drop_of (λ (path : Span). same_path (cut tree number) (last_cut tree path.last)) (stmt_at tree f.number).kind (stmt_at tree f.number).body f.passes in (
-      number,
-      refl,
-      record {
-        number = f.number;
-        word = d.word;
-        concurrently = d.concurrently;
-        paths = d.paths;
-        path = d.path;
-        is_earlier = f.is_below;
-        is_drop = d.is_drop;
-        drops = d.drops_them;
-        has_path = d.has_path;
-        same_name = same_so (cut tree number) (cut tree d.path.last) d.passes;
-      },
-    )
+    let d = drop_of (λ (path : Span). same_path (cut tree number) (last_cut tree path.last)) (stmt_at tree f.number).kind (stmt_at tree f.number).body f.passes in
+    record {
+      number = f.number;
+      word = d.word;
+      concurrently = d.concurrently;
+      paths = d.paths;
+      path = d.path;
+      is_earlier = f.is_below;
+      is_drop = d.is_drop;
+      drops = d.drops_them;
+      has_path = d.has_path;
+      same_name = same_so (cut tree number) (cut tree d.path.last) d.passes;
+    }
 
-pub invalid_indexes_go_first : IndexesAreDroppedFirst → InvalidIndexesGoFirst
+-- ---- what is looked at
+
+first_kept : (b : Bool) (x : Tok) (ys : List Tok) → b ≡ true → Contains (cond b (x ∷ ys) ys) x
+first_kept true x ys e = (zero, omega arith, refl)
+first_kept false x ys e = absurd (false≢true e)
+
+others_kept : (b : Bool) (x y : Tok) (ys : List Tok) → Contains ys y → Contains (cond b (x ∷ ys) ys) y
+others_kept true x y ys (k, l, e) = (suc k, (omega (arith, l)), e)
+others_kept false x y ys c = c
+
+-- a token that is kept, and passes the test
+record Kept (keep p : Tok → Bool) (toks : List Tok) : Type 0 where
+  token : Tok
+  is_kept : Contains (filter keep toks) token
+  passes : p token ≡ true
+
+kept_of : (keep p : Tok → Bool) (toks : List Tok) → list_any (λ (t : Tok). keep t && p t) toks ≡ true → Kept keep p toks
+kept_of keep p [] h = absurd (false≢true h)
+kept_of keep p (x ∷ xs) h =
+    elim (or_cases (keep x && p x) (list_any (λ (t : Tok). keep t && p t) xs) h) [
+      | inl here ↦
+          let both = and_parts (keep x) (p x) here in
+          record { token = x; is_kept = first_kept (keep x) x (filter keep xs) both.0; passes = both.1 }
+      | inr there ↦
+          let k = kept_of keep p xs there in
+          record { token = k.token; is_kept = others_kept (keep x) x k.token (filter keep xs) k.is_kept; passes = k.passes }
+    ]
+
+has_word : (tree : Tree) (s : Stmt) (word : List ℕ) → tokens_show tree word (s.last + 1) s.first ≡ true → HasWord tree s word
+unfolding shown
+has_word tree s word h =
+    let k = kept_of is_significant_token (λ (t : Tok). shows word (text_of tree.text t)) (drop s.first (take (s.last + 1) tree.toks)) h in
+    record { token = k.token; is_token = k.is_kept; has_it = k.passes }
+
+-- a number below n whose list has an element that passes the test
+record Listed {X : Type 0} (p : X → Bool) (f : ℕ → List X) (n : ℕ) : Type 0 where
+  number : ℕ
+  is_there : number < n
+  passes : list_any p (f number) ≡ true
+
+later : {X : Type 0} (p : X → Bool) (f : ℕ → List X) (n : ℕ) → Listed p f n → Listed p f (suc n)
+later p f n found = let l = found.is_there in record { number = found.number; is_there = omega (arith, l); passes = found.passes }
+
+listed_below : {X : Type 0} (p : X → Bool) (f : ℕ → List X) (n : ℕ) → list_any p (concat_below f n) ≡ true → Listed p f n
+listed_below p f zero h = absurd (false≢true h)
+listed_below p f (suc n) h =
+    elim (or_cases (list_any p (concat_below f n)) (list_any p (f n)) (sym (list_any-append p (concat_below f n) (f n)) ∙ h)) [
+      | inl earlier ↦ later p f n (listed_below p f n earlier)
+      | inr last ↦ record { number = n; is_there = omega arith; passes = last }
+    ]
+
+listed_by : {X : Type 0} (p : X → Bool) (f : ℕ → List X) (n : ℕ) (b : Bool) → list_any p (cond b (concat_below f n) []) ≡ true → Listed p f n
+listed_by p f n true h = listed_below p f n h
+listed_by p f n false h = absurd (false≢true h)
+
+first_of : (a : Bool) → (a || false) ≡ true → a ≡ true
+first_of true e = refl
+first_of false e = e
+
+listed_one : {X : Type 0} (p : X → Bool) (b : Bool) (x : X) → list_any p (cond b (x ∷ []) []) ≡ true → (b ≡ true) × (p x ≡ true)
+listed_one p true x h = (refl, first_of (p x) h)
+listed_one p false x h = absurd (false≢true h)
+
+-- a statement that looks, and comes after statement i with the word in it
+looks_of : (tree : Tree) (word : List ℕ) (i : ℕ) → list_any (guards tree word i) (looks tree) ≡ true
+    → Listed (guards tree word i) (λ k. look_of tree k (stmt_at tree k)) (length tree.stmts)
+unfolding looks
+looks_of tree word i h = listed_by (guards tree word i) (λ k. look_of tree k (stmt_at tree k)) (length tree.stmts) (list_any keeps tree.stmts) h
+
+look_kind : (kind : StmtKind) → is_look_kind kind ≡ true → (kind ≡ stmt.Do) ⊎ (kind ≡ stmt.Select)
+look_kind kind h =
+    elim (or_cases (same_kind kind stmt.Do) (same_kind kind stmt.Select) h) [
+      | inl code ↦ inl (kind_is kind stmt.Do code)
+      | inr query ↦ inr (kind_is kind stmt.Select query)
+    ]
+
+looked_at : (tree : Tree) (i name : ℕ) → list_any (guards tree (bare (text_at tree name)) i) (looks tree) ≡ true → IsLookedAtLater tree i name
+unfolding is_look
+looked_at tree i name h =
+    let word = bare (text_at tree name) in
+    let f = looks_of tree word i h in
+    let s = stmt_at tree f.number in
+    let one = listed_one (guards tree word i) (is_look tree s) _ f.passes in
+    let is = and_parts (is_look_kind s.kind) (tokens_show tree (codes "indisvalid") (s.last + 1) s.first) one.0 in
+    let after = and_parts (nat_lt i f.number) (tokens_show tree word (s.last + 1) s.first) one.1 in
+    record {
+      number = f.number;
+      is_later = ltb-true i f.number after.0;
+      is_there = f.is_there;
+      is_look = look_kind s.kind is.0;
+      has_column = has_word tree s (codes "indisvalid") is.1;
+      has_name = has_word tree s word after.1;
+    }
+
+seen : (tree : Tree) (i : ℕ) (name : Option ℕ) → (is_dropped_index tree i (one_name name) || is_guarded tree i (one_name name)) ≡ true
+    → (number : ℕ) × (name ≡ Some number) × (IsDroppedFirst tree i number ⊎ IsLookedAtLater tree i number)
+unfolding is_dropped_index is_guarded
+seen tree i None h = absurd (false≢true h)
+seen tree i (Some number) h =
+    elim (or_cases (is_dropped tree (cut tree number) i) (list_any (guards tree (bare (text_at tree number)) i) (looks tree)) h) [
+      | inl dropped ↦ (number, refl, inl (dropped_first tree i number dropped))
+      | inr guarded ↦ (number, refl, inr (looked_at tree i number guarded))
+    ]
+
+pub invalid_indexes_are_seen : IndexesAreDroppedOrGuarded → InvalidIndexesAreSeen
 unfolding keeps index_of
-invalid_indexes_go_first first enabled settings tree quiet i word mark unique name path l has =
-    let dropped = first enabled settings tree (silent hazard.InvalidIndexKept enabled settings tree quiet) i l (ap keeps_by has) in
-    dropped_first tree i name (ap (is_dropped_index tree i) (sym (ap index_by has)) ∙ dropped)
+invalid_indexes_are_seen first enabled settings tree quiet i word mark unique name path l has =
+    let so = first enabled settings tree (silent hazard.InvalidIndexKept enabled settings tree quiet) i l (ap keeps_by has) in
+    seen tree i name (ap (λ (o : Option Span). is_dropped_index tree i o || is_guarded tree i o) (sym (ap index_by has)) ∙ so)

@@ -1,6 +1,6 @@
 -- Indexes that are built, dropped or rebuilt CONCURRENTLY, and the timeouts that can cancel that (PostgreSQL manual: CREATE INDEX,
--- DROP INDEX, REINDEX, SET, RESET, DISCARD, and section 20.11.1, lock_timeout and statement_timeout).
-use Rattle.std.specs.Prelude.{◌≡◌, ◌<◌, ◌⊎◌, ℕ, ◌+◌, Bool, true, false, List, [], ◌∷◌, codes, Option, Some, Contains}
+-- DROP INDEX, REINDEX, SET, RESET, DISCARD, the column indisvalid of pg_index, and section 20.11.1, lock_timeout and statement_timeout).
+use Rattle.std.specs.Prelude.{◌≡◌, ◌<◌, ◌⊎◌, ℕ, ◌+◌, Bool, true, false, List, [], ◌∷◌, codes, length, Option, Some, Contains}
 use Rattle.std.specs.List.{list_any}
 use Rattle.std.specs.Str.{bytes_eq}
 use Rattle.law_renumber.specs.sql_keyword.declared.words.TheConstants.Keyword as keyword
@@ -13,9 +13,11 @@ use Rattle.law_renumber.specs.sql_tree.declared.kinds.StmtKind.TheVariants as st
 use Rattle.law_renumber.specs.sql_tree.declared.nodes.Body.TheVariants as body
 use Rattle.law_renumber.specs.sql_tree.declared.nodes.ReindexTarget.{ReindexTarget}
 use Rattle.law_renumber.specs.sql_tree.declared.nodes.Stmt.{Stmt}
+use Rattle.law_renumber.specs.sql_tree.Range.{token_at}
 use Rattle.law_renumber.specs.sql_tree.Statement.{Tree}
 use Rattle.hazard_find.specs.lint_transaction.Names.{name_at}
 use Rattle.hazard_find.specs.lint_transaction.Transaction.{stmt_at}
+use Rattle.hazard_find.specs.Shown.{bare, shows}
 use Rattle.law_hazards.specs.Tables.{names}
 use Rattle.law_hazards.specs.Words.{begin_with, is_key, shown, statement_tokens}
 
@@ -39,6 +41,22 @@ pub record IsDroppedFirst (tree : Tree) (i name : ℕ) : Type 0 where
   pub drops : (stmt_at tree number).body ≡ body.Drop word concurrently true paths
   pub has_path : Contains paths path
   pub same_name : names tree (record { first = name; last = name }) ≡ names tree (record { first = path.last; last = path.last })
+
+-- A token of the statement, which is no comment, has the word in it, and outside of the comments of code that is a string. Its ASCII case
+-- does not count.
+pub record HasWord (tree : Tree) (s : Stmt) (word : List ℕ) : Type 0 where
+  pub token : Tok
+  pub is_token : Contains (statement_tokens tree s) token
+  pub has_it : shows word (text_of tree.text token) ≡ true
+
+-- A later statement is a DO or a SELECT that has the word indisvalid, and the name of the index without its quotes.
+pub record IsLookedAtLater (tree : Tree) (i name : ℕ) : Type 0 where
+  pub number : ℕ
+  pub is_later : i < number
+  pub is_there : number < length tree.stmts
+  pub is_look : ((stmt_at tree number).kind ≡ stmt.Do) ⊎ ((stmt_at tree number).kind ≡ stmt.Select)
+  pub has_column : HasWord tree (stmt_at tree number) (codes "indisvalid")
+  pub has_name : HasWord tree (stmt_at tree number) (bare (text_of tree.text (token_at tree.toks name)))
 
 -- ---- timeouts
 

@@ -1,5 +1,5 @@
 -- What a text does not do in which a hazard is enabled and not found: one law for each hazard.
-use Rattle.std.specs.Prelude.{◌≡◌, ◌<◌, ℕ, Bool, true, false, List, length, Option, Some}
+use Rattle.std.specs.Prelude.{◌≡◌, ◌<◌, ◌⊎◌, ℕ, Bool, true, false, List, length, Option, Some}
 use Rattle.law_renumber.specs.sql_token.declared.token.Span.{Span}
 use Rattle.law_renumber.specs.sql_tree.declared.nodes.Body.TheVariants as body
 use Rattle.law_renumber.specs.sql_tree.declared.nodes.Column.{Column}
@@ -9,7 +9,7 @@ use Rattle.hazard_find.specs.lint_transaction.Transaction.{is_open, stmt_at}
 use Rattle.hazard_find.specs.hazard_base.declared.hazard.Hazard.TheVariants as hazard
 use Rattle.hazard_find.specs.hazard_base.declared.hazard_set.HazardSet.{HazardSet}
 use Rattle.law_hazards.specs.Additions.{AddsColumn, HasCheck, IsJson}
-use Rattle.law_hazards.specs.Builds.{IsConcurrent, IsDroppedFirst, IsTimeout, IsUnsetBetween, SetsTime}
+use Rattle.law_hazards.specs.Builds.{IsConcurrent, IsDroppedFirst, IsLookedAtLater, IsTimeout, IsUnsetBetween, SetsTime}
 use Rattle.law_hazards.specs.Inside.{IsRefusedByServer, IsRefusedWork}
 use Rattle.law_hazards.specs.Rewriting.{Rewrites}
 use Rattle.law_hazards.specs.Silence.{IsNotFound, begins_inside}
@@ -47,13 +47,14 @@ BuildsHaveTime =
     → (i : ℕ) → i < length tree.stmts → is_open (begins_inside settings tree) tree i ≡ false → IsConcurrent (stmt_at tree i)
     → (name : List ℕ) (j : ℕ) → IsTimeout name → j < i → SetsTime tree name (stmt_at tree j) → IsUnsetBetween tree name j i
 
--- Invalid-index-kept: an index that is built CONCURRENTLY IF NOT EXISTS has a name, and is dropped first, if it is there.
-abbrev pub InvalidIndexesGoFirst : Type 0
-InvalidIndexesGoFirst =
+-- Invalid-index-kept: an index that is built CONCURRENTLY IF NOT EXISTS has a name, and is dropped first, if it is there, or a later
+-- statement looks whether it is valid.
+abbrev pub InvalidIndexesAreSeen : Type 0
+InvalidIndexesAreSeen =
     (enabled : HazardSet) (settings : LinterSettings) (tree : Tree) → IsNotFound hazard.InvalidIndexKept enabled settings tree
     → (i word mark : ℕ) (unique : Bool) (name : Option ℕ) (path : Span) → i < length tree.stmts
     → (stmt_at tree i).body ≡ body.Index word unique (Some mark) true name path
-    → (number : ℕ) × (name ≡ Some number) × IsDroppedFirst tree i number
+    → (number : ℕ) × (name ≡ Some number) × (IsDroppedFirst tree i number ⊎ IsLookedAtLater tree i number)
 
 -- Refresh-blocks-reads: a view that is filled anew without CONCURRENTLY was made by an earlier statement.
 abbrev pub ViewsAreNew : Type 0

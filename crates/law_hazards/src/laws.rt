@@ -1,6 +1,6 @@
 //! Laws of texts in which a hazard is enabled and not found.
 
-ghost use Rattle.law_hazards.specs.Laws.{BuildsHaveTime, InvalidIndexesGoFirst, NothingIsRefusedInside, OnlyOursAreRewritten, OnlyOursGetChecks, OnlyOursGetJson, ViewsAreNew};
+ghost use Rattle.law_hazards.specs.Laws.{BuildsHaveTime, InvalidIndexesAreSeen, NothingIsRefusedInside, OnlyOursAreRewritten, OnlyOursGetChecks, OnlyOursGetJson, ViewsAreNew};
 
 use hazard_find::laws::silence_tells;
 
@@ -11,7 +11,7 @@ pub fn hazards_not_found()
     ensures table_rewrite { OnlyOursAreRewritten }
     ensures column_with_check { OnlyOursGetChecks }
     ensures build_under_timeout { BuildsHaveTime }
-    ensures invalid_index_kept { InvalidIndexesGoFirst }
+    ensures invalid_index_kept { InvalidIndexesAreSeen }
     ensures refresh_blocks_reads { ViewsAreNew }
     ensures json_column { OnlyOursGetJson }
 {

@@ -11,4 +11,6 @@ pub use laws::reports_tell;
 
 // What crates above reach through this one.
 pub use text_reports::sql_read::parse;
-pub use text_reports::{LintError, Linter, NoMemory, TextLinter, TextSize, find_reports};
+pub use text_reports::{
+    LintError, Linter, NoMemory, Parse, TextLinter, TextSize, Tok, find_reports,
+};

@@ -1,6 +1,6 @@
 -- A text is read in one way alone.
 use Rattle.std.proofs.Common.{◌≡◌, ℕ, ◌+◌, ◌-◌, ◌<◌, ◌≤◌, Bool, true, false, max, List, ◌∷◌, length, take, drop, refl, sym, ap, ◌∙◌, subst, arith, get_or}
-use Rattle.std.specs.Prelude.{◌==◌}
+use Rattle.std.specs.Prelude.{◌==◌, ◌&&◌}
 use Rattle.std.proofs.Common.{inl, inr}
 use Rattle.std.proofs.lemmas.Bool.{and_parts, cases_lt}
 use Rattle.std.proofs.lemmas.Bool.Decides.{nat_tests}
@@ -10,6 +10,7 @@ use Rattle.sql_lex.specs.sql_token.declared.token.TokKind.TheVariants.{Blank, Li
 use Rattle.sql_lex.specs.sql_token.Token.{Text, NeverCloses, At, IsRun, op_len, Takes, kind_of, is_closing}
 use Rattle.sql_lex.proofs.of_sql_token.CommentLaws.{comment_one}
 use Rattle.sql_lex.proofs.of_sql_token.QuoteLaws.{quoted_one, dollar_one}
+use Rattle.psql_text.specs.Commands.{is_quiet}
 use Rattle.psql_text.specs.Lines.{begins_command, starts_line, IsLineEnd, IsDataEnd}
 use Rattle.psql_text.specs.Marks.{ends_copy}
 use Rattle.psql_text.specs.Psql.{State, Reads, mark_here, after_command, after_token, after_data, after_last}
@@ -87,7 +88,8 @@ get_or_first t i = let e : i + 0 ≡ i = omega arith in get_or-drop i t 0 0 ∙ 
 -- a token that never closes begins with no backslash
 no_command_open : {P : Type 0} (s : State) → NeverCloses s.text s.at → begins_command s.text s.at ≡ true → P
 no_command_open s n h =
-    let first = same_number _ _ (and_parts (get_or s.text s.at 0 == 92) (starts_line s.text s.at) h).0 in
+    let begins = (and_parts (get_or s.text s.at 0 == 92 && starts_line s.text s.at) (is_quiet (drop (s.at + 1) s.text)) h).0 in
+    let first = same_number _ _ (and_parts (get_or s.text s.at 0 == 92) (starts_line s.text s.at) begins).0 in
     false_true _ n.closing (backslash_closes_nothing (s.at == 0) (drop s.at s.text) (get_or_first s.text s.at ∙ first))
 
 no_token_past : {P : Type 0} (s : State) (k : TokKind) (j : ℕ) → length s.text ≤ s.at → At s.text s.at k j → P

@@ -1,13 +1,15 @@
 -- One step of the reading.
 use Rattle.std.proofs.Common.{◌≡◌, ℕ, ◌+◌, ◌<◌, ◌≤◌, true, false, max, List, [], length, refl, ap, sym, ◌∙◌, subst, arith}
-use Rattle.std.specs.Prelude.{Option}
+use Rattle.std.specs.Prelude.{Bool, Option}
 use Rattle.sql_lex.specs.sql_token.declared.token.TokKind.{TokKind}
+use Rattle.sql_lex.specs.sql_token.declared.token.TokKind.TheVariants.{Op}
 use Rattle.sql_lex.specs.sql_token.Token.{Text, At}
 use Rattle.psql_text.specs.Lines.{begins_command, IsLineEnd, IsDataEnd}
 use Rattle.psql_text.specs.Marks.{marks_after, ends_copy}
 use Rattle.psql_text.specs.Psql.{mark_here, start}
 use Rattle.psql_text.specs.Psql.Reads.{token, copy, last}
-use Rattle.psql_text.specs.Reading.{GoesTo, GoesPast, FoundIs, Finds, IsPlace, IsOn, IsAhead, state, summary}
+use Rattle.sql_lex.proofs.SignLaws.{signs_after}
+use Rattle.psql_text.specs.Reading.{GoesTo, GoesPast, FoundIs, Finds, IsPlace, IsOn, IsAhead, MayFollow, state, summary}
 use Rattle.psql_text.specs.declared.mark.Mark.{Mark}
 use Rattle.psql_text.specs.declared.statement.Statement.{Statement}
 use Rattle.psql_text.specs.declared.part.PartKind.TheVariants.{Data}
@@ -24,6 +26,18 @@ token_goes t r k j st m ms plain at same other sum =
       sum ∙ ap (λ (x : Mark). summary (marks_after ms x)) same,
       λ ps rest. token s k j ps plain at (ap (λ (x : Mark). ends_copy ms x) (sym same) ∙ other) rest,
     )
+
+pub token_moves : (t : Text) (r : Reading) (k : TokKind) (j : ℕ) (st : Statement) (is_operator : Bool) → IsPlace t r → At t r.at k j →
+    st.opened ≤ r.statement.opened + 1 → st.closed ≤ r.statement.closed + 1 → (is_operator ≡ true → k ≡ Op) →
+    IsOn t r (record { at = j; taken = r.taken; statement = st }) × MayFollow t j is_operator
+token_moves t r k j st is_operator place at opened closed op = (
+  record {
+    at = at.before;
+    taken = omega arith;
+    place = record { at = at.within; taken = place.taken; opened = omega (arith, place.opened, at.before); closed = omega (arith, place.closed, at.before) };
+  },
+  λ is. (omega (arith, at.before), signs_after t r.at j k (op is) at),
+)
 
 pub last_goes : (t : Text) (r : Reading) (k : TokKind) (j d : ℕ) (st : Statement) (m : Mark) (ms : List Mark) → begins_command t r.at ≡ false → At t r.at k j →
     m ≡ mark_here (state t r ms) k j → ends_copy ms m ≡ true → IsLineEnd t (max j r.taken) d → length t ≤ d + 1 → st ≡ summary (marks_after ms m) →

@@ -1,3 +1,4 @@
+pub mod Commands
 pub mod Count
 pub mod Laws
 pub mod Lines

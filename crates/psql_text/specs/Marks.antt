@@ -1,5 +1,5 @@
 -- Which statements are COPY .. FROM STDIN.
-use Rattle.std.specs.Prelude.{ℕ, ◌+◌, ◌==◌, Bool, true, false, ◌&&◌, ◌||◌, if◌then◌else◌, List, [], ◌∷◌, codes, slice_index}
+use Rattle.std.specs.Prelude.{ℕ, ◌+◌, ◌==◌, Bool, true, false, not, ◌&&◌, ◌||◌, if◌then◌else◌, List, [], ◌∷◌, codes, slice_index}
 use Rattle.std.specs.Str.{str_eq_ignore_ascii_case}
 use Rattle.sql_lex.specs.sql_token.Token.{Text}
 use Rattle.sql_lex.specs.sql_token.Depth.{one_if}
@@ -90,12 +90,17 @@ abbrev pub begins_copy : List Mark → Bool
 begins_copy [] = false
 begins_copy (m ∷ ms) = if is_none ms then is_copy m else begins_copy ms
 
--- the last word is FROM, at depth 0
+-- somewhere is a FROM at depth 0
+abbrev pub has_from : List Mark → Bool
+has_from [] = false
+has_from (m ∷ ms) = (is_from m && is_outside ms) || has_from ms
+
+-- the last word is FROM, the first one at depth 0
 abbrev pub ends_in_from : List Mark → Bool
 ends_in_from [] = false
-ends_in_from (m ∷ ms) = is_from m && is_outside ms
+ends_in_from (m ∷ ms) = is_from m && is_outside ms && not (has_from ms)
 
--- somewhere the word STDIN comes after a FROM of depth 0
+-- somewhere the word STDIN comes after the first FROM at depth 0
 abbrev pub has_from_stdin : List Mark → Bool
 has_from_stdin [] = false
 has_from_stdin (m ∷ ms) = (is_stdin m && ends_in_from ms) || has_from_stdin ms

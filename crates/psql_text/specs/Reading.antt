@@ -1,9 +1,10 @@
 -- How far the code has read a text, against the definition.
-use Rattle.std.specs.Prelude.{◌≡◌, ◌≤◌, ◌<◌, ◌+◌, ◌-◌, ℕ, List, [], ◌∷◌, length, Option, Some, None}
+use Rattle.std.specs.Prelude.{◌≡◌, ◌≤◌, ◌<◌, ◌+◌, ◌-◌, ℕ, Bool, true, List, [], ◌∷◌, length, Option, Some, None}
 use Rattle.std.specs.Str.{IsUtf8, IsCharBoundary}
+use Rattle.sql_lex.specs.Signs.{SignsFrom}
 use Rattle.sql_lex.specs.sql_token.Token.{Text}
 use Rattle.psql_text.specs.Count.{data_of}
-use Rattle.psql_text.specs.Marks.{is_none, begins_copy, opened, closed, ends_in_from, has_from_stdin}
+use Rattle.psql_text.specs.Marks.{is_none, begins_copy, opened, closed, has_from, ends_in_from, has_from_stdin}
 use Rattle.psql_text.specs.Psql.{State, Reads, blanked}
 use Rattle.psql_text.specs.declared.mark.Mark.{Mark}
 use Rattle.psql_text.specs.declared.statement.Statement.{Statement}
@@ -20,6 +21,7 @@ summary ms = record {
   begins_copy = begins_copy ms;
   opened = opened ms;
   closed = closed ms;
+  has_from = has_from ms;
   ends_in_from = ends_in_from ms;
   has_from_stdin = has_from_stdin ms;
 }
@@ -54,9 +56,13 @@ pub record IsAhead (t : Text) (r : Reading) (f : Found) : Type 0 where
   pub lines : r.taken + at_most f.part ≤ f.next.taken
   pub whole : IsUtf8 t → IsCharBoundary t f.part.from × IsCharBoundary t f.part.to
 
+-- Signs that an operator lost may come from here on, if one was before.
+abbrev pub MayFollow : Text → ℕ → Bool → Type 0
+MayFollow t i is_after_operator = is_after_operator ≡ true → (0 < i) × SignsFrom t i
+
 -- where reading is after a step
 abbrev pub MovesOn : Text → Reading → Step → Type 0
-MovesOn t r (step.Token next) = IsOn t r next
+MovesOn t r (step.Token passed) = IsOn t r passed.next × MayFollow t passed.next.at passed.is_operator
 MovesOn t r (step.Part f) = IsAhead t r f
 MovesOn t r step.Open = Unit {0}
 
@@ -75,7 +81,7 @@ abbrev pub GoesPast : Text → State → Found → Type 0
 GoesPast t s f = (ms : List Mark) × (f.next.statement ≡ summary ms) × FollowsAfter s f.part (state (blanked f.part.from f.part.to t) f.next ms)
 
 abbrev pub StepIs : Text → State → Step → Type 0
-StepIs t s (step.Token r) = GoesTo t s r
+StepIs t s (step.Token passed) = GoesTo t s passed.next
 StepIs t s (step.Part f) = GoesPast t s f
 StepIs t s step.Open = Reads s []
 

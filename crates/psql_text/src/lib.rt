@@ -1,8 +1,9 @@
-//! What a file that was made for psql holds beside SQL: lines that are commands of psql itself, and the data of COPY.
+//! What a file for psql has besides SQL: lines that are commands of psql itself, and the data of COPY.
 #![tactic(auto)]
 
 mod blank;
 mod class;
+mod command;
 pub mod laws;
 mod lines;
 mod mark;
@@ -15,4 +16,4 @@ pub use part::{Part, PartKind};
 pub use reading::{Found, Reading, next_part, start};
 
 // What crates above reach through this one.
-pub use sql_lex::NoMemory;
+pub use sql_lex::{NoMemory, TokKind};

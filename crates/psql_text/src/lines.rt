@@ -4,6 +4,7 @@ ghost use Rattle.std.specs.Prelude.{◌≡◌, ◌<◌, ◌≤◌, ℕ, true, fa
 ghost use Rattle.psql_text.specs.Lines as spec;
 
 use crate::class::{begins_byte_order_mark, byte};
+use crate::command::is_quiet;
 use memchr::memchr;
 
 fn starts_line(text: &[u8], at: usize) -> bool
@@ -13,12 +14,12 @@ fn starts_line(text: &[u8], at: usize) -> bool
     at == 0 || byte(text, at - 1) == b'\n' || (at == 3 && begins_byte_order_mark(text))
 }
 
-/// Whether a line begins at this place with a backslash.
+/// Whether a line begins at this place that is a command, and is passed over.
 pub fn begins_command(text: &[u8], at: usize) -> bool
     requires { at < length text.now }
     ensures { result ≡ spec.begins_command text.now at }
 {
-    text[at] == b'\\' && starts_line(text, at)
+    text[at] == b'\\' && starts_line(text, at) && is_quiet(&text[at + 1..])
 }
 
 /// The end of the line on which this place is: its line feed, or the end of the text.

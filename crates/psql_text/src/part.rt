@@ -3,7 +3,7 @@
 /// What psql makes of a part that is no SQL.
 #[derive(Clone, Copy)]
 pub enum PartKind {
-    /// A line that begins with a backslash: a command of psql itself.
+    /// A line that is one command of psql itself, which neither sends SQL, nor drops it, nor takes it from elsewhere.
     Command,
     /// The lines after a COPY .. FROM STDIN, with the line `\.` that ends them.
     Data,

@@ -1,11 +1,13 @@
 //! How far a text was read, and the next part of it that is no SQL.
 
-ghost use Rattle.std.specs.Prelude.{◌≡◌, ◌<◌, ◌+◌, true, false, [], length, List, IfSome};
-ghost use Rattle.sql_lex.specs.sql_token.Token.{At, Text};
+ghost use Rattle.std.specs.Prelude.{◌≡◌, ◌≤◌, ◌<◌, ◌+◌, true, false, [], length, List, IfSome, IfNone};
+ghost use Rattle.sql_lex.specs.Signs.{begins_sign};
+ghost use Rattle.sql_lex.specs.sql_token.Token.{At, NeverCloses, Text};
 ghost use Rattle.psql_text.specs.Lines as lines;
-ghost use Rattle.psql_text.specs.Reading.{IsPlace, IsAhead, GoesPast, Steps, Finds, MovesOn, state, summary};
+ghost use Rattle.psql_text.specs.Reading.{IsPlace, IsAhead, GoesPast, MayFollow, Steps, Finds, MovesOn, state, summary};
 ghost use Rattle.psql_text.specs.declared.mark.Mark.{Mark};
 
+use crate::class::byte;
 use crate::lines::{begins_command, data_end, line_end};
 use crate::mark::mark_of;
 use crate::part::{Part, PartKind};
@@ -30,11 +32,20 @@ pub struct Found {
     pub next: Reading,
 }
 
+/// A token of SQL that was read.
+#[derive(Clone, Copy)]
+pub struct Passed {
+    /// How far the text was read with it.
+    pub next: Reading,
+    /// It is an operator, so signs that it lost may come after it.
+    pub is_operator: bool,
+}
+
 /// What is at one place of a text.
 #[derive(Clone, Copy)]
 pub enum Step {
     /// A token of SQL.
-    Token(Reading),
+    Token(Passed),
     /// A part that is no SQL, or a token after which one comes.
     Part(Found),
     /// A token that never closes.
@@ -78,6 +89,34 @@ fn command_at(text: &[u8], reading: Reading) -> Found
     }
 }
 
+fn is_operator(kind: TokKind) -> bool
+    ensures { result ≡ true → kind ≡ TokKind.Op }
+{
+    matches!(kind, TokKind::Op)
+}
+
+fn begins_with_sign(z: &[u8]) -> bool
+    ensures { result ≡ begins_sign z.now }
+{
+    let first = byte(z, 0);
+    first == b'+' || (first == b'-' && byte(z, 1) != b'-')
+}
+
+/// The token at a place. After an operator a sign is a token by itself, and what follows it is not looked at, so that a run of signs takes
+/// one pass.
+fn token_after(text: &[u8], at: usize, is_after_operator: bool) -> Option<(TokKind, usize)>
+    requires begins { at < length text.now }
+    requires signs { MayFollow text.now at is_after_operator }
+    ensures found { IfSome result (λ t. At text.now at t.0 t.1) }
+    ensures within { IfSome result (λ t. (at < t.1) × (t.1 ≤ length text.now)) }
+    ensures none { IfNone result (NeverCloses text.now at) }
+{
+    if is_after_operator && begins_with_sign(&text[at..]) {
+        return Some((TokKind::Op, at + 1));
+    }
+    token_at(text, at)
+}
+
 /// What comes of the token of this kind that ends here.
 fn step_over(text: &[u8], reading: Reading, kind: TokKind, end: usize) -> Step
     requires place { IsPlace text.now reading }
@@ -93,14 +132,18 @@ fn step_over(text: &[u8], reading: Reading, kind: TokKind, end: usize) -> Step
         statement: reading.statement.after(mark),
     };
     if !reading.statement.ends_copy_at(mark) {
-        return Step::Token(next);
+        let is_operator = is_operator(kind);
+        return Step::Token(Passed { next, is_operator });
     }
     let feed = line_end(text, end.max(reading.taken));
     if feed + 1 >= text.len() {
-        return Step::Token(Reading {
-            at: end,
-            taken: feed,
-            statement: next.statement,
+        return Step::Token(Passed {
+            next: Reading {
+                at: end,
+                taken: feed,
+                statement: next.statement,
+            },
+            is_operator: false,
         });
     }
     let data_end = data_end(text, feed);
@@ -119,16 +162,17 @@ fn step_over(text: &[u8], reading: Reading, kind: TokKind, end: usize) -> Step
 }
 
 /// What is at the place up to which the text was read.
-fn step_at(text: &[u8], reading: Reading) -> Step
+fn step_at(text: &[u8], reading: Reading, is_after_operator: bool) -> Step
     requires place { IsPlace text.now reading }
     requires within { reading.at < length text.now }
+    requires signs { MayFollow text.now reading.at is_after_operator }
     ensures goes { Steps text.now reading result }
     ensures moves { MovesOn text.now reading result }
 {
     if begins_command(text, reading.at) {
         return Step::Part(command_at(text, reading));
     }
-    match token_at(text, reading.at) {
+    match token_after(text, reading.at, is_after_operator) {
         Some((kind, end)) => step_over(text, reading, kind, end),
         None => Step::Open,
     }
@@ -141,9 +185,13 @@ pub fn next_part(text: &[u8], reading: Reading) -> Option<Found>
     ensures ahead { IfSome result (IsAhead text.now reading) }
 {
     let mut now = reading;
+    let mut is_after_operator = false;
     while now.at < text.len() {
-        match step_at(text, now) {
-            Step::Token(next) => now = next,
+        match step_at(text, now, is_after_operator) {
+            Step::Token(passed) => {
+                now = passed.next;
+                is_after_operator = passed.is_operator;
+            }
             Step::Part(found) => return Some(found),
             Step::Open => return None,
         }

@@ -1,6 +1,6 @@
 //! The statement that is being read, as far as it tells whether it is COPY .. FROM STDIN.
 
-ghost use Rattle.std.specs.Prelude.{◌≡◌, ◌==◌, ◌<◌, ◌≤◌, ◌+◌, ◌^◌, [], ◌∷◌, List};
+ghost use Rattle.std.specs.Prelude.{◌≡◌, ◌==◌, ◌&&◌, ◌<◌, ◌≤◌, ◌+◌, ◌^◌, [], ◌∷◌, List};
 ghost use Rattle.sql_lex.specs.sql_token.Depth.{one_if};
 ghost use Rattle.psql_text.specs.Marks as spec;
 ghost use Rattle.psql_text.specs.Reading.{summary};
@@ -19,9 +19,11 @@ pub struct Statement {
     pub opened: usize,
     /// How many brackets were closed.
     pub closed: usize,
-    /// The last word is FROM, at depth 0.
+    /// A FROM was read at depth 0.
+    pub has_from: bool,
+    /// The last word is FROM, the first one at depth 0.
     pub ends_in_from: bool,
-    /// A FROM STDIN was read at depth 0.
+    /// After it STDIN was read.
     pub has_from_stdin: bool,
 }
 
@@ -44,6 +46,7 @@ impl Statement {
             begins_copy: false,
             opened: 0,
             closed: 0,
+            has_from: false,
             ends_in_from: false,
             has_from_stdin: false,
         }
@@ -81,11 +84,25 @@ impl Statement {
         }
     }
 
-    /// Whether its last word is FROM, with this mark after the others.
+    /// Whether this mark is a FROM at depth 0.
+    fn is_outer_from(self, mark: Mark) -> bool
+        ensures { (ms : List Mark) → self ≡ summary ms → result ≡ (spec.is_from mark && spec.is_outside ms) }
+    {
+        mark.is_from() && self.is_outside()
+    }
+
+    /// Whether it has a FROM at depth 0, with this mark after the others.
+    fn has_from_with(self, mark: Mark) -> bool
+        ensures { (ms : List Mark) → self ≡ summary ms → result ≡ spec.has_from (mark ∷ ms) }
+    {
+        self.is_outer_from(mark) || self.has_from
+    }
+
+    /// Whether its last word is its first FROM at depth 0, with this mark after the others.
     fn ends_in_from_with(self, mark: Mark) -> bool
         ensures { (ms : List Mark) → self ≡ summary ms → result ≡ spec.ends_in_from (mark ∷ ms) }
     {
-        mark.is_from() && self.is_outside()
+        mark.is_from() && self.is_outside() && !self.has_from
     }
 
     /// Whether it has FROM STDIN, with this mark after the others.
@@ -106,6 +123,7 @@ impl Statement {
             begins_copy: self.begins_copy_with(mark),
             opened: plus(self.opened, mark.is_opener()),
             closed: plus(self.closed, mark.is_closer()),
+            has_from: self.has_from_with(mark),
             ends_in_from: self.ends_in_from_with(mark),
             has_from_stdin: self.has_from_stdin_with(mark),
         }

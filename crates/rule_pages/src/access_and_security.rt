@@ -29,21 +29,28 @@ It does not see privileges that go with a dropped and newly created object.
 
 Details
 
-- Reported: - `REVOKE`, of privileges and of roles, and `ALTER DEFAULT
-  PRIVILEGES ... REVOKE`; - `OWNER TO` of every `ALTER` that the linter looks
-  into: a table, foreign table, view, materialized view, index, sequence, type,
-  domain, function, procedure, routine, aggregate, database, schema,
-  publication; - `DROP ROLE` and `DROP USER`, `DROP OWNED`, `REASSIGN OWNED`,
-  and `ALTER GROUP ... DROP USER`.
+- Reported:
+  - `REVOKE`, of privileges and of roles, and `ALTER DEFAULT PRIVILEGES ...
+    REVOKE`;
+  - `OWNER TO` of every `ALTER` that the linter looks into: a table, foreign
+    table, view, materialized view, index, sequence, type, domain, function,
+    procedure, routine, aggregate, database, schema, publication;
+  - `DROP ROLE` and `DROP USER`, `DROP OWNED`, `REASSIGN OWNED`, and `ALTER
+    GROUP ... DROP USER`.
 - Not reported: `GRANT`; `DROP GROUP`; `OWNER TO` of other kinds, such as a
   large object, a server or a tablespace.
 - In PostgreSQL: a privilege is checked at each statement, so its loss is felt
   at once. An owner may drop and change the object; the old one no longer can
   (section 5.8; REVOKE; REASSIGN OWNED).
 
-    $ echo 'ALTER TABLE t OWNER TO u;' | ./squawk --only ban-revoke
-    14..24: warning[ban-revoke]: changing object ownership may break existing clients
-    violations: 1
+    $ echo 'ALTER TABLE t OWNER TO u;' | ./lavkheto check --only ban-revoke
+    warning[ban-revoke]: changing object ownership may break existing clients
+     --> stdin:1:15
+      |
+    1 | ALTER TABLE t OWNER TO u;
+      |               ^^^^^^^^^^
+
+    Found 1 issue in 1 of 1 file
 ";
 
 /// `ban-create-policy`.
@@ -78,9 +85,14 @@ Details
 - In PostgreSQL: ACCESS EXCLUSIVE on the table. A policy acts only where row
   level security is enabled for the table (CREATE POLICY; section 5.9).
 
-    $ echo 'CREATE POLICY p ON t;' | ./squawk --only ban-create-policy
-    0..21: warning[ban-create-policy]: creating a policy may change access for existing clients
-    violations: 1
+    $ echo 'CREATE POLICY p ON t;' | ./lavkheto check --only ban-create-policy
+    warning[ban-create-policy]: creating a policy may change access for existing clients
+     --> stdin:1:1
+      |
+    1 | CREATE POLICY p ON t;
+      | ^^^^^^^^^^^^^^^^^^^^^
+
+    Found 1 issue in 1 of 1 file
 ";
 
 /// `ban-drop-policy`.
@@ -118,9 +130,14 @@ Details
 - In PostgreSQL: ACCESS EXCLUSIVE on the table. Restrictive policies alone let
   no row through (DROP POLICY, DROP RULE; section 5.9).
 
-    $ echo 'DROP POLICY p ON t;' | ./squawk --only ban-drop-policy
-    0..19: warning[ban-drop-policy]: dropping a policy or rule may silently change behavior for existing clients
-    violations: 1
+    $ echo 'DROP POLICY p ON t;' | ./lavkheto check --only ban-drop-policy
+    warning[ban-drop-policy]: dropping a policy or rule may silently change behavior for existing clients
+     --> stdin:1:1
+      |
+    1 | DROP POLICY p ON t;
+      | ^^^^^^^^^^^^^^^^^^^
+
+    Found 1 issue in 1 of 1 file
 ";
 
 /// `ban-alter-policy-condition`.
@@ -154,9 +171,14 @@ Details
   itself.
 - In PostgreSQL: ACCESS EXCLUSIVE on the table (ALTER POLICY; section 5.9).
 
-    $ echo 'ALTER POLICY p ON t USING (a > 0);' | ./squawk --only ban-alter-policy-condition
-    20..33: warning[ban-alter-policy-condition]: changing a policy condition may change access for existing clients
-    violations: 1
+    $ echo 'ALTER POLICY p ON t USING (a > 0);' | ./lavkheto check --only ban-alter-policy-condition
+    warning[ban-alter-policy-condition]: changing a policy condition may change access for existing clients
+     --> stdin:1:21
+      |
+    1 | ALTER POLICY p ON t USING (a > 0);
+      |                     ^^^^^^^^^^^^^
+
+    Found 1 issue in 1 of 1 file
 ";
 
 /// `ban-alter-policy-roles`.
@@ -191,9 +213,14 @@ Details
 - Not reported: `RENAME TO`, which `renaming-object` reports.
 - In PostgreSQL: ACCESS EXCLUSIVE on the table (ALTER POLICY; section 5.9).
 
-    $ echo 'ALTER POLICY p ON t TO app, CURRENT_USER;' | ./squawk --only ban-alter-policy-roles
-    20..40: warning[ban-alter-policy-roles]: changing policy roles may change access for existing clients
-    violations: 1
+    $ echo 'ALTER POLICY p ON t TO app, CURRENT_USER;' | ./lavkheto check --only ban-alter-policy-roles
+    warning[ban-alter-policy-roles]: changing policy roles may change access for existing clients
+     --> stdin:1:21
+      |
+    1 | ALTER POLICY p ON t TO app, CURRENT_USER;
+      |                     ^^^^^^^^^^^^^^^^^^^^
+
+    Found 1 issue in 1 of 1 file
 ";
 
 /// `ban-alter-row-level-security`.
@@ -234,9 +261,14 @@ Details
 - In PostgreSQL: ACCESS EXCLUSIVE, for a moment (ALTER TABLE, \"DISABLE/ENABLE
   ROW LEVEL SECURITY\"; section 5.9).
 
-    $ echo 'ALTER TABLE t ENABLE ROW LEVEL SECURITY;' | ./squawk --only ban-alter-row-level-security
-    14..39: warning[ban-alter-row-level-security]: changing row level security may change access for existing clients
-    violations: 1
+    $ echo 'ALTER TABLE t ENABLE ROW LEVEL SECURITY;' | ./lavkheto check --only ban-alter-row-level-security
+    warning[ban-alter-row-level-security]: changing row level security may change access for existing clients
+     --> stdin:1:15
+      |
+    1 | ALTER TABLE t ENABLE ROW LEVEL SECURITY;
+      |               ^^^^^^^^^^^^^^^^^^^^^^^^^
+
+    Found 1 issue in 1 of 1 file
 ";
 
 /// `ban-alter-role-options`.
@@ -273,7 +305,12 @@ Details
 - In PostgreSQL: a setting takes effect at the next login, so that sessions
   differ for a while (ALTER ROLE).
 
-    $ echo 'ALTER ROLE r NOLOGIN CREATEDB;' | ./squawk --only ban-alter-role-options
-    13..29: warning[ban-alter-role-options]: changing role options may change access for existing clients
-    violations: 1
+    $ echo 'ALTER ROLE r NOLOGIN CREATEDB;' | ./lavkheto check --only ban-alter-role-options
+    warning[ban-alter-role-options]: changing role options may change access for existing clients
+     --> stdin:1:14
+      |
+    1 | ALTER ROLE r NOLOGIN CREATEDB;
+      |              ^^^^^^^^^^^^^^^^
+
+    Found 1 issue in 1 of 1 file
 ";

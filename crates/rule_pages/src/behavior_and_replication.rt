@@ -42,10 +42,16 @@ Details
   ACCESS EXCLUSIVE (ALTER TABLE, \"DISABLE/ENABLE [ REPLICA | ALWAYS ] TRIGGER\"
   and \"RULE\").
 
-    $ echo 'ALTER TABLE t ENABLE REPLICA TRIGGER audit;' | ./squawk --only ban-disable-trigger
-    14..42: warning[ban-disable-trigger]: making a trigger or rule replica-only stops it firing for normal application writes
-      note: earlier application revisions may depend on its side effects
-    violations: 1
+    $ echo 'ALTER TABLE t ENABLE REPLICA TRIGGER audit;' | ./lavkheto check --only ban-disable-trigger
+    warning[ban-disable-trigger]: making a trigger or rule replica-only stops it firing for normal application writes
+     --> stdin:1:15
+      |
+    1 | ALTER TABLE t ENABLE REPLICA TRIGGER audit;
+      |               ^^^^^^^^^^^^^^^^^^^^^^^^^^^^
+      |
+      = note: earlier application revisions may depend on its side effects
+
+    Found 1 issue in 1 of 1 file
 ";
 
 /// `ban-replica-identity`.
@@ -86,9 +92,14 @@ Details
 - In PostgreSQL: ALTER TABLE, \"REPLICA IDENTITY\"; ALTER PUBLICATION; chapter
   \"Logical Replication\", \"Publication\".
 
-    $ echo 'ALTER TABLE t REPLICA IDENTITY FULL;' | ./squawk --only ban-replica-identity
-    14..35: warning[ban-replica-identity]: changing replica identity may silently change replication for existing clients
-    violations: 1
+    $ echo 'ALTER TABLE t REPLICA IDENTITY FULL;' | ./lavkheto check --only ban-replica-identity
+    warning[ban-replica-identity]: changing replica identity may silently change replication for existing clients
+     --> stdin:1:15
+      |
+    1 | ALTER TABLE t REPLICA IDENTITY FULL;
+      |               ^^^^^^^^^^^^^^^^^^^^^
+
+    Found 1 issue in 1 of 1 file
 ";
 
 /// `ban-replace-view-function`.
@@ -131,7 +142,12 @@ Details
   ACCESS EXCLUSIVE on it, replacing a trigger SHARE ROW EXCLUSIVE on its table
   (section 13.3.1).
 
-    $ echo 'CREATE OR REPLACE VIEW v AS SELECT 1;' | ./squawk --only ban-replace-view-function
-    0..37: warning[ban-replace-view-function]: replacing a view, function, or procedure may silently change behavior for existing clients
-    violations: 1
+    $ echo 'CREATE OR REPLACE VIEW v AS SELECT 1;' | ./lavkheto check --only ban-replace-view-function
+    warning[ban-replace-view-function]: replacing a view, function, or procedure may silently change behavior for existing clients
+     --> stdin:1:1
+      |
+    1 | CREATE OR REPLACE VIEW v AS SELECT 1;
+      | ^^^^^^^^^^^^^^^^^^^^^^^^^^^^^^^^^^^^^
+
+    Found 1 issue in 1 of 1 file
 ";

@@ -56,7 +56,8 @@ one short transaction:
 A serial key has a sequence that goes with the column, and that is an `integer`
 itself: it ends at 2147483647, whatever the column is by then. So the last
 transaction is another one. Before it `id_new` is filled and kept equal as
-above, is `NOT NULL`, and has a unique index, `t_id_new_key`:
+above, is `NOT NULL` (`adding-not-nullable-field`), and has a unique index
+(`disallowed-unique-constraint`), `t_id_new_key`:
 
     BEGIN;
     SET LOCAL lock_timeout = '1s';
@@ -112,17 +113,23 @@ Details
   and `ALTER FOREIGN TABLE`, and each `ALTER ATTRIBUTE` of `ALTER TYPE`. The
   types are not compared: a change that rewrites nothing, such as from
   `varchar(50)` to `text`, is reported as well.
-- False alarms: what the table above calls quick; a table that the same
-  transaction created, and a composite type that no table uses.
-- In PostgreSQL: as in the table above (ALTER TABLE, \"SET DATA TYPE\" and
-  Notes). `ALTER ATTRIBUTE` is refused while a table has a column of the type.
-  A typed table (`CREATE TABLE .. OF`) is written anew by it, with `CASCADE`
-  (ALTER TYPE, \"ALTER ATTRIBUTE\").
+- False alarms: what is called quick above; a table that the same transaction
+  created, and a composite type that no table uses.
+- In PostgreSQL: as said above (ALTER TABLE, \"SET DATA TYPE\" and Notes). `ALTER
+  ATTRIBUTE` is refused while a table has a column of the type. A typed table
+  (`CREATE TABLE .. OF`) is written anew by it, with `CASCADE` (ALTER TYPE,
+  \"ALTER ATTRIBUTE\").
 
-    $ echo 'ALTER TABLE t ALTER COLUMN a TYPE bigint;' | ./squawk --only changing-column-type
-    29..40: warning[changing-column-type]: changing a column type rewrites the table under an `access exclusive` lock
-      note: the lock blocks reads and writes while the table is rewritten, and the new type may break other clients reading from the table
-    violations: 1
+    $ echo 'ALTER TABLE t ALTER COLUMN a TYPE bigint;' | ./lavkheto check --only changing-column-type
+    warning[changing-column-type]: changing a column type rewrites the table under an `access exclusive` lock
+     --> stdin:1:30
+      |
+    1 | ALTER TABLE t ALTER COLUMN a TYPE bigint;
+      |                              ^^^^^^^^^^^
+      |
+      = note: the lock blocks reads and writes while the table is rewritten, and the new type may break other clients reading from the table
+
+    Found 1 issue in 1 of 1 file
 ";
 
 /// `adding-field-with-default`.
@@ -159,8 +166,9 @@ held until the last row is filled.
 
 For a stored generated column add a plain one, let a trigger fill it, and fill
 the old rows, as at `changing-column-type`. For an identity column add a plain
-`bigint` and fill it, make it `NOT NULL`, and then add the identity, which
-begins above the greatest value.
+`bigint` and fill it, make it `NOT NULL` (`adding-not-nullable-field`), and
+then add the identity (`ban-alter-identity`), which begins above the greatest
+value.
 
 A value in a form that the rule doesn't know is reported though nothing is
 rewritten: `-1`, `(now())`, `interval '1 day'`, `CURRENT_DATE`, `CURRENT_USER`,
@@ -195,11 +203,17 @@ Details
   computed once and kept for the whole table, from version 11 on (ALTER TABLE,
   Notes; \"Function Volatility Categories\").
 
-    $ echo 'ALTER TABLE t ADD COLUMN token uuid DEFAULT gen_random_uuid();' | ./squawk --only adding-field-with-default
-    44..61: warning[adding-field-with-default]: adding a column with a volatile default rewrites the table under an `access exclusive` lock
-      note: in Postgres 11+, non-volatile defaults can be added without a rewrite
-      help: add the column as nullable, backfill existing rows, and add a trigger to update the column on write instead
-    violations: 1
+    $ echo 'ALTER TABLE t ADD COLUMN token uuid DEFAULT gen_random_uuid();' | ./lavkheto check --only adding-field-with-default
+    warning[adding-field-with-default]: adding a column with a volatile default rewrites the table under an `access exclusive` lock
+     --> stdin:1:45
+      |
+    1 | ALTER TABLE t ADD COLUMN token uuid DEFAULT gen_random_uuid();
+      |                                             ^^^^^^^^^^^^^^^^^
+      |
+      = note: in Postgres 11+, non-volatile defaults can be added without a rewrite
+      = help: add the column as nullable, backfill existing rows, and add a trigger to update the column on write instead
+
+    Found 1 issue in 1 of 1 file
 ";
 
 /// `adding-required-field`.
@@ -228,7 +242,8 @@ Write
     COMMIT;
 
 Where each row needs a value of its own, add the column without `NOT NULL`, let
-all clients write it, fill the old rows in batches, then set `NOT NULL`.
+all clients write it, fill the old rows in batches, then set `NOT NULL`
+(`adding-not-nullable-field`).
 
 It does not see serial types: they have a value for each row, and are reported
 all the same, though what hurts is the rewrite.
@@ -243,10 +258,16 @@ Details
 - In PostgreSQL: ALTER TABLE, \"ADD COLUMN\"; section 5.5.2, \"Not-Null
   Constraints\".
 
-    $ echo 'ALTER TABLE t ADD COLUMN c int NOT NULL;' | ./squawk --only adding-required-field
-    14..39: warning[adding-required-field]: adding a new column that is `not null` and has no default value to an existing table effectively makes it required
-      help: make the field nullable or add a non-volatile default
-    violations: 1
+    $ echo 'ALTER TABLE t ADD COLUMN c int NOT NULL;' | ./lavkheto check --only adding-required-field
+    warning[adding-required-field]: adding a new column that is `not null` and has no default value to an existing table effectively makes it required
+     --> stdin:1:15
+      |
+    1 | ALTER TABLE t ADD COLUMN c int NOT NULL;
+      |               ^^^^^^^^^^^^^^^^^^^^^^^^^
+      |
+      = help: make the field nullable or add a non-volatile default
+
+    Found 1 issue in 1 of 1 file
 ";
 
 /// `ban-add-column`.
@@ -286,14 +307,30 @@ Details
 - Reported: each `ADD COLUMN` of an `ALTER TABLE` or `ALTER FOREIGN TABLE`,
   with and without the word `COLUMN`.
 - Not reported: a column of a table that an earlier statement creates; an
-  attribute of a composite type, which has a rule of its own.
+  attribute of a composite type, which has a rule of its own
+  (`ban-add-composite-attribute`).
 - In PostgreSQL: a new column is the last one of the table (ALTER TABLE, \"ADD
   COLUMN\"); without a list of columns an `INSERT` gives its values to the
   columns in their declared order (INSERT, \"Description\").
 
-    $ echo 'ALTER TABLE t ADD COLUMN c int;' | ./squawk --only ban-add-column
-    14..30: warning[ban-add-column]: adding a column changes the shape of rows existing clients receive and can break positional inserts
-    violations: 1
+Created before. A table that the same open transaction created is one of an
+earlier `CREATE TABLE`, `CREATE TABLE AS` or `SELECT INTO` in that transaction.
+`IF NOT EXISTS` counts too, though the table may have been there; a drop, and a
+rollback to a savepoint, aren't noticed. A table, type or sequence that an
+earlier statement creates is one that an earlier `CREATE TABLE` with a list,
+`CREATE TYPE` or `CREATE SEQUENCE` names, in any transaction, without `IF NOT
+EXISTS`; `CREATE TABLE AS`, `SELECT INTO` and foreign tables don't count; a
+rollback or a drop isn't noticed. In both, two names must have the same parts:
+`t` and `public.t` count as two tables.
+
+    $ echo 'ALTER TABLE t ADD COLUMN c int;' | ./lavkheto check --only ban-add-column
+    warning[ban-add-column]: adding a column changes the shape of rows existing clients receive and can break positional inserts
+     --> stdin:1:15
+      |
+    1 | ALTER TABLE t ADD COLUMN c int;
+      |               ^^^^^^^^^^^^^^^^
+
+    Found 1 issue in 1 of 1 file
 ";
 
 /// `ban-drop-column`.
@@ -339,9 +376,14 @@ Details
   its space is reclaimed as rows are updated. Indexes and constraints over it
   go too (ALTER TABLE, \"DROP COLUMN\" and Notes; ALTER TYPE, \"DROP ATTRIBUTE\").
 
-    $ echo 'ALTER TABLE users ADD COLUMN mail text, DROP COLUMN email;' | ./squawk --only ban-drop-column
-    40..57: warning[ban-drop-column]: dropping a column may break existing clients
-    violations: 1
+    $ echo 'ALTER TABLE users ADD COLUMN mail text, DROP COLUMN email;' | ./lavkheto check --only ban-drop-column
+    warning[ban-drop-column]: dropping a column may break existing clients
+     --> stdin:1:41
+      |
+    1 | ALTER TABLE users ADD COLUMN mail text, DROP COLUMN email;
+      |                                         ^^^^^^^^^^^^^^^^^
+
+    Found 1 issue in 1 of 1 file
 ";
 
 /// `ban-drop-default`.
@@ -381,13 +423,23 @@ Details
   rows that exist keep their values (ALTER TABLE, \"SET/DROP DEFAULT\"; ALTER
   VIEW; ALTER DOMAIN).
 
-    $ echo 'ALTER TABLE t ALTER COLUMN a DROP DEFAULT;' | ./squawk --only ban-drop-default
-    29..41: warning[ban-drop-default]: dropping a column default may break existing clients
-    violations: 1
+    $ echo 'ALTER TABLE t ALTER COLUMN a DROP DEFAULT;' | ./lavkheto check --only ban-drop-default
+    warning[ban-drop-default]: dropping a column default may break existing clients
+     --> stdin:1:30
+      |
+    1 | ALTER TABLE t ALTER COLUMN a DROP DEFAULT;
+      |                              ^^^^^^^^^^^^
 
-    $ echo 'ALTER DOMAIN d DROP DEFAULT;' | ./squawk --only ban-drop-default
-    15..27: warning[ban-drop-default]: dropping a column default may break existing clients
-    violations: 1
+    Found 1 issue in 1 of 1 file
+
+    $ echo 'ALTER DOMAIN d DROP DEFAULT;' | ./lavkheto check --only ban-drop-default
+    warning[ban-drop-default]: dropping a column default may break existing clients
+     --> stdin:1:16
+      |
+    1 | ALTER DOMAIN d DROP DEFAULT;
+      |                ^^^^^^^^^^^^
+
+    Found 1 issue in 1 of 1 file
 ";
 
 /// `ban-set-default`.
@@ -425,15 +477,26 @@ Details
   TABLE` or `ALTER VIEW`, and of `ALTER DOMAIN`.
 - Not reported: the default of a new column or a new table.
 - In PostgreSQL: ACCESS EXCLUSIVE, for a moment; `ALTER DOMAIN` locks no table;
-  rows that exist keep their values (same pages).
+  rows that exist keep their values (ALTER TABLE, \"SET/DROP DEFAULT\"; ALTER
+  VIEW; ALTER DOMAIN).
 
-    $ echo 'ALTER TABLE t ALTER COLUMN a SET DEFAULT 1;' | ./squawk --only ban-set-default
-    29..42: warning[ban-set-default]: setting a column default may silently change values written by existing clients
-    violations: 1
+    $ echo 'ALTER TABLE t ALTER COLUMN a SET DEFAULT 1;' | ./lavkheto check --only ban-set-default
+    warning[ban-set-default]: setting a column default may silently change values written by existing clients
+     --> stdin:1:30
+      |
+    1 | ALTER TABLE t ALTER COLUMN a SET DEFAULT 1;
+      |                              ^^^^^^^^^^^^^
 
-    $ echo 'ALTER DOMAIN d SET DEFAULT 1;' | ./squawk --only ban-set-default
-    15..28: warning[ban-set-default]: setting a column default may silently change values written by existing clients
-    violations: 1
+    Found 1 issue in 1 of 1 file
+
+    $ echo 'ALTER DOMAIN d SET DEFAULT 1;' | ./lavkheto check --only ban-set-default
+    warning[ban-set-default]: setting a column default may silently change values written by existing clients
+     --> stdin:1:16
+      |
+    1 | ALTER DOMAIN d SET DEFAULT 1;
+      |                ^^^^^^^^^^^^^
+
+    Found 1 issue in 1 of 1 file
 ";
 
 /// `ban-alter-identity`.
@@ -464,9 +527,10 @@ a number:
     ALTER TABLE t ALTER COLUMN a ADD GENERATED BY DEFAULT AS IDENTITY (START WITH 1000001);
     COMMIT;
 
-The column must be `NOT NULL` and have no default. Before a column becomes
-`GENERATED ALWAYS`, release code that leaves it out. Before `DROP IDENTITY`,
-make it `GENERATED BY DEFAULT`, and release code that always gives the value.
+The column must be `NOT NULL` (`adding-not-nullable-field`) and have no
+default. Before a column becomes `GENERATED ALWAYS`, release code that leaves
+it out. Before `DROP IDENTITY`, make it `GENERATED BY DEFAULT`, and release
+code that always gives the value.
 
 It does not see where the sequence begins, and which values the column has.
 
@@ -480,9 +544,14 @@ Details
   identity begins at 1 if no `START WITH` is given (ALTER TABLE, \"ADD
   GENERATED\", \"SET GENERATED\" and \"DROP IDENTITY\"; section 5.3).
 
-    $ echo 'ALTER TABLE t ALTER COLUMN a ADD GENERATED BY DEFAULT AS IDENTITY;' | ./squawk --only ban-alter-identity
-    29..65: warning[ban-alter-identity]: changing column identity may break inserts from existing clients
-    violations: 1
+    $ echo 'ALTER TABLE t ALTER COLUMN a ADD GENERATED BY DEFAULT AS IDENTITY;' | ./lavkheto check --only ban-alter-identity
+    warning[ban-alter-identity]: changing column identity may break inserts from existing clients
+     --> stdin:1:30
+      |
+    1 | ALTER TABLE t ALTER COLUMN a ADD GENERATED BY DEFAULT AS IDENTITY;
+      |                              ^^^^^^^^^^^^^^^^^^^^^^^^^^^^^^^^^^^^
+
+    Found 1 issue in 1 of 1 file
 ";
 
 /// `ban-drop-generated-expression`.
@@ -525,9 +594,14 @@ Details
 - In PostgreSQL: ACCESS EXCLUSIVE, for a moment; for stored generated columns
   only (ALTER TABLE, \"DROP EXPRESSION\").
 
-    $ echo 'ALTER TABLE t ALTER COLUMN a DROP EXPRESSION;' | ./squawk --only ban-drop-generated-expression
-    29..44: warning[ban-drop-generated-expression]: dropping a generated expression may break existing clients
-    violations: 1
+    $ echo 'ALTER TABLE t ALTER COLUMN a DROP EXPRESSION;' | ./lavkheto check --only ban-drop-generated-expression
+    warning[ban-drop-generated-expression]: dropping a generated expression may break existing clients
+     --> stdin:1:30
+      |
+    1 | ALTER TABLE t ALTER COLUMN a DROP EXPRESSION;
+      |                              ^^^^^^^^^^^^^^^
+
+    Found 1 issue in 1 of 1 file
 ";
 
 /// `ban-alter-generated-expression`.
@@ -580,156 +654,12 @@ Details
   one or an identity column rewrites the table, under ACCESS EXCLUSIVE (ALTER
   TABLE, \"SET EXPRESSION\", \"ADD COLUMN\" and Notes; section 5.4).
 
-    $ echo 'ALTER TABLE t ALTER COLUMN a SET EXPRESSION AS (b + 1);' | ./squawk --only ban-alter-generated-expression
-    29..54: warning[ban-alter-generated-expression]: changing a generated column expression may change values read by existing clients
-    violations: 1
+    $ echo 'ALTER TABLE t ALTER COLUMN a SET EXPRESSION AS (b + 1);' | ./lavkheto check --only ban-alter-generated-expression
+    warning[ban-alter-generated-expression]: changing a generated column expression may change values read by existing clients
+     --> stdin:1:30
+      |
+    1 | ALTER TABLE t ALTER COLUMN a SET EXPRESSION AS (b + 1);
+      |                              ^^^^^^^^^^^^^^^^^^^^^^^^^
 
-The six rules that follow look at the columns of `CREATE TABLE`, of `ADD
-COLUMN` and of `ALTER COLUMN ... TYPE` in `ALTER TABLE`, and not at foreign
-tables, composite types, domains, parameters and casts.
-";
-
-/// `prefer-bigint-over-int`.
-pub(crate) const PREFER_BIGINT_OVER_INT: &str = "prefer-bigint-over-int
-
-  default: on
-  fix:     unsafe (what uses the column may need the old type, also in a later
-           migration or in a client)
-  lock:    none now; a wider type rewrites the table one day
-  manual:  Numeric Types,
-           https://www.postgresql.org/docs/current/datatype-numeric.html
-
-A key that counts up reaches 2147483647 one day, and then every `INSERT` fails.
-That is the worst moment to find out that a wider column rewrites the table.
-
-Instead of
-
-    CREATE TABLE t (id serial, a int[]);
-
-Write
-
-    CREATE TABLE IF NOT EXISTS t (id bigint GENERATED BY DEFAULT AS IDENTITY, a bigint[]);
-
-`bigint` for keys, counters and what refers to them. Where the numbers are
-small for certain, ignore the report.
-
-It does not see columns of domains and composite types, and sequences with a
-small `MAXVALUE`.
-
-Details
-
-- Reported: each column of the type `int`, `integer`, `int4`, `serial` or
-  `serial4`, arrays too. The fix puts `bigint`, `int8`, `bigserial` or
-  `serial8` in place of the name.
-- Not reported: 16-bit types, which have a rule of their own; a quoted name in
-  another case (`\"INT\"`).
-- In PostgreSQL: `integer` has 4 bytes, `bigint` 8 (sections 8.1.1 and 8.1.4).
-  A change from one to the other rewrites the table and its indexes under
-  ACCESS EXCLUSIVE (ALTER TABLE, Notes).
-
-    $ echo 'CREATE TABLE t (id serial, a int[]);' | ./squawk --only prefer-bigint-over-int
-    19..25: warning[prefer-bigint-over-int]: using 32-bit integer fields can result in hitting the max `int` limit
-      help: use 64-bit integer values instead to prevent hitting this limit
-      fix: Replace with a 64-bit integer type: `bigserial`
-        replace 19..25 \"bigserial\"
-    29..34: warning[prefer-bigint-over-int]: using 32-bit integer fields can result in hitting the max `int` limit
-      help: use 64-bit integer values instead to prevent hitting this limit
-      fix: Replace with a 64-bit integer type: `bigint`
-        replace 29..32 \"bigint\"
-    violations: 2
-";
-
-/// `prefer-bigint-over-smallint`.
-pub(crate) const PREFER_BIGINT_OVER_SMALLINT: &str = "prefer-bigint-over-smallint
-
-  default: on
-  fix:     unsafe (what uses the column may need the old type, also in a later
-           migration or in a client)
-  lock:    none now; a wider type rewrites the table one day
-  manual:  Numeric Types,
-           https://www.postgresql.org/docs/current/datatype-numeric.html
-
-As for `prefer-bigint-over-int`, but at 32767.
-
-Instead of
-
-    CREATE TABLE t (id smallserial PRIMARY KEY, a pg_catalog.int2[], b SMALLINT NOT NULL);
-
-Write
-
-    CREATE TABLE IF NOT EXISTS t (id bigint GENERATED BY DEFAULT AS IDENTITY PRIMARY KEY, a bigint[], b bigint NOT NULL);
-
-For a code take `text` with a `CHECK` constraint. Ignore the report where the
-range is certain.
-
-It does not see columns of domains and composite types.
-
-Details
-
-- Reported: each column of the type `smallint`, `int2`, `smallserial` or
-  `serial2`, arrays too. The fix puts `bigint`, `int8`, `bigserial` or
-  `serial8` in place of the name.
-- In PostgreSQL: sections 8.1.1 and 8.1.4; ALTER TABLE, Notes.
-
-    $ echo 'CREATE TABLE t (id smallserial PRIMARY KEY, a pg_catalog.int2[], b SMALLINT NOT NULL);' | ./squawk --only prefer-bigint-over-smallint
-    19..30: warning[prefer-bigint-over-smallint]: using 16-bit integer fields can result in hitting the max `smallint` limit
-      help: use 64-bit integer values instead to prevent hitting this limit
-      fix: Replace with a 64-bit integer type: `bigserial`
-        replace 19..30 \"bigserial\"
-    46..63: warning[prefer-bigint-over-smallint]: using 16-bit integer fields can result in hitting the max `smallint` limit
-      help: use 64-bit integer values instead to prevent hitting this limit
-      fix: Replace with a 64-bit integer type: `int8`
-        replace 57..61 \"int8\"
-    67..75: warning[prefer-bigint-over-smallint]: using 16-bit integer fields can result in hitting the max `smallint` limit
-      help: use 64-bit integer values instead to prevent hitting this limit
-      fix: Replace with a 64-bit integer type: `bigint`
-        replace 67..75 \"bigint\"
-    violations: 3
-";
-
-/// `prefer-identity`.
-pub(crate) const PREFER_IDENTITY: &str = "prefer-identity
-
-  default: on
-  fix:     unsafe (tables that inherit the column have no values for it, and in
-           `ALTER COLUMN .. TYPE` PostgreSQL refuses it; none before version
-           10)
-  lock:    none in a new table; in `ADD COLUMN` ACCESS EXCLUSIVE, until the
-           table is written anew
-  manual:  Identity Columns,
-           https://www.postgresql.org/docs/current/ddl-identity-columns.html
-
-A serial column is an integer, a default and a sequence of its own. Whoever
-inserts needs the right to use the sequence too, the default can be changed by
-accident, and a copy of the table draws from the same sequence.
-
-Instead of
-
-    CREATE TABLE t (id bigserial PRIMARY KEY);
-
-Write
-
-    CREATE TABLE IF NOT EXISTS t (id bigint GENERATED BY DEFAULT AS IDENTITY PRIMARY KEY);
-
-Or `GENERATED ALWAYS`, where clients never give the value. In `ALTER COLUMN ..
-TYPE` PostgreSQL takes no serial type: write `ADD GENERATED`.
-
-It does not see that `ADD COLUMN .. bigserial` rewrites the table; so does an
-identity column in its place (`adding-field-with-default`).
-
-Details
-
-- Reported: each column of the type `serial`, `smallserial`, `bigserial`,
-  `serial2`, `serial4` or `serial8`. The fix puts an identity column of the
-  integer type in place of the name.
-- Not reported: an identity column; an integer with `DEFAULT nextval('s')`.
-- In PostgreSQL: section 8.1.4 says what `serial` stands for, section 5.3 what
-  an identity column is.
-
-    $ echo 'CREATE TABLE t (id bigserial PRIMARY KEY);' | ./squawk --only prefer-identity
-    19..28: warning[prefer-identity]: serial types make schema, dependency, and permission management difficult
-      help: use an `identity` column instead
-      fix: Replace with `identity` column
-        replace 19..28 \"bigint generated by default as identity\"
-    violations: 1
+    Found 1 issue in 1 of 1 file
 ";

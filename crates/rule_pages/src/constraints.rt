@@ -37,8 +37,10 @@ can't when it is done:
 
 `NOT VALID` is for `CHECK` and `FOREIGN KEY` and, from PostgreSQL 18 on, `NOT
 NULL`; a foreign key of a partitioned table takes it from 18 on, and before
-each partition does. PostgreSQL refuses it for the others, whatever the help
-says. For `UNIQUE` and `PRIMARY KEY` build the index first. For `EXCLUDE` there
+(`adding-foreign-key-constraint`) each partition does. PostgreSQL refuses it
+for the others, whatever the help says. For `UNIQUE`
+(`disallowed-unique-constraint`) and `PRIMARY KEY`
+(`adding-serial-primary-key-field`) build the index first. For `EXCLUDE` there
 is no such way: add it while nobody uses the table, or to a new table. A
 constraint with `NOT ENFORCED` (PostgreSQL 18) checks nothing, and is reported
 all the same: ignore it.
@@ -49,12 +51,14 @@ and `VALIDATE CONSTRAINT` of a domain.
 
 Details
 
-- Reported: two things. - Each table constraint that an `ALTER TABLE` adds,
-  named or not, of any kind: `CHECK`, `FOREIGN KEY`, `NOT NULL`, `UNIQUE`,
-  `PRIMARY KEY`, `EXCLUDE`. It is left alone with `NOT VALID` (outside of
-  brackets), and as `UNIQUE USING INDEX` or `PRIMARY KEY USING INDEX`. - Each
-  `VALIDATE CONSTRAINT` in an open transaction that earlier added a constraint
-  of that name with `NOT VALID`. Only the name is compared, and not the table.
+- Reported: two things.
+  - Each table constraint that an `ALTER TABLE` adds, named or not, of any
+    kind: `CHECK`, `FOREIGN KEY`, `NOT NULL`, `UNIQUE`, `PRIMARY KEY`,
+    `EXCLUDE`. It is left alone with `NOT VALID` (outside of brackets), and as
+    `UNIQUE USING INDEX` or `PRIMARY KEY USING INDEX`.
+  - Each `VALIDATE CONSTRAINT` in an open transaction that earlier added a
+    constraint of that name with `NOT VALID`. Only the name is compared, and
+    not the table.
 - Not reported: a constraint on a table that the same open transaction created
   (its `VALIDATE CONSTRAINT` is reported all the same); the constraints of a
   new table, or of a new column (`ADD COLUMN a int CHECK (a > 0)`); `ALTER
@@ -67,15 +71,27 @@ Details
   blocked then: of a foreign key only writes are (ALTER TABLE, \"ADD
   table_constraint [ NOT VALID ]\", \"VALIDATE CONSTRAINT\" and Notes).
 
-    $ echo 'ALTER TABLE t ADD CONSTRAINT k CHECK (a > 0);' | ./squawk --only constraint-missing-not-valid
-    14..44: warning[constraint-missing-not-valid]: by default new constraints require a table scan and block writes to the table while that scan occurs
-      help: use `not valid` with a later `validate constraint` call
-    violations: 1
+    $ echo 'ALTER TABLE t ADD CONSTRAINT k CHECK (a > 0);' | ./lavkheto check --only constraint-missing-not-valid
+    warning[constraint-missing-not-valid]: by default new constraints require a table scan and block writes to the table while that scan occurs
+     --> stdin:1:15
+      |
+    1 | ALTER TABLE t ADD CONSTRAINT k CHECK (a > 0);
+      |               ^^^^^^^^^^^^^^^^^^^^^^^^^^^^^^
+      |
+      = help: use `not valid` with a later `validate constraint` call
 
-    $ echo 'BEGIN; ALTER TABLE t ADD CONSTRAINT k CHECK (a > 0) NOT VALID; ALTER TABLE t VALIDATE CONSTRAINT k; COMMIT;' | ./squawk --only constraint-missing-not-valid
-    77..98: warning[constraint-missing-not-valid]: using `not valid` and `validate constraint` in the same transaction will block all reads while the constraint is validated
-      help: add constraint as `not valid` in one transaction and `validate constraint` in a separate transaction
-    violations: 1
+    Found 1 issue in 1 of 1 file
+
+    $ echo 'BEGIN; ALTER TABLE t ADD CONSTRAINT k CHECK (a > 0) NOT VALID; ALTER TABLE t VALIDATE CONSTRAINT k; COMMIT;' | ./lavkheto check --only constraint-missing-not-valid
+    warning[constraint-missing-not-valid]: using `not valid` and `validate constraint` in the same transaction will block all reads while the constraint is validated
+     --> stdin:1:78
+      |
+    1 | BEGIN; ALTER TABLE t ADD CONSTRAINT k CHECK (a > 0) NOT VALID; ALTER TABLE t VALIDATE CONSTRAINT k; COMMIT;
+      |                                                                              ^^^^^^^^^^^^^^^^^^^^^
+      |
+      = help: add constraint as `not valid` in one transaction and `validate constraint` in a separate transaction
+
+    Found 1 issue in 1 of 1 file
 ";
 
 /// `adding-foreign-key-constraint`.
@@ -150,10 +166,16 @@ Details
   CONSTRAINT` makes it under SHARE UPDATE EXCLUSIVE on the table and ROW SHARE
   on the referenced one (ALTER TABLE, \"VALIDATE CONSTRAINT\" and Notes).
 
-    $ echo 'ALTER TABLE t ADD FOREIGN KEY (a) REFERENCES u (b);' | ./squawk --only adding-foreign-key-constraint
-    18..50: warning[adding-foreign-key-constraint]: adding a foreign key constraint requires a table scan and a `share row exclusive` lock on both tables, which blocks writes to each table
-      help: add `not valid` to the constraint in one transaction and then `validate` the constraint in a separate transaction
-    violations: 1
+    $ echo 'ALTER TABLE t ADD FOREIGN KEY (a) REFERENCES u (b);' | ./lavkheto check --only adding-foreign-key-constraint
+    warning[adding-foreign-key-constraint]: adding a foreign key constraint requires a table scan and a `share row exclusive` lock on both tables, which blocks writes to each table
+     --> stdin:1:19
+      |
+    1 | ALTER TABLE t ADD FOREIGN KEY (a) REFERENCES u (b);
+      |                   ^^^^^^^^^^^^^^^^^^^^^^^^^^^^^^^^
+      |
+      = help: add `not valid` to the constraint in one transaction and then `validate` the constraint in a separate transaction
+
+    Found 1 issue in 1 of 1 file
 ";
 
 /// `adding-serial-primary-key-field`.
@@ -178,7 +200,6 @@ run again; `require-concurrent-index-creation` says what to do where it stops:
 
     SET lock_timeout = 0;
     SET statement_timeout = 0;
-    -- squawk-ignore invalid-index-kept
     CREATE UNIQUE INDEX CONCURRENTLY IF NOT EXISTS t_pkey ON t (id);
     RESET lock_timeout;
     RESET statement_timeout;
@@ -198,9 +219,9 @@ again: the index stays.
     ALTER TABLE t ADD CONSTRAINT t_pkey PRIMARY KEY USING INDEX t_pkey;
     COMMIT;
 
-It does not see with `USING INDEX`, whether the columns are `NOT NULL`: if not,
-all rows are searched for nulls under ACCESS EXCLUSIVE, unless a validated
-`CHECK` says `id IS NOT NULL`.
+It does not see whether the columns of a key with `USING INDEX` are `NOT NULL`:
+if not, all rows are searched for nulls under ACCESS EXCLUSIVE, unless a
+validated `CHECK` says `id IS NOT NULL`.
 
 Details
 
@@ -214,10 +235,16 @@ Details
   becomes the key; where its columns are not `NOT NULL` yet, they are still
   searched for nulls (\"ADD table_constraint_using_index\").
 
-    $ echo 'ALTER TABLE t ADD PRIMARY KEY (id);' | ./squawk --only adding-serial-primary-key-field
-    18..34: warning[adding-serial-primary-key-field]: adding a primary key constraint requires an `access exclusive` lock that will block all reads and writes to the table while the primary key index is built
-      help: add the `primary key` constraint `using` an index
-    violations: 1
+    $ echo 'ALTER TABLE t ADD PRIMARY KEY (id);' | ./lavkheto check --only adding-serial-primary-key-field
+    warning[adding-serial-primary-key-field]: adding a primary key constraint requires an `access exclusive` lock that will block all reads and writes to the table while the primary key index is built
+     --> stdin:1:19
+      |
+    1 | ALTER TABLE t ADD PRIMARY KEY (id);
+      |                   ^^^^^^^^^^^^^^^^
+      |
+      = help: add the `primary key` constraint `using` an index
+
+    Found 1 issue in 1 of 1 file
 ";
 
 /// `disallowed-unique-constraint`.
@@ -240,7 +267,6 @@ Write two files. One runs without a transaction, and can be run again;
 
     SET lock_timeout = 0;
     SET statement_timeout = 0;
-    -- squawk-ignore invalid-index-kept
     CREATE UNIQUE INDEX CONCURRENTLY IF NOT EXISTS t_b_key ON t (b);
     RESET lock_timeout;
     RESET statement_timeout;
@@ -270,21 +296,33 @@ Details
   each `UNIQUE` of a column that it adds.
 - Not reported: `ADD UNIQUE USING INDEX`, with a name or without one; a
   `UNIQUE` on a table that the same open transaction created. A `UNIQUE` of a
-  new column is reported there too. `CREATE UNIQUE INDEX` has a rule of its
-  own.
+  new column is reported there too. `CREATE UNIQUE INDEX` has a rule of its own
+  (`require-concurrent-index-creation`).
 - In PostgreSQL: ACCESS EXCLUSIVE until the index is complete (ALTER TABLE,
   \"ADD table_constraint\"). With `USING INDEX` an index that was built before
   becomes the constraint at once (\"ADD table_constraint_using_index\").
 
-    $ echo 'ALTER TABLE t ADD CONSTRAINT t_b_key UNIQUE (b);' | ./squawk --only disallowed-unique-constraint
-    18..47: warning[disallowed-unique-constraint]: adding a `unique` constraint requires an `access exclusive` lock which blocks reads and writes to the table while the index is built
-      help: create an index `concurrently` and create the constraint using the index
-    violations: 1
+    $ echo 'ALTER TABLE t ADD CONSTRAINT t_b_key UNIQUE (b);' | ./lavkheto check --only disallowed-unique-constraint
+    warning[disallowed-unique-constraint]: adding a `unique` constraint requires an `access exclusive` lock which blocks reads and writes to the table while the index is built
+     --> stdin:1:19
+      |
+    1 | ALTER TABLE t ADD CONSTRAINT t_b_key UNIQUE (b);
+      |                   ^^^^^^^^^^^^^^^^^^^^^^^^^^^^^
+      |
+      = help: create an index `concurrently` and create the constraint using the index
 
-    $ echo 'ALTER TABLE t ADD COLUMN c int UNIQUE;' | ./squawk --only disallowed-unique-constraint
-    31..37: warning[disallowed-unique-constraint]: adding a `unique` constraint requires an `access exclusive` lock which blocks reads and writes to the table while the index is built
-      help: create an index `concurrently` and create the constraint using the index
-    violations: 1
+    Found 1 issue in 1 of 1 file
+
+    $ echo 'ALTER TABLE t ADD COLUMN c int UNIQUE;' | ./lavkheto check --only disallowed-unique-constraint
+    warning[disallowed-unique-constraint]: adding a `unique` constraint requires an `access exclusive` lock which blocks reads and writes to the table while the index is built
+     --> stdin:1:32
+      |
+    1 | ALTER TABLE t ADD COLUMN c int UNIQUE;
+      |                                ^^^^^^
+      |
+      = help: create an index `concurrently` and create the constraint using the index
+
+    Found 1 issue in 1 of 1 file
 ";
 
 /// `adding-not-nullable-field`.
@@ -381,10 +419,16 @@ Details
   scans too, under SHARE UPDATE EXCLUSIVE (ALTER TABLE, \"VALIDATE CONSTRAINT\"
   and Notes).
 
-    $ echo 'ALTER TABLE t ALTER COLUMN a SET NOT NULL;' | ./squawk --only adding-not-nullable-field
-    29..41: warning[adding-not-nullable-field]: setting a column `not null` blocks reads while the table is scanned
-      help: make the field nullable and use a `check` constraint instead
-    violations: 1
+    $ echo 'ALTER TABLE t ALTER COLUMN a SET NOT NULL;' | ./lavkheto check --only adding-not-nullable-field
+    warning[adding-not-nullable-field]: setting a column `not null` blocks reads while the table is scanned
+     --> stdin:1:30
+      |
+    1 | ALTER TABLE t ALTER COLUMN a SET NOT NULL;
+      |                              ^^^^^^^^^^^^
+      |
+      = help: make the field nullable and use a `check` constraint instead
+
+    Found 1 issue in 1 of 1 file
 ";
 
 /// `ban-new-write-restriction`.
@@ -420,13 +464,15 @@ domain gets in another migration.
 
 Details
 
-- Reported: - of an `ALTER TABLE`: each constraint that is added, also as `NOT
-  VALID` or `USING INDEX`; each `SET NOT NULL`; each `NOT NULL`, `REFERENCES`,
-  `CHECK`, `UNIQUE` and `PRIMARY KEY` of a column that is added; each `ALTER
-  CONSTRAINT` that says `ENFORCED`, `DEFERRABLE`, `NOT DEFERRABLE` or
-  `INITIALLY`; - of an `ALTER FOREIGN TABLE` the same, but for `ALTER
-  CONSTRAINT`; - `SET NOT NULL` of an `ALTER DOMAIN`, and each constraint that
-  it adds; - each `CREATE UNIQUE INDEX`.
+- Reported:
+  - of an `ALTER TABLE`: each constraint that is added, also as `NOT VALID` or
+    `USING INDEX`; each `SET NOT NULL`; each `NOT NULL`, `REFERENCES`, `CHECK`,
+    `UNIQUE` and `PRIMARY KEY` of a column that is added; each `ALTER
+    CONSTRAINT` that says `ENFORCED`, `DEFERRABLE`, `NOT DEFERRABLE` or
+    `INITIALLY`;
+  - of an `ALTER FOREIGN TABLE` the same, but for `ALTER CONSTRAINT`;
+  - `SET NOT NULL` of an `ALTER DOMAIN`, and each constraint that it adds;
+  - each `CREATE UNIQUE INDEX`.
 - Not reported: what is done to a table that an earlier statement creates;
   constraints in `CREATE TABLE` and `CREATE DOMAIN`; `ALTER CONSTRAINT ... NOT
   ENFORCED` alone; `NULL`, `DEFAULT` and `GENERATED` of a new column.
@@ -436,9 +482,24 @@ Details
   table is not checked by PostgreSQL itself (ALTER FOREIGN TABLE, \"ADD
   table_constraint\"; CREATE FOREIGN TABLE, Notes).
 
-    $ echo 'ALTER TABLE t ADD CONSTRAINT k CHECK (a > 0) NOT VALID;' | ./squawk --only ban-new-write-restriction
-    14..54: warning[ban-new-write-restriction]: a new constraint can reject writes from existing clients, even when it is `not valid`
-    violations: 1
+Created before. A table that the same open transaction created is one of an
+earlier `CREATE TABLE`, `CREATE TABLE AS` or `SELECT INTO` in that transaction.
+`IF NOT EXISTS` counts too, though the table may have been there; a drop, and a
+rollback to a savepoint, aren't noticed. A table, type or sequence that an
+earlier statement creates is one that an earlier `CREATE TABLE` with a list,
+`CREATE TYPE` or `CREATE SEQUENCE` names, in any transaction, without `IF NOT
+EXISTS`; `CREATE TABLE AS`, `SELECT INTO` and foreign tables don't count; a
+rollback or a drop isn't noticed. In both, two names must have the same parts:
+`t` and `public.t` count as two tables.
+
+    $ echo 'ALTER TABLE t ADD CONSTRAINT k CHECK (a > 0) NOT VALID;' | ./lavkheto check --only ban-new-write-restriction
+    warning[ban-new-write-restriction]: a new constraint can reject writes from existing clients, even when it is `not valid`
+     --> stdin:1:15
+      |
+    1 | ALTER TABLE t ADD CONSTRAINT k CHECK (a > 0) NOT VALID;
+      |               ^^^^^^^^^^^^^^^^^^^^^^^^^^^^^^^^^^^^^^^^
+
+    Found 1 issue in 1 of 1 file
 ";
 
 /// `ban-drop-constraint`.
@@ -478,16 +539,21 @@ Details
 - Reported: each `DROP CONSTRAINT` of `ALTER TABLE`, `ALTER FOREIGN TABLE` and
   `ALTER DOMAIN`; and the words `NOT ENFORCED` of an `ALTER CONSTRAINT`, which
   turn a constraint off (from PostgreSQL 18 on).
-- Not reported: `DROP NOT NULL`, which has a rule of its own; `ALTER
-  CONSTRAINT` that changes only when a constraint is checked, such as
-  `DEFERRABLE`.
+- Not reported: `DROP NOT NULL`, which has a rule of its own
+  (`ban-drop-not-null`); `ALTER CONSTRAINT` that changes only when a constraint
+  is checked, such as `DEFERRABLE`.
 - In PostgreSQL: ACCESS EXCLUSIVE, for a moment, for a foreign key on both
   tables; `ALTER DOMAIN` locks no table (ALTER TABLE, \"DROP CONSTRAINT\" and
   \"ALTER CONSTRAINT\"; ALTER DOMAIN).
 
-    $ echo 'ALTER TABLE t DROP CONSTRAINT k;' | ./squawk --only ban-drop-constraint
-    14..31: warning[ban-drop-constraint]: dropping a constraint may remove a guarantee that existing clients assume
-    violations: 1
+    $ echo 'ALTER TABLE t DROP CONSTRAINT k;' | ./lavkheto check --only ban-drop-constraint
+    warning[ban-drop-constraint]: dropping a constraint may remove a guarantee that existing clients assume
+     --> stdin:1:15
+      |
+    1 | ALTER TABLE t DROP CONSTRAINT k;
+      |               ^^^^^^^^^^^^^^^^^
+
+    Found 1 issue in 1 of 1 file
 ";
 
 /// `ban-drop-not-null`.
@@ -528,13 +594,23 @@ Details
 - In PostgreSQL: ACCESS EXCLUSIVE, for a moment; no row is read; `ALTER DOMAIN`
   locks no table (ALTER TABLE, \"SET/DROP NOT NULL\"; ALTER DOMAIN).
 
-    $ echo 'ALTER TABLE t ALTER COLUMN a DROP NOT NULL;' | ./squawk --only ban-drop-not-null
-    29..42: warning[ban-drop-not-null]: dropping a `not null` constraint may break existing clients
-    violations: 1
+    $ echo 'ALTER TABLE t ALTER COLUMN a DROP NOT NULL;' | ./lavkheto check --only ban-drop-not-null
+    warning[ban-drop-not-null]: dropping a `not null` constraint may break existing clients
+     --> stdin:1:30
+      |
+    1 | ALTER TABLE t ALTER COLUMN a DROP NOT NULL;
+      |                              ^^^^^^^^^^^^^
 
-    $ echo 'ALTER DOMAIN d DROP NOT NULL;' | ./squawk --only ban-drop-not-null
-    15..28: warning[ban-drop-not-null]: dropping a `not null` constraint may break existing clients
-    violations: 1
+    Found 1 issue in 1 of 1 file
+
+    $ echo 'ALTER DOMAIN d DROP NOT NULL;' | ./lavkheto check --only ban-drop-not-null
+    warning[ban-drop-not-null]: dropping a `not null` constraint may break existing clients
+     --> stdin:1:16
+      |
+    1 | ALTER DOMAIN d DROP NOT NULL;
+      |                ^^^^^^^^^^^^^
+
+    Found 1 issue in 1 of 1 file
 ";
 
 /// `ban-create-domain-with-constraint`.
@@ -570,10 +646,16 @@ Details
 - In PostgreSQL: a column of a domain with a constraint rewrites the table when
   it is added (ALTER TABLE, Notes; CREATE DOMAIN and ALTER DOMAIN, Notes).
 
-    $ echo \"CREATE DOMAIN email AS text NOT NULL CHECK (VALUE LIKE '%@%');\" | ./squawk --only ban-create-domain-with-constraint
-    28..61: warning[ban-create-domain-with-constraint]: domains with constraints have poor support for online migrations
-      help: use table and column constraints instead
-    violations: 1
+    $ echo \"CREATE DOMAIN email AS text NOT NULL CHECK (VALUE LIKE '%@%');\" | ./lavkheto check --only ban-create-domain-with-constraint
+    warning[ban-create-domain-with-constraint]: domains with constraints have poor support for online migrations
+     --> stdin:1:29
+      |
+    1 | CREATE DOMAIN email AS text NOT NULL CHECK (VALUE LIKE '%@%');
+      |                             ^^^^^^^^^^^^^^^^^^^^^^^^^^^^^^^^^
+      |
+      = help: use table and column constraints instead
+
+    Found 1 issue in 1 of 1 file
 ";
 
 /// `ban-alter-domain-with-add-constraint`.
@@ -627,8 +709,14 @@ Details
 - In PostgreSQL: all columns of the domain are checked, unless `NOT VALID` is
   given (ALTER DOMAIN, \"ADD domain_constraint [ NOT VALID ]\" and Notes).
 
-    $ echo 'ALTER DOMAIN d ADD CHECK (VALUE > 0);' | ./squawk --only ban-alter-domain-with-add-constraint
-    15..36: warning[ban-alter-domain-with-add-constraint]: domains with constraints have poor support for online migrations
-      help: use table and column constraints instead
-    violations: 1
+    $ echo 'ALTER DOMAIN d ADD CHECK (VALUE > 0);' | ./lavkheto check --only ban-alter-domain-with-add-constraint
+    warning[ban-alter-domain-with-add-constraint]: domains with constraints have poor support for online migrations
+     --> stdin:1:16
+      |
+    1 | ALTER DOMAIN d ADD CHECK (VALUE > 0);
+      |                ^^^^^^^^^^^^^^^^^^^^^
+      |
+      = help: use table and column constraints instead
+
+    Found 1 issue in 1 of 1 file
 ";

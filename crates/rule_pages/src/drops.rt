@@ -26,9 +26,14 @@ Details
 - In PostgreSQL: it runs in no transaction block and cannot be undone. `WITH
   (FORCE)` ends the sessions that still use it (DROP DATABASE).
 
-    $ echo 'DROP DATABASE d;' | ./squawk --only ban-drop-database
-    0..16: warning[ban-drop-database]: dropping a database may break existing clients
-    violations: 1
+    $ echo 'DROP DATABASE d;' | ./lavkheto check --only ban-drop-database
+    warning[ban-drop-database]: dropping a database may break existing clients
+     --> stdin:1:1
+      |
+    1 | DROP DATABASE d;
+      | ^^^^^^^^^^^^^^^^
+
+    Found 1 issue in 1 of 1 file
 ";
 
 /// `ban-drop-table`.
@@ -41,14 +46,15 @@ pub(crate) const BAN_DROP_TABLE: &str = "ban-drop-table
   manual:  DROP TABLE,
            https://www.postgresql.org/docs/current/sql-droptable.html
 
-These report a whole statement, once, however many objects it names, with and
-without `IF EXISTS` and `CASCADE`. The safe way is the same for all: release a
-version that does without the object, see that nothing uses it any more, and
-drop it in a later migration. Without `CASCADE`, PostgreSQL refuses to drop
-what other objects depend on (section 5.15); with it they go too.
-
 The table goes with its rows, indexes and triggers. Every client that still
 uses it fails.
+
+The rules of this group report a whole statement, once, however many objects it
+names, with and without `IF EXISTS` and `CASCADE`. The safe way is the same for
+all: release a version that does without the object, see that nothing uses it
+any more, and drop it in a later migration. Without `CASCADE`, PostgreSQL
+refuses to drop what other objects depend on (section 5.15); with it they go
+too.
 
 Instead of
 
@@ -65,7 +71,8 @@ misses for a week is easier to bring back than a dropped one.
 
 A partition takes the partitioned table and the default partition with it: all
 three are under ACCESS EXCLUSIVE, and who reads any partition through the table
-waits. Detach it first, in a file of its own; then the drop locks it alone.
+waits. Detach it (`require-concurrent-partition-detach`) first, in a file of
+its own; then the drop locks it alone.
 
 It does not see whether the table is a partition; tables that go with their
 schema, owner, type or extension (`CASCADE`, `DROP OWNED`).
@@ -78,9 +85,14 @@ Details
   table and the default partition (section 13.3.1; DROP TABLE and DROP FOREIGN
   TABLE).
 
-    $ echo 'DROP TABLE IF EXISTS a, b CASCADE;' | ./squawk --only ban-drop-table
-    0..34: warning[ban-drop-table]: dropping a table may break existing clients
-    violations: 1
+    $ echo 'DROP TABLE IF EXISTS a, b CASCADE;' | ./lavkheto check --only ban-drop-table
+    warning[ban-drop-table]: dropping a table may break existing clients
+     --> stdin:1:1
+      |
+    1 | DROP TABLE IF EXISTS a, b CASCADE;
+      | ^^^^^^^^^^^^^^^^^^^^^^^^^^^^^^^^^^
+
+    Found 1 issue in 1 of 1 file
 ";
 
 /// `ban-drop-view`.
@@ -91,13 +103,14 @@ pub(crate) const BAN_DROP_VIEW: &str = "ban-drop-view
   lock:    ACCESS EXCLUSIVE on the view, for a moment
   manual:  DROP VIEW, https://www.postgresql.org/docs/current/sql-dropview.html
 
-These report a whole statement, once, however many objects it names, with and
-without `IF EXISTS` and `CASCADE`. The safe way is the same for all: release a
-version that does without the object, see that nothing uses it any more, and
-drop it in a later migration. Without `CASCADE`, PostgreSQL refuses to drop
-what other objects depend on (section 5.15); with it they go too.
-
 Clients that read the view fail. The rows of a materialized view are lost.
+
+The rules of this group report a whole statement, once, however many objects it
+names, with and without `IF EXISTS` and `CASCADE`. The safe way is the same for
+all: release a version that does without the object, see that nothing uses it
+any more, and drop it in a later migration. Without `CASCADE`, PostgreSQL
+refuses to drop what other objects depend on (section 5.15); with it they go
+too.
 
 Instead of
 
@@ -121,9 +134,14 @@ Details
 - In PostgreSQL: ACCESS EXCLUSIVE on the view (DROP VIEW and DROP MATERIALIZED
   VIEW).
 
-    $ echo 'DROP VIEW v;' | ./squawk --only ban-drop-view
-    0..12: warning[ban-drop-view]: dropping a view may break existing clients
-    violations: 1
+    $ echo 'DROP VIEW v;' | ./lavkheto check --only ban-drop-view
+    warning[ban-drop-view]: dropping a view may break existing clients
+     --> stdin:1:1
+      |
+    1 | DROP VIEW v;
+      | ^^^^^^^^^^^^
+
+    Found 1 issue in 1 of 1 file
 ";
 
 /// `ban-drop-function`.
@@ -135,13 +153,14 @@ pub(crate) const BAN_DROP_FUNCTION: &str = "ban-drop-function
   manual:  DROP FUNCTION,
            https://www.postgresql.org/docs/current/sql-dropfunction.html
 
-These report a whole statement, once, however many objects it names, with and
-without `IF EXISTS` and `CASCADE`. The safe way is the same for all: release a
-version that does without the object, see that nothing uses it any more, and
-drop it in a later migration. Without `CASCADE`, PostgreSQL refuses to drop
-what other objects depend on (section 5.15); with it they go too.
-
 Clients that call it fail, and so do statements that they have prepared.
+
+The rules of this group report a whole statement, once, however many objects it
+names, with and without `IF EXISTS` and `CASCADE`. The safe way is the same for
+all: release a version that does without the object, see that nothing uses it
+any more, and drop it in a later migration. Without `CASCADE`, PostgreSQL
+refuses to drop what other objects depend on (section 5.15); with it they go
+too.
 
 Instead of
 
@@ -165,9 +184,14 @@ Details
   AGGREGATE`.
 - In PostgreSQL: the pages of these statements.
 
-    $ echo 'DROP AGGREGATE a(int);' | ./squawk --only ban-drop-function
-    0..22: warning[ban-drop-function]: dropping an aggregate may break existing clients
-    violations: 1
+    $ echo 'DROP AGGREGATE a(int);' | ./lavkheto check --only ban-drop-function
+    warning[ban-drop-function]: dropping an aggregate may break existing clients
+     --> stdin:1:1
+      |
+    1 | DROP AGGREGATE a(int);
+      | ^^^^^^^^^^^^^^^^^^^^^^
+
+    Found 1 issue in 1 of 1 file
 ";
 
 /// `ban-drop-type`.
@@ -179,14 +203,15 @@ pub(crate) const BAN_DROP_TYPE: &str = "ban-drop-type
            loses a column or an index
   manual:  DROP TYPE, https://www.postgresql.org/docs/current/sql-droptype.html
 
-These report a whole statement, once, however many objects it names, with and
-without `IF EXISTS` and `CASCADE`. The safe way is the same for all: release a
-version that does without the object, see that nothing uses it any more, and
-drop it in a later migration. Without `CASCADE`, PostgreSQL refuses to drop
-what other objects depend on (section 5.15); with it they go too.
-
 Queries that use the type, the cast or the operator fail. With `CASCADE` the
 columns of the type go too, and the indexes of the operator class.
+
+The rules of this group report a whole statement, once, however many objects it
+names, with and without `IF EXISTS` and `CASCADE`. The safe way is the same for
+all: release a version that does without the object, see that nothing uses it
+any more, and drop it in a later migration. Without `CASCADE`, PostgreSQL
+refuses to drop what other objects depend on (section 5.15); with it they go
+too.
 
 Instead of
 
@@ -206,12 +231,17 @@ Details
 
 - Reported: each `DROP TYPE`, `DROP CAST`, `DROP OPERATOR`, `DROP OPERATOR
   CLASS` and `DROP OPERATOR FAMILY`.
-- Not reported: `DROP DOMAIN`, which has a rule of its own.
+- Not reported: `DROP DOMAIN`, which has a rule of its own (`ban-drop-domain`).
 - In PostgreSQL: the pages of these statements.
 
-    $ echo 'DROP OPERATOR + (pair, pair);' | ./squawk --only ban-drop-type
-    0..29: warning[ban-drop-type]: dropping an operator may break existing clients
-    violations: 1
+    $ echo 'DROP OPERATOR + (pair, pair);' | ./lavkheto check --only ban-drop-type
+    warning[ban-drop-type]: dropping an operator may break existing clients
+     --> stdin:1:1
+      |
+    1 | DROP OPERATOR + (pair, pair);
+      | ^^^^^^^^^^^^^^^^^^^^^^^^^^^^^
+
+    Found 1 issue in 1 of 1 file
 ";
 
 /// `ban-drop-trigger`.
@@ -223,14 +253,15 @@ pub(crate) const BAN_DROP_TRIGGER: &str = "ban-drop-trigger
   manual:  DROP TRIGGER,
            https://www.postgresql.org/docs/current/sql-droptrigger.html
 
-These report a whole statement, once, however many objects it names, with and
-without `IF EXISTS` and `CASCADE`. The safe way is the same for all: release a
-version that does without the object, see that nothing uses it any more, and
-drop it in a later migration. Without `CASCADE`, PostgreSQL refuses to drop
-what other objects depend on (section 5.15); with it they go too.
-
 What the trigger did is no longer done: checks, audit rows, copies of values.
 No client gets an error.
+
+The rules of this group report a whole statement, once, however many objects it
+names, with and without `IF EXISTS` and `CASCADE`. The safe way is the same for
+all: release a version that does without the object, see that nothing uses it
+any more, and drop it in a later migration. Without `CASCADE`, PostgreSQL
+refuses to drop what other objects depend on (section 5.15); with it they go
+too.
 
 Instead of
 
@@ -254,9 +285,14 @@ Details
 - Not reported: `DROP EVENT TRIGGER`.
 - In PostgreSQL: ACCESS EXCLUSIVE on the table, for a moment (DROP TRIGGER).
 
-    $ echo 'DROP TRIGGER audit ON t;' | ./squawk --only ban-drop-trigger
-    0..24: warning[ban-drop-trigger]: dropping a trigger may silently change behavior for existing clients
-    violations: 1
+    $ echo 'DROP TRIGGER audit ON t;' | ./lavkheto check --only ban-drop-trigger
+    warning[ban-drop-trigger]: dropping a trigger may silently change behavior for existing clients
+     --> stdin:1:1
+      |
+    1 | DROP TRIGGER audit ON t;
+      | ^^^^^^^^^^^^^^^^^^^^^^^^
+
+    Found 1 issue in 1 of 1 file
 ";
 
 /// `ban-drop-schema`.
@@ -269,14 +305,15 @@ pub(crate) const BAN_DROP_SCHEMA: &str = "ban-drop-schema
   manual:  DROP SCHEMA,
            https://www.postgresql.org/docs/current/sql-dropschema.html
 
-These report a whole statement, once, however many objects it names, with and
-without `IF EXISTS` and `CASCADE`. The safe way is the same for all: release a
-version that does without the object, see that nothing uses it any more, and
-drop it in a later migration. Without `CASCADE`, PostgreSQL refuses to drop
-what other objects depend on (section 5.15); with it they go too.
-
 Clients that name an object in it fail. Those that have the schema in their
 search path fail, or find another object of the same name.
+
+The rules of this group report a whole statement, once, however many objects it
+names, with and without `IF EXISTS` and `CASCADE`. The safe way is the same for
+all: release a version that does without the object, see that nothing uses it
+any more, and drop it in a later migration. Without `CASCADE`, PostgreSQL
+refuses to drop what other objects depend on (section 5.15); with it they go
+too.
 
 Instead of
 
@@ -299,9 +336,14 @@ Details
 - In PostgreSQL: without `CASCADE` only an empty schema is dropped (DROP
   SCHEMA; section 5.10.3).
 
-    $ echo 'DROP SCHEMA o;' | ./squawk --only ban-drop-schema
-    0..14: warning[ban-drop-schema]: dropping a schema may break existing clients
-    violations: 1
+    $ echo 'DROP SCHEMA o;' | ./lavkheto check --only ban-drop-schema
+    warning[ban-drop-schema]: dropping a schema may break existing clients
+     --> stdin:1:1
+      |
+    1 | DROP SCHEMA o;
+      | ^^^^^^^^^^^^^^
+
+    Found 1 issue in 1 of 1 file
 ";
 
 /// `ban-drop-sequence`.
@@ -313,14 +355,15 @@ pub(crate) const BAN_DROP_SEQUENCE: &str = "ban-drop-sequence
   manual:  DROP SEQUENCE,
            https://www.postgresql.org/docs/current/sql-dropsequence.html
 
-These report a whole statement, once, however many objects it names, with and
-without `IF EXISTS` and `CASCADE`. The safe way is the same for all: release a
-version that does without the object, see that nothing uses it any more, and
-drop it in a later migration. Without `CASCADE`, PostgreSQL refuses to drop
-what other objects depend on (section 5.15); with it they go too.
-
 Clients that call `nextval` on it fail. With `CASCADE` the defaults that use it
 go, and an `INSERT` that relied on one fails.
+
+The rules of this group report a whole statement, once, however many objects it
+names, with and without `IF EXISTS` and `CASCADE`. The safe way is the same for
+all: release a version that does without the object, see that nothing uses it
+any more, and drop it in a later migration. Without `CASCADE`, PostgreSQL
+refuses to drop what other objects depend on (section 5.15); with it they go
+too.
 
 Instead of
 
@@ -341,9 +384,14 @@ Details
 - Reported: each `DROP SEQUENCE`.
 - In PostgreSQL: DROP SEQUENCE.
 
-    $ echo 'DROP SEQUENCE o;' | ./squawk --only ban-drop-sequence
-    0..16: warning[ban-drop-sequence]: dropping a sequence may break existing clients
-    violations: 1
+    $ echo 'DROP SEQUENCE o;' | ./lavkheto check --only ban-drop-sequence
+    warning[ban-drop-sequence]: dropping a sequence may break existing clients
+     --> stdin:1:1
+      |
+    1 | DROP SEQUENCE o;
+      | ^^^^^^^^^^^^^^^^
+
+    Found 1 issue in 1 of 1 file
 ";
 
 /// `ban-drop-domain`.
@@ -356,14 +404,15 @@ pub(crate) const BAN_DROP_DOMAIN: &str = "ban-drop-domain
   manual:  DROP DOMAIN,
            https://www.postgresql.org/docs/current/sql-dropdomain.html
 
-These report a whole statement, once, however many objects it names, with and
-without `IF EXISTS` and `CASCADE`. The safe way is the same for all: release a
-version that does without the object, see that nothing uses it any more, and
-drop it in a later migration. Without `CASCADE`, PostgreSQL refuses to drop
-what other objects depend on (section 5.15); with it they go too.
-
 Queries and functions that name the domain fail. With `CASCADE` the columns of
 the domain go too.
+
+The rules of this group report a whole statement, once, however many objects it
+names, with and without `IF EXISTS` and `CASCADE`. The safe way is the same for
+all: release a version that does without the object, see that nothing uses it
+any more, and drop it in a later migration. Without `CASCADE`, PostgreSQL
+refuses to drop what other objects depend on (section 5.15); with it they go
+too.
 
 Instead of
 
@@ -385,9 +434,14 @@ Details
 - Reported: each `DROP DOMAIN`.
 - In PostgreSQL: DROP DOMAIN.
 
-    $ echo 'DROP DOMAIN o;' | ./squawk --only ban-drop-domain
-    0..14: warning[ban-drop-domain]: dropping a domain may break existing clients
-    violations: 1
+    $ echo 'DROP DOMAIN o;' | ./lavkheto check --only ban-drop-domain
+    warning[ban-drop-domain]: dropping a domain may break existing clients
+     --> stdin:1:1
+      |
+    1 | DROP DOMAIN o;
+      | ^^^^^^^^^^^^^^
+
+    Found 1 issue in 1 of 1 file
 ";
 
 /// `ban-drop-extension`.
@@ -400,14 +454,15 @@ pub(crate) const BAN_DROP_EXTENSION: &str = "ban-drop-extension
   manual:  DROP EXTENSION,
            https://www.postgresql.org/docs/current/sql-dropextension.html
 
-These report a whole statement, once, however many objects it names, with and
-without `IF EXISTS` and `CASCADE`. The safe way is the same for all: release a
-version that does without the object, see that nothing uses it any more, and
-drop it in a later migration. Without `CASCADE`, PostgreSQL refuses to drop
-what other objects depend on (section 5.15); with it they go too.
-
 Its functions, types and operators go with it, and clients that use one of them
 fail.
+
+The rules of this group report a whole statement, once, however many objects it
+names, with and without `IF EXISTS` and `CASCADE`. The safe way is the same for
+all: release a version that does without the object, see that nothing uses it
+any more, and drop it in a later migration. Without `CASCADE`, PostgreSQL
+refuses to drop what other objects depend on (section 5.15); with it they go
+too.
 
 Instead of
 
@@ -428,9 +483,14 @@ Details
 - Reported: each `DROP EXTENSION`.
 - In PostgreSQL: DROP EXTENSION; \"Packaging Related Objects into an Extension\".
 
-    $ echo 'DROP EXTENSION pg_trgm;' | ./squawk --only ban-drop-extension
-    0..23: warning[ban-drop-extension]: dropping an extension also removes its functions, types, and other objects, which may break existing clients
-    violations: 1
+    $ echo 'DROP EXTENSION pg_trgm;' | ./lavkheto check --only ban-drop-extension
+    warning[ban-drop-extension]: dropping an extension also removes its functions, types, and other objects, which may break existing clients
+     --> stdin:1:1
+      |
+    1 | DROP EXTENSION pg_trgm;
+      | ^^^^^^^^^^^^^^^^^^^^^^^
+
+    Found 1 issue in 1 of 1 file
 ";
 
 /// `ban-truncate-cascade`.
@@ -464,11 +524,17 @@ Details
 - In PostgreSQL: ACCESS EXCLUSIVE on each of them (TRUNCATE, \"CASCADE\" and
   Notes).
 
-    $ echo 'TRUNCATE t CASCADE;' | ./squawk --only ban-truncate-cascade
-    11..18: warning[ban-truncate-cascade]: `cascade` recursively truncates every table with a foreign key to the truncated tables
-      note: with foreign keys set up as `a <- b <- c`, truncating `a` also truncates `b` and `c`
-      help: remove the `cascade` and list exactly which tables to truncate
-    violations: 1
+    $ echo 'TRUNCATE t CASCADE;' | ./lavkheto check --only ban-truncate-cascade
+    warning[ban-truncate-cascade]: `cascade` recursively truncates every table with a foreign key to the truncated tables
+     --> stdin:1:12
+      |
+    1 | TRUNCATE t CASCADE;
+      |            ^^^^^^^
+      |
+      = note: with foreign keys set up as `a <- b <- c`, truncating `a` also truncates `b` and `c`
+      = help: remove the `cascade` and list exactly which tables to truncate
+
+    Found 1 issue in 1 of 1 file
 ";
 
 /// `require-concurrent-partition-detach`.
@@ -521,12 +587,20 @@ Details
   table has a default partition. `FINALIZE` ends one that was interrupted
   (ALTER TABLE, \"DETACH PARTITION\").
 
-    $ echo 'ALTER TABLE t DETACH PARTITION p;' | ./squawk --only require-concurrent-partition-detach
-    14..32: warning[require-concurrent-partition-detach]: detaching a partition requires an `access exclusive` lock, which prevents reads and writes to the table
-      help: detach the partition `concurrently`
-      fix: Add `concurrently`
-        insert 32 \" concurrently\"
-    violations: 1
+    $ echo 'ALTER TABLE t DETACH PARTITION p;' | ./lavkheto check --only require-concurrent-partition-detach
+    warning[require-concurrent-partition-detach]: detaching a partition requires an `access exclusive` lock, which prevents reads and writes to the table
+     --> stdin:1:15
+      |
+    1 | ALTER TABLE t DETACH PARTITION p;
+      |               ^^^^^^^^^^^^^^^^^^
+      |
+      = help: detach the partition `concurrently`
+    fix: Add `concurrently` (unsafe)
+      |
+    1 - ALTER TABLE t DETACH PARTITION p;
+    1 + ALTER TABLE t DETACH PARTITION p concurrently;
+
+    Found 1 issue in 1 of 1 file
 ";
 
 /// `ban-detach-inheritance`.
@@ -570,7 +644,22 @@ Details
 - In PostgreSQL: section 5.12.2.2, \"Partition Maintenance\"; section 5.11,
   \"Inheritance\"; ALTER TABLE, \"DETACH PARTITION\" and \"NO INHERIT\".
 
-    $ echo 'ALTER TABLE logs DETACH PARTITION logs_2024 CONCURRENTLY;' | ./squawk --only ban-detach-inheritance
-    17..56: warning[ban-detach-inheritance]: detaching a partition changes which rows existing clients can read and write through the parent table
-    violations: 1
+Created before. A table that the same open transaction created is one of an
+earlier `CREATE TABLE`, `CREATE TABLE AS` or `SELECT INTO` in that transaction.
+`IF NOT EXISTS` counts too, though the table may have been there; a drop, and a
+rollback to a savepoint, aren't noticed. A table, type or sequence that an
+earlier statement creates is one that an earlier `CREATE TABLE` with a list,
+`CREATE TYPE` or `CREATE SEQUENCE` names, in any transaction, without `IF NOT
+EXISTS`; `CREATE TABLE AS`, `SELECT INTO` and foreign tables don't count; a
+rollback or a drop isn't noticed. In both, two names must have the same parts:
+`t` and `public.t` count as two tables.
+
+    $ echo 'ALTER TABLE logs DETACH PARTITION logs_2024 CONCURRENTLY;' | ./lavkheto check --only ban-detach-inheritance
+    warning[ban-detach-inheritance]: detaching a partition changes which rows existing clients can read and write through the parent table
+     --> stdin:1:18
+      |
+    1 | ALTER TABLE logs DETACH PARTITION logs_2024 CONCURRENTLY;
+      |                  ^^^^^^^^^^^^^^^^^^^^^^^^^^^^^^^^^^^^^^^
+
+    Found 1 issue in 1 of 1 file
 ";

@@ -90,10 +90,11 @@ Write a plain column first, and fill it:
     -- the old rows, some thousands at a time, each time in a transaction of its own
     UPDATE t SET c = id WHERE id BETWEEN 1 AND 10000 AND c IS NULL;
 
-Let no tool put one transaction around both. Then make it `NOT NULL`, and add
-the identity, which begins above the greatest value. In place of `VACUUM FULL`
-and `CLUSTER` use pg_repack, or `REPACK (CONCURRENTLY)` from PostgreSQL 19 on.
-pg_repack moves a table to another tablespace too.
+Let no tool put one transaction around both. Then make it `NOT NULL`
+(`adding-not-nullable-field`), and add the identity (`ban-alter-identity`),
+which begins above the greatest value. In place of `VACUUM FULL` and `CLUSTER`
+use pg_repack, or `REPACK (CONCURRENTLY)` (`prefer-repack`) from PostgreSQL 19
+on. pg_repack moves a table to another tablespace too.
 
 It does not see what a rule reports already: another type, a default that is
 computed for each row, a stored generated column, an identity column; a domain
@@ -224,7 +225,6 @@ again:
 
     SET lock_timeout = 0;
     SET statement_timeout = 0;
-    -- squawk-ignore invalid-index-kept
     CREATE INDEX CONCURRENTLY IF NOT EXISTS i ON t (a);
     RESET lock_timeout;
     RESET statement_timeout;
@@ -288,13 +288,12 @@ Instead of
 
     CREATE INDEX CONCURRENTLY IF NOT EXISTS i ON t (a);
 
-Write in a file of its own that runs without a transaction and can be run
-again, with a look at the index that stops the migration, and the ignore
-comment that the look makes true:
+Write in a file of its own that runs without a transaction, and can be run
+again, a look at the index behind the build, which stops the migration at an
+invalid one:
 
     SET lock_timeout = 0;
     SET statement_timeout = 0;
-    -- squawk-ignore invalid-index-kept
     CREATE INDEX CONCURRENTLY IF NOT EXISTS i ON t (a);
     RESET lock_timeout;
     RESET statement_timeout;
@@ -307,28 +306,41 @@ comment that the look makes true:
 
 Where it stops, mend the index by hand: `REINDEX INDEX CONCURRENTLY i`, without
 a timeout and outside of a transaction. For a unique index take the duplicates
-away first. Then run the file again.
+away first. Then run the file again. An index that you know to be invalid may
+be dropped as well, by hand, with `DROP INDEX CONCURRENTLY i`; no query loses
+anything by that.
 
-Write the drop that the help names only where you know that the index is
-invalid. It drops a valid one too: when the file is run a second time, queries
-lose the index until it is built again; a unique one keeps duplicates out no
-more, and they make the build fail; and one that a constraint uses by now can't
-be dropped, so that the migration fails.
+A `DROP INDEX CONCURRENTLY IF EXISTS i` in the file, before the build, is let
+through too. But write none: it drops a valid index as well, when the file is
+run a second time. Queries lose the index until it is built again; a unique one
+keeps duplicates out no more, and they make the build fail; and one that a
+constraint uses by now can't be dropped, so that the migration fails.
 
 It does not see whether an index of that name is there, and whether it is
-valid; the look at `indisvalid`.
+valid; whether the look stops the migration, and of which schema the index is
+that it looks at; a look in a function, in another file, by another column or
+by a list of all invalid indexes.
 
 Details
 
-- Reported: each `CREATE INDEX CONCURRENTLY IF NOT EXISTS` of a name that no
-  earlier `DROP INDEX .. IF EXISTS` of the text has. Only the last part of a
-  path is compared, so `s.i` and `i` count as one.
+- Reported: each `CREATE INDEX CONCURRENTLY IF NOT EXISTS` of a name at which
+  no later statement of the text looks, and which no earlier `DROP INDEX .. IF
+  EXISTS` of it has. Of the drop only the last part of the path is compared, so
+  `s.i` and `i` count as one.
+- A look is a `DO` block or a `SELECT` (one behind `WITH` too) with two words
+  in it: `indisvalid`, the column of `pg_index`, and the name of the index,
+  without its schema and its quotes. Upper and lower case don't count, and `i`
+  is no word of `i_old`. Words may be in the strings of the statement, such as
+  the code of the `DO` block, and not in comments. In such code a comment ends
+  with its line, or with its `*/`; behind a comment in a comment nothing is
+  seen. A `--` or `/*` in a string of the code counts as a comment.
 - Not reported: the same without `IF NOT EXISTS`, where the second run fails;
   without `CONCURRENTLY`, where a build that fails leaves nothing.
 - In PostgreSQL: the second run said \"already exists, skipping\", with status 0,
-  and the index stayed invalid. With the drop before it the index was valid.
+  and the index stayed invalid. The look stopped at it, and no more when
+  `REINDEX INDEX CONCURRENTLY` had mended it.
 - False alarms: a migration that is never run twice, or whose first build never
-  fails; one that looks at `indisvalid` afterwards.
+  fails; one that looks at the index in a way that is not seen.
 
     $ echo 'CREATE INDEX CONCURRENTLY IF NOT EXISTS i ON t (a);' | ./lavkheto check --only invalid-index-kept
     warning[invalid-index-kept]: after a failed build `if not exists` keeps the invalid index
@@ -337,7 +349,7 @@ Details
     1 | CREATE INDEX CONCURRENTLY IF NOT EXISTS i ON t (a);
       | ^^^^^^^^^^^^^^^^^^^^^^^^^^^^^^^^^^^^^^^^^^^^^^^^^^^
       |
-      = help: `drop index concurrently if exists i;` before it
+      = help: after it, a `do` block that stops where `indisvalid` is false; then `reindex index concurrently i`
 
     Found 1 issue in 1 of 1 file
 ";

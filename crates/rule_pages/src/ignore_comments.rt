@@ -35,9 +35,24 @@ Details
   name of no rule is reported whatever rules are enabled. An unused name is
   reported only where this rule is enabled: by default, and not with `--only`.
 
-    $ printf -- '-- squawk-ignore ban-drop-tabel, ban-drop-view\\nDROP TABLE t;\\n' | ./squawk --exclude prefer-robust-stmts,require-timeout-settings
-    17..31: warning[unused-ignore]: unknown name `ban-drop-tabel`
-    33..46: warning[unused-ignore]: unused ignore `ban-drop-view`
-    47..60: warning[ban-drop-table]: dropping a table may break existing clients
-    violations: 3
+    $ printf -- '-- squawk-ignore ban-drop-tabel, ban-drop-view\\nDROP TABLE t;\\n' | ./lavkheto check --exclude prefer-robust-stmts,require-timeout-settings
+    warning[unused-ignore]: unknown name `ban-drop-tabel`
+     --> stdin:1:18
+      |
+    1 | -- squawk-ignore ban-drop-tabel, ban-drop-view
+      |                  ^^^^^^^^^^^^^^
+
+    warning[unused-ignore]: unused ignore `ban-drop-view`
+     --> stdin:1:34
+      |
+    1 | -- squawk-ignore ban-drop-tabel, ban-drop-view
+      |                                  ^^^^^^^^^^^^^
+
+    warning[ban-drop-table]: dropping a table may break existing clients
+     --> stdin:2:1
+      |
+    2 | DROP TABLE t;
+      | ^^^^^^^^^^^^^
+
+    Found 3 issues in 1 of 1 file
 ";

@@ -23,7 +23,6 @@ again:
 
     SET lock_timeout = 0;
     SET statement_timeout = 0;
-    -- squawk-ignore invalid-index-kept
     CREATE INDEX CONCURRENTLY IF NOT EXISTS i ON t (a);
     RESET lock_timeout;
     RESET statement_timeout;
@@ -47,13 +46,12 @@ transaction, and run the file again:
     RESET lock_timeout;
     RESET statement_timeout;
 
-A `DROP INDEX CONCURRENTLY IF EXISTS i` before the build would mend it too. But
-it drops a valid index as well, when the file is run a second time: queries are
-slow until the next build ends, and where the index is unique, duplicates get
-in meanwhile, at which that build fails. `IF NOT EXISTS` goes by the name
-alone: an index of that name on another table or on other columns is kept as
-well. The linter doesn't look into the `DO` block, so the comment leaves out
-the hazard `invalid-index-kept`.
+Write no `DROP INDEX CONCURRENTLY IF EXISTS i` before the build: it drops a
+valid index as well, when the file is run a second time. Queries are slow until
+the next build ends, and where the index is unique, duplicates get in
+meanwhile, at which that build fails. `IF NOT EXISTS` goes by the name alone:
+an index of that name on another table or on other columns is kept as well.
+Without the last statement the hazard `invalid-index-kept` reports the build.
 
 An index with an expression has no statistics until the table is analyzed: run
 `ANALYZE t` after the build.
@@ -86,19 +84,45 @@ Details
   UPDATE EXCLUSIVE, is slower, and may not run in a transaction block (CREATE
   INDEX, \"Building Indexes Concurrently\"; section 13.3.1).
 
-    $ echo 'CREATE INDEX i ON t (a);' | ./squawk --only require-concurrent-index-creation
-    0..24: warning[require-concurrent-index-creation]: during normal index creation, table updates are blocked, but reads are still allowed
-      help: use `concurrently` to avoid blocking writes
-      fix: Add `concurrently`
-        insert 12 \" concurrently\"
-    violations: 1
+Created before. A table that the same open transaction created is one of an
+earlier `CREATE TABLE`, `CREATE TABLE AS` or `SELECT INTO` in that transaction.
+`IF NOT EXISTS` counts too, though the table may have been there; a drop, and a
+rollback to a savepoint, aren't noticed. A table, type or sequence that an
+earlier statement creates is one that an earlier `CREATE TABLE` with a list,
+`CREATE TYPE` or `CREATE SEQUENCE` names, in any transaction, without `IF NOT
+EXISTS`; `CREATE TABLE AS`, `SELECT INTO` and foreign tables don't count; a
+rollback or a drop isn't noticed. In both, two names must have the same parts:
+`t` and `public.t` count as two tables.
 
-    $ echo 'BEGIN; CREATE TABLE t (id int); COMMIT; CREATE INDEX i ON t (id);' | ./squawk --only require-concurrent-index-creation
-    40..65: warning[require-concurrent-index-creation]: during normal index creation, table updates are blocked, but reads are still allowed
-      help: use `concurrently` to avoid blocking writes
-      fix: Add `concurrently`
-        insert 52 \" concurrently\"
-    violations: 1
+    $ echo 'CREATE INDEX i ON t (a);' | ./lavkheto check --only require-concurrent-index-creation
+    warning[require-concurrent-index-creation]: during normal index creation, table updates are blocked, but reads are still allowed
+     --> stdin:1:1
+      |
+    1 | CREATE INDEX i ON t (a);
+      | ^^^^^^^^^^^^^^^^^^^^^^^^
+      |
+      = help: use `concurrently` to avoid blocking writes
+    fix: Add `concurrently` (unsafe)
+      |
+    1 - CREATE INDEX i ON t (a);
+    1 + CREATE INDEX concurrently i ON t (a);
+
+    Found 1 issue in 1 of 1 file
+
+    $ echo 'BEGIN; CREATE TABLE t (id int); COMMIT; CREATE INDEX i ON t (id);' | ./lavkheto check --only require-concurrent-index-creation
+    warning[require-concurrent-index-creation]: during normal index creation, table updates are blocked, but reads are still allowed
+     --> stdin:1:41
+      |
+    1 | BEGIN; CREATE TABLE t (id int); COMMIT; CREATE INDEX i ON t (id);
+      |                                         ^^^^^^^^^^^^^^^^^^^^^^^^^
+      |
+      = help: use `concurrently` to avoid blocking writes
+    fix: Add `concurrently` (unsafe)
+      |
+    1 - BEGIN; CREATE TABLE t (id int); COMMIT; CREATE INDEX i ON t (id);
+    1 + BEGIN; CREATE TABLE t (id int); COMMIT; CREATE INDEX concurrently i ON t (id);
+
+    Found 1 issue in 1 of 1 file
 ";
 
 /// `require-concurrent-index-deletion`.
@@ -145,12 +169,20 @@ Details
   nobody, may not run in a transaction block, drops one index, and takes no
   `CASCADE` (DROP INDEX).
 
-    $ echo 'DROP INDEX i;' | ./squawk --only require-concurrent-index-deletion
-    0..13: warning[require-concurrent-index-deletion]: a normal `drop index` acquires an `access exclusive` lock on the table, blocking other accesses until the index drop can complete
-      help: drop the index `concurrently`
-      fix: Add `concurrently`
-        insert 10 \" concurrently\"
-    violations: 1
+    $ echo 'DROP INDEX i;' | ./lavkheto check --only require-concurrent-index-deletion
+    warning[require-concurrent-index-deletion]: a normal `drop index` acquires an `access exclusive` lock on the table, blocking other accesses until the index drop can complete
+     --> stdin:1:1
+      |
+    1 | DROP INDEX i;
+      | ^^^^^^^^^^^^^
+      |
+      = help: drop the index `concurrently`
+    fix: Add `concurrently` (unsafe)
+      |
+    1 - DROP INDEX i;
+    1 + DROP INDEX concurrently i;
+
+    Found 1 issue in 1 of 1 file
 ";
 
 /// `require-concurrent-reindex`.
@@ -199,12 +231,20 @@ Details
   SHARE UPDATE EXCLUSIVE, from PostgreSQL 12 on (REINDEX, Notes and \"Rebuilding
   Indexes Concurrently\").
 
-    $ echo 'REINDEX TABLE t;' | ./squawk --only require-concurrent-reindex
-    0..16: warning[require-concurrent-reindex]: reindexing a table or index without `concurrently` blocks reads and writes
-      help: use `concurrently` to avoid blocking reads and writes
-      fix: Add `concurrently`
-        insert 13 \" concurrently\"
-    violations: 1
+    $ echo 'REINDEX TABLE t;' | ./lavkheto check --only require-concurrent-reindex
+    warning[require-concurrent-reindex]: reindexing a table or index without `concurrently` blocks reads and writes
+     --> stdin:1:1
+      |
+    1 | REINDEX TABLE t;
+      | ^^^^^^^^^^^^^^^^
+      |
+      = help: use `concurrently` to avoid blocking reads and writes
+    fix: Add `concurrently` (unsafe)
+      |
+    1 - REINDEX TABLE t;
+    1 + REINDEX TABLE concurrently t;
+
+    Found 1 issue in 1 of 1 file
 ";
 
 /// `ban-concurrent-index-creation-in-transaction`.
@@ -229,7 +269,6 @@ Write in a file of its own that runs without a transaction, as at
 
     SET lock_timeout = 0;
     SET statement_timeout = 0;
-    -- squawk-ignore invalid-index-kept
     CREATE INDEX CONCURRENTLY IF NOT EXISTS i ON t (a);
     RESET lock_timeout;
     RESET statement_timeout;
@@ -259,10 +298,16 @@ Details
   it needs several transactions of its own (CREATE INDEX, \"Building Indexes
   Concurrently\").
 
-    $ echo 'BEGIN; CREATE INDEX CONCURRENTLY i ON t (a); COMMIT;' | ./squawk --only ban-concurrent-index-creation-in-transaction
-    20..32: warning[ban-concurrent-index-creation-in-transaction]: while regular index creation can happen inside a transaction, this is not allowed when the `concurrently` option is used
-      help: build the index outside any transactions
-    violations: 1
+    $ echo 'BEGIN; CREATE INDEX CONCURRENTLY i ON t (a); COMMIT;' | ./lavkheto check --only ban-concurrent-index-creation-in-transaction
+    warning[ban-concurrent-index-creation-in-transaction]: while regular index creation can happen inside a transaction, this is not allowed when the `concurrently` option is used
+     --> stdin:1:21
+      |
+    1 | BEGIN; CREATE INDEX CONCURRENTLY i ON t (a); COMMIT;
+      |                     ^^^^^^^^^^^^
+      |
+      = help: build the index outside any transactions
+
+    Found 1 issue in 1 of 1 file
 ";
 
 /// `ban-drop-index`.
@@ -301,7 +346,12 @@ Details
   `CONCURRENTLY` it blocks nobody, and may not run in a transaction block (DROP
   INDEX).
 
-    $ echo 'DROP INDEX i;' | ./squawk --only ban-drop-index
-    0..13: warning[ban-drop-index]: dropping an index may remove a guarantee or change query plans for existing clients
-    violations: 1
+    $ echo 'DROP INDEX i;' | ./lavkheto check --only ban-drop-index
+    warning[ban-drop-index]: dropping an index may remove a guarantee or change query plans for existing clients
+     --> stdin:1:1
+      |
+    1 | DROP INDEX i;
+      | ^^^^^^^^^^^^^
+
+    Found 1 issue in 1 of 1 file
 ";

@@ -38,15 +38,27 @@ Details
   word `ALL` is reported.
 - In PostgreSQL: section 5.10.3, \"The Schema Search Path\".
 
-    $ echo 'ALTER TABLE t ADD COLUMN c text;' | ./squawk --only require-table-schema
-    12..13: warning[require-table-schema]: table name is not schema-qualified
-      help: qualify the name with its schema, e.g. `public.my_table`
-    violations: 1
+    $ echo 'ALTER TABLE t ADD COLUMN c text;' | ./lavkheto check --only require-table-schema
+    warning[require-table-schema]: table name is not schema-qualified
+     --> stdin:1:13
+      |
+    1 | ALTER TABLE t ADD COLUMN c text;
+      |             ^
+      |
+      = help: qualify the name with its schema, e.g. `public.my_table`
 
-    $ echo 'DROP TABLE a, app.b;' | ./squawk --only require-table-schema
-    11..12: warning[require-table-schema]: table name is not schema-qualified
-      help: qualify the name with its schema, e.g. `public.my_table`
-    violations: 1
+    Found 1 issue in 1 of 1 file
+
+    $ echo 'DROP TABLE a, app.b;' | ./lavkheto check --only require-table-schema
+    warning[require-table-schema]: table name is not schema-qualified
+     --> stdin:1:12
+      |
+    1 | DROP TABLE a, app.b;
+      |            ^
+      |
+      = help: qualify the name with its schema, e.g. `public.my_table`
+
+    Found 1 issue in 1 of 1 file
 ";
 
 /// `identifier-too-long`.
@@ -87,11 +99,19 @@ Details
 - In PostgreSQL: `NAMEDATALEN` is 64, so 63 bytes are kept, and fewer where a
   character would be cut (section 4.1.1).
 
-    $ echo 'ALTER INDEX i RENAME TO index_orders_on_customer_id_and_status_and_created_at_and_region;' | ./squawk --only identifier-too-long
-    24..88: warning[identifier-too-long]: `index_orders_on_customer_id_and_status_and_created_at_and_region` is too long and will be truncated to 63 bytes
-      fix: Rename to `index_orders_on_customer_id_and_status_and_created_at_and_regio`
-        replace 24..88 \"index_orders_on_customer_id_and_status_and_created_at_and_regio\"
-    violations: 1
+    $ echo 'ALTER INDEX i RENAME TO index_orders_on_customer_id_and_status_and_created_at_and_region;' | ./lavkheto check --only identifier-too-long
+    warning[identifier-too-long]: `index_orders_on_customer_id_and_status_and_created_at_and_region` is too long and will be truncated to 63 bytes
+     --> stdin:1:25
+      |
+    1 | ALTER INDEX i RENAME TO index_orders_on_customer_id_and_status_and_created_at_and_region;
+      |                         ^^^^^^^^^^^^^^^^^^^^^^^^^^^^^^^^^^^^^^^^^^^^^^^^^^^^^^^^^^^^^^^^
+      |
+    fix: Rename to `index_orders_on_customer_id_and_status_and_created_at_and_regio`
+      |
+    1 - ALTER INDEX i RENAME TO index_orders_on_customer_id_and_status_and_created_at_and_region;
+    1 + ALTER INDEX i RENAME TO index_orders_on_customer_id_and_status_and_created_at_and_regio;
+
+    Found 1 issue in 1 of 1 file
 ";
 
 /// `ban-duplicate-column-assignments`.
@@ -133,10 +153,23 @@ Details
   to same column\" (UPDATE, INSERT, CREATE TABLE, CREATE VIEW; section 4.1.1 on
   equal names).
 
-    $ echo \"UPDATE t SET state = 'new', sent = 1, state = 'old';\" | ./squawk --only ban-duplicate-column-assignments
-    13..18: warning[ban-duplicate-column-assignments]: multiple assignments to the same column `state`
-    38..43: warning[ban-duplicate-column-assignments]: multiple assignments to the same column `state`
-      fix: Delete all but the last assignment to `state`
-        delete 13..28
-    violations: 2
+    $ echo \"UPDATE t SET state = 'new', sent = 1, state = 'old';\" | ./lavkheto check --only ban-duplicate-column-assignments
+    warning[ban-duplicate-column-assignments]: multiple assignments to the same column `state`
+     --> stdin:1:14
+      |
+    1 | UPDATE t SET state = 'new', sent = 1, state = 'old';
+      |              ^^^^^
+
+    warning[ban-duplicate-column-assignments]: multiple assignments to the same column `state`
+     --> stdin:1:39
+      |
+    1 | UPDATE t SET state = 'new', sent = 1, state = 'old';
+      |                                       ^^^^^
+      |
+    fix: Delete all but the last assignment to `state` (unsafe)
+      |
+    1 - UPDATE t SET state = 'new', sent = 1, state = 'old';
+    1 + UPDATE t SET sent = 1, state = 'old';
+
+    Found 2 issues in 1 of 1 file
 ";

@@ -72,9 +72,14 @@ Details
 - In PostgreSQL: ALTER TABLE, \"RENAME\"; ALTER VIEW; ALTER MATERIALIZED VIEW;
   ALTER TYPE, \"RENAME ATTRIBUTE\".
 
-    $ echo 'ALTER TABLE users RENAME email TO mail;' | ./squawk --only renaming-column
-    18..38: warning[renaming-column]: renaming a column may break existing clients
-    violations: 1
+    $ echo 'ALTER TABLE users RENAME email TO mail;' | ./lavkheto check --only renaming-column
+    warning[renaming-column]: renaming a column may break existing clients
+     --> stdin:1:19
+      |
+    1 | ALTER TABLE users RENAME email TO mail;
+      |                   ^^^^^^^^^^^^^^^^^^^^
+
+    Found 1 issue in 1 of 1 file
 ";
 
 /// `renaming-table`.
@@ -123,9 +128,14 @@ Details
   `renaming-object` reports.
 - In PostgreSQL: ALTER TABLE, \"RENAME\".
 
-    $ echo 'ALTER TABLE users RENAME TO accounts;' | ./squawk --only renaming-table
-    18..36: warning[renaming-table]: renaming a table may break existing clients
-    violations: 1
+    $ echo 'ALTER TABLE users RENAME TO accounts;' | ./lavkheto check --only renaming-table
+    warning[renaming-table]: renaming a table may break existing clients
+     --> stdin:1:19
+      |
+    1 | ALTER TABLE users RENAME TO accounts;
+      |                   ^^^^^^^^^^^^^^^^^^
+
+    Found 1 issue in 1 of 1 file
 ";
 
 /// `renaming-object`.
@@ -159,23 +169,35 @@ It does not see publications, rules, servers, tablespaces and other kinds
 
 Details
 
-- Reported: - `RENAME TO` of an aggregate, database, domain, foreign table,
-  function, group, index, materialized view, policy, procedure, role, routine,
-  schema, sequence, trigger, type, user or view; - `RENAME CONSTRAINT` of
-  `ALTER TABLE` and `ALTER DOMAIN`; - `RENAME VALUE` of `ALTER TYPE`, which
-  renames a value of an enum.
-- Not reported: tables and columns, which have the two rules above; other
-  kinds, such as a publication, a rule, a server or a tablespace.
+- Reported:
+  - `RENAME TO` of an aggregate, database, domain, foreign table, function,
+    group, index, materialized view, policy, procedure, role, routine, schema,
+    sequence, trigger, type, user or view;
+  - `RENAME CONSTRAINT` of `ALTER TABLE` and `ALTER DOMAIN`;
+  - `RENAME VALUE` of `ALTER TYPE`, which renames a value of an enum.
+- Not reported: tables and columns, which have rules of their own
+  (`renaming-table`, `renaming-column`); other kinds, such as a publication, a
+  rule, a server or a tablespace.
 - In PostgreSQL: the RENAME forms of the ALTER pages. `ALTER INDEX ... RENAME`
   takes only SHARE UPDATE EXCLUSIVE (ALTER INDEX).
 
-    $ echo 'ALTER FUNCTION total() RENAME TO sum_of_orders;' | ./squawk --only renaming-object
-    23..46: warning[renaming-object]: renaming a function may break existing clients
-    violations: 1
+    $ echo 'ALTER FUNCTION total() RENAME TO sum_of_orders;' | ./lavkheto check --only renaming-object
+    warning[renaming-object]: renaming a function may break existing clients
+     --> stdin:1:24
+      |
+    1 | ALTER FUNCTION total() RENAME TO sum_of_orders;
+      |                        ^^^^^^^^^^^^^^^^^^^^^^^
 
-    $ echo 'ALTER FOREIGN TABLE t RENAME TO n;' | ./squawk --only renaming-object
-    22..33: warning[renaming-object]: renaming a foreign table may break existing clients
-    violations: 1
+    Found 1 issue in 1 of 1 file
+
+    $ echo 'ALTER FOREIGN TABLE t RENAME TO n;' | ./lavkheto check --only renaming-object
+    warning[renaming-object]: renaming a foreign table may break existing clients
+     --> stdin:1:23
+      |
+    1 | ALTER FOREIGN TABLE t RENAME TO n;
+      |                       ^^^^^^^^^^^
+
+    Found 1 issue in 1 of 1 file
 ";
 
 /// `ban-set-schema`.
@@ -222,7 +244,12 @@ Details
 - In PostgreSQL: a table's indexes, constraints and owned sequences move with
   it (ALTER TABLE, \"SET SCHEMA\"; section 5.10.3).
 
-    $ echo 'ALTER TABLE t SET SCHEMA n;' | ./squawk --only ban-set-schema
-    14..26: warning[ban-set-schema]: moving an object to another schema may break existing clients
-    violations: 1
+    $ echo 'ALTER TABLE t SET SCHEMA n;' | ./lavkheto check --only ban-set-schema
+    warning[ban-set-schema]: moving an object to another schema may break existing clients
+     --> stdin:1:15
+      |
+    1 | ALTER TABLE t SET SCHEMA n;
+      |               ^^^^^^^^^^^^
+
+    Found 1 issue in 1 of 1 file
 ";

@@ -35,9 +35,14 @@ Details
 - In PostgreSQL: a function with a wrong volatility gives wrong results, for
   example from an index (ALTER FUNCTION; \"Function Volatility Categories\").
 
-    $ echo 'ALTER FUNCTION f(int) STRICT IMMUTABLE;' | ./squawk --only ban-alter-function-options
-    22..38: warning[ban-alter-function-options]: changing function options may change behavior for existing clients
-    violations: 1
+    $ echo 'ALTER FUNCTION f(int) STRICT IMMUTABLE;' | ./lavkheto check --only ban-alter-function-options
+    warning[ban-alter-function-options]: changing function options may change behavior for existing clients
+     --> stdin:1:23
+      |
+    1 | ALTER FUNCTION f(int) STRICT IMMUTABLE;
+      |                       ^^^^^^^^^^^^^^^^
+
+    Found 1 issue in 1 of 1 file
 ";
 
 /// `ban-alter-view-options`.
@@ -74,9 +79,14 @@ Details
 - Not reported: those of a materialized view or a table.
 - In PostgreSQL: ALTER VIEW; CREATE VIEW, \"Parameters\".
 
-    $ echo 'ALTER VIEW v SET (security_barrier = true, check_option = local);' | ./squawk --only ban-alter-view-options
-    13..64: warning[ban-alter-view-options]: changing view options may change behavior for existing clients
-    violations: 1
+    $ echo 'ALTER VIEW v SET (security_barrier = true, check_option = local);' | ./lavkheto check --only ban-alter-view-options
+    warning[ban-alter-view-options]: changing view options may change behavior for existing clients
+     --> stdin:1:14
+      |
+    1 | ALTER VIEW v SET (security_barrier = true, check_option = local);
+      |              ^^^^^^^^^^^^^^^^^^^^^^^^^^^^^^^^^^^^^^^^^^^^^^^^^^^
+
+    Found 1 issue in 1 of 1 file
 ";
 
 /// `ban-alter-database-options`.
@@ -111,9 +121,14 @@ Details
   rules.
 - In PostgreSQL: a setting takes effect in new sessions only (ALTER DATABASE).
 
-    $ echo 'ALTER DATABASE d CONNECTION LIMIT 3;' | ./squawk --only ban-alter-database-options
-    17..35: warning[ban-alter-database-options]: changing database options may change behavior for existing clients
-    violations: 1
+    $ echo 'ALTER DATABASE d CONNECTION LIMIT 3;' | ./lavkheto check --only ban-alter-database-options
+    warning[ban-alter-database-options]: changing database options may change behavior for existing clients
+     --> stdin:1:18
+      |
+    1 | ALTER DATABASE d CONNECTION LIMIT 3;
+      |                  ^^^^^^^^^^^^^^^^^^
+
+    Found 1 issue in 1 of 1 file
 ";
 
 /// `ban-alter-system-options`.
@@ -143,9 +158,14 @@ Details
 - In PostgreSQL: it writes `postgresql.auto.conf`, and runs in no transaction
   block (ALTER SYSTEM).
 
-    $ echo 'ALTER SYSTEM SET wal_level = replica;' | ./squawk --only ban-alter-system-options
-    13..36: warning[ban-alter-system-options]: changing server configuration may change behavior for existing clients
-    violations: 1
+    $ echo 'ALTER SYSTEM SET wal_level = replica;' | ./lavkheto check --only ban-alter-system-options
+    warning[ban-alter-system-options]: changing server configuration may change behavior for existing clients
+     --> stdin:1:14
+      |
+    1 | ALTER SYSTEM SET wal_level = replica;
+      |              ^^^^^^^^^^^^^^^^^^^^^^^
+
+    Found 1 issue in 1 of 1 file
 ";
 
 /// `ban-alter-extension`.
@@ -183,9 +203,14 @@ Details
 - In PostgreSQL: ALTER EXTENSION; \"Packaging Related Objects into an
   Extension\".
 
-    $ echo \"ALTER EXTENSION pg_trgm UPDATE TO '1.6';\" | ./squawk --only ban-alter-extension
-    24..39: warning[ban-alter-extension]: updating an extension can change or remove objects used by existing clients
-    violations: 1
+    $ echo \"ALTER EXTENSION pg_trgm UPDATE TO '1.6';\" | ./lavkheto check --only ban-alter-extension
+    warning[ban-alter-extension]: updating an extension can change or remove objects used by existing clients
+     --> stdin:1:25
+      |
+    1 | ALTER EXTENSION pg_trgm UPDATE TO '1.6';
+      |                         ^^^^^^^^^^^^^^^
+
+    Found 1 issue in 1 of 1 file
 ";
 
 /// `ban-alter-sequence-values`.
@@ -228,7 +253,22 @@ Details
   ends; then they go on by the new options, but first give the values that they
   have cached (ALTER SEQUENCE, \"restart\" and Notes; ALTER TABLE, \"RESTART\").
 
-    $ echo 'ALTER SEQUENCE ids RESTART WITH 1 OWNED BY t.id;' | ./squawk --only ban-alter-sequence-values
-    19..33: warning[ban-alter-sequence-values]: changing a sequence option can change values generated for existing clients
-    violations: 1
+Created before. A table that the same open transaction created is one of an
+earlier `CREATE TABLE`, `CREATE TABLE AS` or `SELECT INTO` in that transaction.
+`IF NOT EXISTS` counts too, though the table may have been there; a drop, and a
+rollback to a savepoint, aren't noticed. A table, type or sequence that an
+earlier statement creates is one that an earlier `CREATE TABLE` with a list,
+`CREATE TYPE` or `CREATE SEQUENCE` names, in any transaction, without `IF NOT
+EXISTS`; `CREATE TABLE AS`, `SELECT INTO` and foreign tables don't count; a
+rollback or a drop isn't noticed. In both, two names must have the same parts:
+`t` and `public.t` count as two tables.
+
+    $ echo 'ALTER SEQUENCE ids RESTART WITH 1 OWNED BY t.id;' | ./lavkheto check --only ban-alter-sequence-values
+    warning[ban-alter-sequence-values]: changing a sequence option can change values generated for existing clients
+     --> stdin:1:20
+      |
+    1 | ALTER SEQUENCE ids RESTART WITH 1 OWNED BY t.id;
+      |                    ^^^^^^^^^^^^^^
+
+    Found 1 issue in 1 of 1 file
 ";

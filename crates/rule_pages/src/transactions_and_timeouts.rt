@@ -32,7 +32,6 @@ statements that can be run again, as at `require-concurrent-index-creation`:
 
     SET lock_timeout = 0;
     SET statement_timeout = 0;
-    -- squawk-ignore invalid-index-kept
     CREATE INDEX CONCURRENTLY IF NOT EXISTS t_b ON t (b);
     RESET lock_timeout;
     RESET statement_timeout;
@@ -57,41 +56,64 @@ most kinds; whether a statement that can be run again does the same again.
 
 Details
 
-- Reported: outside of a transaction: - `DROP CONSTRAINT` and `DROP COLUMN`
-  without `IF EXISTS`, and `ADD COLUMN` without `IF NOT EXISTS`, of an `ALTER
-  TABLE`. The fix inserts the words after `CONSTRAINT` or `COLUMN`; where
-  `COLUMN` is left out there is no fix. - Every other action of an `ALTER
-  TABLE`, also one that can be run twice (`OWNER TO`, `VALIDATE CONSTRAINT`) or
-  says `IF EXISTS` (`DROP IDENTITY`, `DROP EXPRESSION`). - `CREATE INDEX` of an
-  index with a name and `CREATE TABLE` without `IF NOT EXISTS`; `DROP INDEX`,
-  `DROP TABLE` and `DROP TYPE` without `IF EXISTS`. Each has a fix.
+- Reported: outside of a transaction:
+  - `DROP CONSTRAINT` and `DROP COLUMN` without `IF EXISTS`, and `ADD COLUMN`
+    without `IF NOT EXISTS`, of an `ALTER TABLE`. The fix inserts the words
+    after `CONSTRAINT` or `COLUMN`; where `COLUMN` is left out there is no fix.
+  - Every other action of an `ALTER TABLE`, also one that can be run twice
+    (`OWNER TO`, `VALIDATE CONSTRAINT`) or says `IF EXISTS` (`DROP IDENTITY`,
+    `DROP EXPRESSION`).
+  - `CREATE INDEX` of an index with a name and `CREATE TABLE` without `IF NOT
+    EXISTS`; `DROP INDEX`, `DROP TABLE` and `DROP TYPE` without `IF EXISTS`.
+    Each has a fix.
 
-In a transaction, only `CREATE INDEX CONCURRENTLY` of an index with a name,
-which never runs in one. - Not reported: `VALIDATE CONSTRAINT` after a `DROP
-CONSTRAINT` of the same name, and `ADD CONSTRAINT` after one with no other `ADD
-CONSTRAINT` of that name between them, since a second run begins by dropping
-it. Only the name is compared, and not the table. A temporary table with `ON
-COMMIT DROP`, `CREATE TABLE AS`, `SELECT INTO`; an index without a name;
-`CREATE` and `DROP` of other kinds, and every `ALTER` but `ALTER TABLE`. - What
-counts as a transaction: from `BEGIN` to a plain `COMMIT` or `ROLLBACK`; with
-`--assume-in-transaction` from the start of the text. A text with at least one
-block from a `BEGIN` to the next `COMMIT` or `ROLLBACK` (of any form) with an
-`UPDATE` of `alembic_version` between them counts as Alembic's: there only
-these blocks are transactions, and not its first one, which has an `INSERT`;
-and `--assume-in-transaction` puts the whole text into a transaction. - In
-PostgreSQL: what a transaction did is undone as a whole where it fails (section
-3.4); without one each statement stays done. `IF EXISTS` and `IF NOT EXISTS`
-give a notice in place of the error (ALTER TABLE, CREATE INDEX, CREATE TABLE,
-DROP INDEX, DROP TABLE, DROP TYPE). `IF NOT EXISTS` compares the name alone: an
-invalid index that a build with `CONCURRENTLY` left is there too.
+  In a transaction, only `CREATE INDEX CONCURRENTLY` of an index with a name,
+  which never runs in one.
+- Not reported: `VALIDATE CONSTRAINT` after a `DROP CONSTRAINT` of the same
+  name, and `ADD CONSTRAINT` after one with no other `ADD CONSTRAINT` of that
+  name between them, since a second run begins by dropping it. Only the name is
+  compared, and not the table. A temporary table with `ON COMMIT DROP`, `CREATE
+  TABLE AS`, `SELECT INTO`; an index without a name; `CREATE` and `DROP` of
+  other kinds, and every `ALTER` but `ALTER TABLE`.
+- What counts as a transaction: from `BEGIN` to a plain `COMMIT` or `ROLLBACK`;
+  with `--assume-in-transaction` from the start of the text. A text with at
+  least one block from a `BEGIN` to the next `COMMIT` or `ROLLBACK` (of any
+  form) with an `UPDATE` of `alembic_version` between them counts as Alembic's:
+  there only these blocks are transactions, and not its first one, which has an
+  `INSERT`; and `--assume-in-transaction` puts the whole text into a
+  transaction.
+- In PostgreSQL: what a transaction did is undone as a whole where it fails
+  (section 3.4); without one each statement stays done. `IF EXISTS` and `IF NOT
+  EXISTS` give a notice in place of the error (ALTER TABLE, CREATE INDEX,
+  CREATE TABLE, DROP INDEX, DROP TABLE, DROP TYPE). `IF NOT EXISTS` compares
+  the name alone: an invalid index that a build with `CONCURRENTLY` left is
+  there too.
 
-    $ echo 'ALTER TABLE t DROP CONSTRAINT k, DROP a, OWNER TO u;' | ./squawk --only prefer-robust-stmts
-    14..31: warning[prefer-robust-stmts]: missing `if exists`, the migration can't be rerun if it fails part way through
-      fix: Insert `if exists`
-        insert 29 \" if exists\"
-    33..39: warning[prefer-robust-stmts]: missing `if exists`, the migration can't be rerun if it fails part way through
-    41..51: warning[prefer-robust-stmts]: missing transaction, the migration can't be rerun if it fails part way through
-    violations: 3
+    $ echo 'ALTER TABLE t DROP CONSTRAINT k, DROP a, OWNER TO u;' | ./lavkheto check --only prefer-robust-stmts
+    warning[prefer-robust-stmts]: missing `if exists`, the migration can't be rerun if it fails part way through
+     --> stdin:1:15
+      |
+    1 | ALTER TABLE t DROP CONSTRAINT k, DROP a, OWNER TO u;
+      |               ^^^^^^^^^^^^^^^^^
+      |
+    fix: Insert `if exists` (unsafe)
+      |
+    1 - ALTER TABLE t DROP CONSTRAINT k, DROP a, OWNER TO u;
+    1 + ALTER TABLE t DROP CONSTRAINT if exists k, DROP a, OWNER TO u;
+
+    warning[prefer-robust-stmts]: missing `if exists`, the migration can't be rerun if it fails part way through
+     --> stdin:1:34
+      |
+    1 | ALTER TABLE t DROP CONSTRAINT k, DROP a, OWNER TO u;
+      |                                  ^^^^^^
+
+    warning[prefer-robust-stmts]: missing transaction, the migration can't be rerun if it fails part way through
+     --> stdin:1:42
+      |
+    1 | ALTER TABLE t DROP CONSTRAINT k, DROP a, OWNER TO u;
+      |                                          ^^^^^^^^^^
+
+    Found 3 issues in 1 of 1 file
 ";
 
 /// `transaction-nesting`.
@@ -139,12 +161,24 @@ Details
   `COMMIT` or `ROLLBACK` outside of one, do nothing but warn (BEGIN, \"Notes\";
   COMMIT, \"Notes\"; ROLLBACK, \"Notes\"; section 3.4).
 
-    $ echo 'BEGIN; BEGIN; COMMIT; COMMIT;' | ./squawk --only transaction-nesting
-    7..13: warning[transaction-nesting]: there is an existing transaction already in progress
-      help: move these statements to a separate migration file, or turn off the `assume-in-transaction` setting
-    22..29: warning[transaction-nesting]: there is no transaction to `commit` or `rollback`
-      help: `begin` a transaction at an earlier point in the migration or remove this statement
-    violations: 2
+    $ echo 'BEGIN; BEGIN; COMMIT; COMMIT;' | ./lavkheto check --only transaction-nesting
+    warning[transaction-nesting]: there is an existing transaction already in progress
+     --> stdin:1:8
+      |
+    1 | BEGIN; BEGIN; COMMIT; COMMIT;
+      |        ^^^^^^
+      |
+      = help: move these statements to a separate migration file, or turn off the `assume-in-transaction` setting
+
+    warning[transaction-nesting]: there is no transaction to `commit` or `rollback`
+     --> stdin:1:23
+      |
+    1 | BEGIN; BEGIN; COMMIT; COMMIT;
+      |                       ^^^^^^^
+      |
+      = help: `begin` a transaction at an earlier point in the migration or remove this statement
+
+    Found 2 issues in 1 of 1 file
 ";
 
 /// `ban-uncommitted-transaction`.
@@ -184,12 +218,22 @@ Details
   TRANSACTION` is reported, though nothing is open after that.
 - In PostgreSQL: COMMIT, ROLLBACK, and section 3.4, \"Transactions\".
 
-    $ printf 'BEGIN;\\nSELECT 1;\\n' | ./squawk --only ban-uncommitted-transaction
-    0..6: warning[ban-uncommitted-transaction]: transaction never committed or rolled back
-      help: add a `commit` or `rollback` statement to complete the transaction
-      fix: Add `commit`
-        insert 17 \"\\nCOMMIT;\\n\"
-    violations: 1
+    $ printf 'BEGIN;\\nSELECT 1;\\n' | ./lavkheto check --only ban-uncommitted-transaction
+    warning[ban-uncommitted-transaction]: transaction never committed or rolled back
+     --> stdin:1:1
+      |
+    1 | BEGIN;
+      | ^^^^^^
+      |
+      = help: add a `commit` or `rollback` statement to complete the transaction
+    fix: Add `commit` (unsafe)
+      |
+    3 - 
+    3 + 
+    4 + COMMIT;
+    5 + 
+
+    Found 1 issue in 1 of 1 file
 ";
 
 /// `require-lock-timeout`.
@@ -225,9 +269,9 @@ PARTITION .. CONCURRENTLY` set both timeouts to 0. While they wait they hold
 nobody up, but for who reads the detached partition by its own name; and one
 that is cancelled leaves an invalid index or half a detachment.
 
-A setting that sets nothing satisfies this rule and the next one, and no hazard
-speaks of it. After each of these a statement waits without end, or not as long
-as it seems:
+A setting that sets nothing satisfies this rule and
+`require-statement-timeout`, and no hazard speaks of it. After each of these a
+statement waits without end, or not as long as it seems:
 
 - `SET lock_timeout = 0`, as before a build, and nothing after it: no timeout
 - `SET LOCAL` outside of a transaction: nothing changes; PostgreSQL warns
@@ -264,13 +308,22 @@ Details
   lock; it is off by default (section 20.11.1; the locks are in section
   13.3.1).
 
-    $ echo 'ALTER TABLE t ADD COLUMN c text;' | ./squawk --only require-lock-timeout
-    0..32: warning[require-lock-timeout]: missing `set lock_timeout` before potentially slow `access exclusive` lock operations
-      note: statement requires: `access exclusive` lock; blocking: reads, writes, schema changes
-      help: configure a `lock_timeout` before this statement
-      fix: Add lock timeout
-        insert 0 \"set lock_timeout = '1s';\\n\"
-    violations: 1
+    $ echo 'ALTER TABLE t ADD COLUMN c text;' | ./lavkheto check --only require-lock-timeout
+    warning[require-lock-timeout]: missing `set lock_timeout` before potentially slow `access exclusive` lock operations
+     --> stdin:1:1
+      |
+    1 | ALTER TABLE t ADD COLUMN c text;
+      | ^^^^^^^^^^^^^^^^^^^^^^^^^^^^^^^^
+      |
+      = note: statement requires: `access exclusive` lock; blocking: reads, writes, schema changes
+      = help: configure a `lock_timeout` before this statement
+    fix: Add lock timeout (unsafe)
+      |
+    1 - ALTER TABLE t ADD COLUMN c text;
+    1 + set lock_timeout = '1s';
+    2 + ALTER TABLE t ADD COLUMN c text;
+
+    Found 1 issue in 1 of 1 file
 ";
 
 /// `require-statement-timeout`.
@@ -306,18 +359,27 @@ It does not see the same as `require-lock-timeout`.
 
 Details
 
-- Reported: the same statement, where no `SET statement_timeout` comes before
-  it. The fix puts `set statement_timeout = '5s';` at the same place.
-  `require-timeout-settings` names both rules.
+- Reported: the statement that `require-lock-timeout` looks for, where no `SET
+  statement_timeout` comes before it. The fix puts `set statement_timeout =
+  '5s';` at the same place. `require-timeout-settings` names both rules.
 - In PostgreSQL: `statement_timeout` cancels a statement that takes longer; it
   is off by default (section 20.11.1).
 
-    $ echo 'ALTER TABLE t ADD COLUMN c text;' | ./squawk --only require-statement-timeout
-    0..32: warning[require-statement-timeout]: missing `set statement_timeout` before potentially slow operations
-      help: configure a `statement_timeout` before this statement
-      fix: Add statement timeout
-        insert 0 \"set statement_timeout = '5s';\\n\"
-    violations: 1
+    $ echo 'ALTER TABLE t ADD COLUMN c text;' | ./lavkheto check --only require-statement-timeout
+    warning[require-statement-timeout]: missing `set statement_timeout` before potentially slow operations
+     --> stdin:1:1
+      |
+    1 | ALTER TABLE t ADD COLUMN c text;
+      | ^^^^^^^^^^^^^^^^^^^^^^^^^^^^^^^^
+      |
+      = help: configure a `statement_timeout` before this statement
+    fix: Add statement timeout (unsafe)
+      |
+    1 - ALTER TABLE t ADD COLUMN c text;
+    1 + set statement_timeout = '5s';
+    2 + ALTER TABLE t ADD COLUMN c text;
+
+    Found 1 issue in 1 of 1 file
 ";
 
 /// `prefer-repack`.
@@ -361,10 +423,18 @@ Details
   `CONCURRENTLY`, with which the table stays in use (REPACK, of the manual of
   version 19; CLUSTER; VACUUM, \"FULL\"; section 13.3.1).
 
-    $ echo 'CLUSTER t USING i;' | ./squawk --only prefer-repack --pg-major 19
-    0..18: warning[prefer-repack]: `cluster` requires an `access exclusive` lock which blocks reads and writes to the table
-      help: use `repack` to rewrite the table without blocking reads and writes
-      fix: Replace with `repack (concurrently)`
-        replace 0..17 \"repack (concurrently) t using index i\"
-    violations: 1
+    $ echo 'CLUSTER t USING i;' | ./lavkheto check --only prefer-repack --pg-major 19
+    warning[prefer-repack]: `cluster` requires an `access exclusive` lock which blocks reads and writes to the table
+     --> stdin:1:1
+      |
+    1 | CLUSTER t USING i;
+      | ^^^^^^^^^^^^^^^^^^
+      |
+      = help: use `repack` to rewrite the table without blocking reads and writes
+    fix: Replace with `repack (concurrently)` (unsafe)
+      |
+    1 - CLUSTER t USING i;
+    1 + repack (concurrently) t using index i;
+
+    Found 1 issue in 1 of 1 file
 ";

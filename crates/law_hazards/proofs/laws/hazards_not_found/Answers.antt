@@ -1,5 +1,5 @@
 use Rattle.law_hazards.proofs.AdditionLaws.{only_ours_get_checks, only_ours_get_json}
-use Rattle.law_hazards.proofs.BuildLaws.{builds_have_time, invalid_indexes_go_first}
+use Rattle.law_hazards.proofs.BuildLaws.{builds_have_time, invalid_indexes_are_seen}
 use Rattle.law_hazards.proofs.InsideLaws.{nothing_is_refused_inside}
 use Rattle.law_hazards.proofs.RewriteLaws.{only_ours_are_rewritten}
 use Rattle.law_hazards.proofs.ViewLaws.{views_are_new}
@@ -18,7 +18,7 @@ pub returns-clause-build_under_timeout : goal.returns-clause-build_under_timeout
 returns-clause-build_under_timeout c = builds_have_time c.silence_tells.ensures.timeouts
 
 pub returns-clause-invalid_index_kept : goal.returns-clause-invalid_index_kept
-returns-clause-invalid_index_kept c = invalid_indexes_go_first c.silence_tells.ensures.indexes
+returns-clause-invalid_index_kept c = invalid_indexes_are_seen c.silence_tells.ensures.indexes
 
 pub returns-clause-refresh_blocks_reads : goal.returns-clause-refresh_blocks_reads
 returns-clause-refresh_blocks_reads c = views_are_new c.silence_tells.ensures.views

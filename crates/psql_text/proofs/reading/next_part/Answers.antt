@@ -4,19 +4,23 @@ use Rattle.psql_text.specs.Reading.{state}
 use Rattle.psql_text.proofs.reading.next_part.Goals as goal
 
 pub loop-now-init : goal.loop-now-init
-loop-now-init c = record { place = c.requires; begun = omega arith; taken = omega arith; goes = λ ms h. (ms, h, λ ps r. r) }
+loop-now-init c = record { place = c.requires; begun = omega arith; taken = omega arith; signs = λ is. absurd (cc); goes = λ ms h. (ms, h, λ ps r. r) }
 
 pub step_at-requires-clause-place : goal.step_at-requires-clause-place
 step_at-requires-clause-place c = c.loop-now.invariant.place
 
+pub step_at-requires-clause-signs : goal.step_at-requires-clause-signs
+step_at-requires-clause-signs c = c.loop-now.invariant.signs
+
 pub loop-now-preserved : goal.loop-now-preserved
 loop-now-preserved c =
-    let on = c.in-Token.ensures.moves in
+    let on = c.in-Token.ensures.moves.0 in
     let before = c.loop-now.invariant in
     record {
       place = on.place;
       begun = omega (arith, on.at, before.begun);
       taken = omega (arith, on.taken, before.taken);
+      signs = c.in-Token.ensures.moves.1;
       goes = λ ms h. let g = before.goes ms h in let n = c.in-Token.ensures.goes g.0 g.1 in (n.0, n.1, λ ps r. g.2 ps (n.2 ps r));
     }
 

@@ -1,6 +1,6 @@
 use Rattle.std.proofs.Common.{ℕ, sym, subst, arith}
 use Rattle.psql_text.specs.Lines.{IsLineEnd}
-use Rattle.psql_text.proofs.Steps.{token_goes, last_goes, last_moves, data_goes, data_moves}
+use Rattle.psql_text.proofs.Steps.{token_goes, token_moves, last_goes, last_moves, data_goes, data_moves}
 use Rattle.psql_text.proofs.reading.step_over.Goals as goal
 
 pub returns-then-not-ends_copy_at-clause-goes : goal.returns-then-not-ends_copy_at-clause-goes
@@ -8,15 +8,22 @@ returns-then-not-ends_copy_at-clause-goes c = λ ms h.
     token_goes c.args.text.now c.args.reading c.args.kind c.args.end c.after.result c.mark_of-mark.result ms c.requires.plain c.requires.token c.mark_of-mark.ensures
     (sym (c.if-not-ends_copy_at.ensures ms h)) (c.after.ensures.summary ms h)
 
+pub returns-then-not-ends_copy_at-clause-moves : goal.returns-then-not-ends_copy_at-clause-moves
+returns-then-not-ends_copy_at-clause-moves c =
+    token_moves c.args.text.now c.args.reading c.args.kind c.args.end c.after.result c.is_operator-is_operator.result c.requires.place c.requires.token
+    c.after.ensures.few.0 c.after.ensures.few.1 c.is_operator-is_operator.ensures
+
 pub returns-then-feed-text-clause-goes : goal.returns-then-feed-text-clause-goes
 returns-then-feed-text-clause-goes c = λ ms h.
     last_goes c.args.text.now c.args.reading c.args.kind c.args.end c.line_end-feed.result c.after.result c.mark_of-mark.result ms c.requires.plain c.requires.token c.mark_of-mark.ensures
     (sym (c.if-not-ends_copy_at.ensures ms h)) (subst (λ (x : ℕ). IsLineEnd c.args.text.now x c.line_end-feed.result) c.max.ensures c.line_end-feed.ensures) (omega arith) (c.after.ensures.summary ms h)
 
 pub returns-then-feed-text-clause-moves : goal.returns-then-feed-text-clause-moves
-returns-then-feed-text-clause-moves c =
-    last_moves c.args.text.now c.args.reading c.args.kind c.args.end c.line_end-feed.result c.after.result c.requires.place c.requires.token
-    (subst (λ (x : ℕ). IsLineEnd c.args.text.now x c.line_end-feed.result) c.max.ensures c.line_end-feed.ensures) c.after.ensures.few.0 c.after.ensures.few.1
+returns-then-feed-text-clause-moves c = (
+  last_moves c.args.text.now c.args.reading c.args.kind c.args.end c.line_end-feed.result c.after.result c.requires.place c.requires.token
+      (subst (λ (x : ℕ). IsLineEnd c.args.text.now x c.line_end-feed.result) c.max.ensures c.line_end-feed.ensures) c.after.ensures.few.0 c.after.ensures.few.1,
+  λ is. absurd (cc),
+)
 
 pub returns-clause-goes : goal.returns-clause-goes
 returns-clause-goes c = λ ms h.

@@ -11,6 +11,7 @@ returns-clause-summary c = λ ms h.
       begins_copy = c.begins_copy_with.ensures ms h i;
       opened = opened i;
       closed = closed i;
+      has_from = c.has_from_with.ensures ms h i;
       ends_in_from = c.ends_in_from_with.ensures ms h i;
       has_from_stdin = c.has_from_stdin_with.ensures ms h i;
     }
