@@ -34,7 +34,7 @@ RUNNER = TOP / 'crates' / 'case_runner'
 NOTHING = {'squawk': 'violations: 0', 'lavkheto': 'Found 0 issues in 1 file'}
 
 # The first line of a rule's section: whether it is on, its fix, its lock.
-HEAD = re.compile(r'\*\*(On|Off)\*\* · (?:no fix|fix: ([a-z ]+?)(?: \(.*?\))?) · lock: (.*?)(?: · manual: .*)?$')
+HEAD = re.compile(r'\*\*(On|Off)\*\* · (?:no fix|fix: ([a-z ]+?)(?: \(.*?\))?) · lock: (.*?)(?: · manual: .*?)?(?: · source: .*)?$')
 
 
 def sources():

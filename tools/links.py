@@ -1,5 +1,5 @@
 #!/usr/bin/env python3
-"""Follows the links of README.md, docs/ and cases/README.md.
+"""Follows the links of README.md, CHANGELOG.md, SECURITY.md, docs/ and cases/README.md.
 
   tools/links.py --check            each link within the repository leads to a file, and to a heading or a place named there
   tools/links.py --manual FOLDER    each link to PostgreSQL's manual leads to a page of FOLDER, and to a place there. Debian's
@@ -10,7 +10,7 @@ import re
 import sys
 
 TOP = pathlib.Path(__file__).resolve().parent.parent
-PAGES = [TOP / 'README.md', TOP / 'cases' / 'README.md', *sorted((TOP / 'docs').glob('*.md'))]
+PAGES = [*sorted(TOP.glob('*.md')), TOP / 'cases' / 'README.md', *sorted((TOP / 'docs').glob('*.md'))]
 MANUAL = re.compile(r'https://www\.postgresql\.org/docs/current/([\w.-]+)(?:#([\w-]+))?')
 
 

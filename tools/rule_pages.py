@@ -2,7 +2,8 @@
 """Writes crates/rule_pages: what docs/RULES.md says of each rule and each hazard, as plain text of 79 columns that `lavkheto explain` prints.
 
     tools/rule_pages.py            writes the sources
-    tools/rule_pages.py --check    says whether the sources are those of the page; the exit status is 1 where they are not
+    tools/rule_pages.py --check    says whether the sources are those of the page, and whether the file that each section names as its source has
+                                   that rule; the exit status is 1 where they are not
 
 A rule's page is its section without Markdown's signs. What it calls "above", the first paragraph of its group, follows its own first one, and a
 marked paragraph (`<a id="..">`) to which it has a link comes behind its details, whatever section it is in. SQL and other code is indented, and
@@ -23,7 +24,7 @@ MOST_LINES = 700
 WRITTEN = "Written by tools/rule_pages.py."
 ALIAS = "require-timeout-settings"
 MARK = re.compile(r'<a id="([^"]*)"></a>')
-FACTS = re.compile(r"\*\*(On|Off)\*\* · (?:no fix|fix: (.*?)) · lock: (.*?)(?: · manual: (.*))?$")
+FACTS = re.compile(r"\*\*(On|Off)\*\* · (?:no fix|fix: (.*?)) · lock: (.*?)(?: · manual: (.*?))?(?: · source: (.*))?$")
 
 
 def rules():
@@ -122,12 +123,29 @@ def parts():
 
 def facts(line):
     """The first line of a section: whether the rule is on, its fix, its lock, and the page of the manual."""
-    default, fix, lock, manual = FACTS.fullmatch(line).groups()
+    default, fix, lock, manual, _ = FACTS.fullmatch(line).groups()
     shown = [("default", default.lower()), ("fix", fix or "none"), ("lock", lock)]
     if manual:
         title, address = re.fullmatch(r"\[([^\]]*)\]\((.*)\)", manual).groups()
         shown += [("manual", f"{title}, {address}")]
     return [line for key, text in shown for line in wrapped(text, f"  {key + ':':<9}", " " * 11)]
+
+
+def has_rule(name, variant, path):
+    """Whether a file is the source of a rule or a hazard: it has its variant, or its own name is one with it."""
+    return path.is_file() and (path.stem in name.replace("-", "_") or re.search(rf"::{variant}\b", path.read_text(encoding="utf-8")))
+
+
+def without_source():
+    """The rules and hazards whose section does not name their source."""
+    sections = {name: lines for _, _, part in parts() for name, lines in part.items()}
+    for variant, name in rules() + hazards():
+        if name == ALIAS:
+            continue
+        source = FACTS.fullmatch(next(line for line in sections[name] if FACTS.fullmatch(line)))[5]
+        place = re.fullmatch(r"\[`[a-z_/]+\.rt`\]\(\.\./([^)]*)\)", source or "")
+        if not (place and has_rule(name, variant, TOP / place[1])):
+            yield name
 
 
 def marked():
@@ -339,6 +357,8 @@ def main():
                  for part in ("src", "specs") for path in (CRATE / part).rglob("*") if path.is_file()}
         if there != files:
             sys.exit(f"crates/rule_pages is not what tools/rule_pages.py makes of {PAGE}")
+        if lost := list(without_source()):
+            sys.exit(f"{PAGE} does not name the source of {', '.join(lost)}")
         return
     for name, text in files.items():
         (given.into / name).parent.mkdir(parents=True, exist_ok=True)
