@@ -36,7 +36,8 @@ FLAGS = ("--quiet", "--statistics", "--assume-in-transaction", "--no-hazards", "
 CODES = {"bold": "1", "warning": "1;35", "error": "1;31", "frame": "1;34", "removed": "31", "added": "32"}
 
 Finding = collections.namedtuple("Finding", "level rule message start end note help title edits has_place fix_class")
-Checked = collections.namedtuple("Checked", "name text findings status")
+# (what could not be parsed comes before the reports, in the text as it was read)
+Checked = collections.namedtuple("Checked", "name text findings status before", defaults=[None])
 Case = collections.namedtuple("Case", "title lines words text out status err")
 
 REFUSALS = {
@@ -145,6 +146,42 @@ def refused(name, data, kind, at=0, readable=b""):
     return Checked(name, readable, [Finding("error", kind, message, at, at, None, found, None, (), has_place, None)], status)
 
 
+NESTED = r"/\*(?:[^*/]|\*(?!/)|/(?!\*)|{})*\*/"
+TOKEN = re.compile((r"(?P<none>\s+|\A\xef\xbb\xbf|--[^\n]*|" + NESTED.format(NESTED.format(NESTED.format("(?!)")))
+                    + r''')|[eE]'(?:[^'\\]|\\.|'')*'|'(?:[^']|'')*'|"(?:[^"]|"")*"|\$(?P<tag>(?:[^\W\d]\w*)?)\$.*?\$(?P=tag)\$'''
+                    + r"|[A-Za-z_\x80-\xff][\w$\x80-\xff]*|.").encode("latin-1"), re.S)
+
+
+def statements(data):
+    """Where the statements of a text begin and end, without their semicolons; with a body in BEGIN ATOMIC .. END to its END."""
+    found, inside, depth, body = [], [], 0, False
+    for token in [one for one in TOKEN.finditer(data) if one["none"] is None] + [None]:
+        words = [one[0].lower() for one in inside]
+        if token is None or (token[0] == b";" and not depth):
+            if inside:
+                begin = found.pop()[0] if body else inside[0].start()
+                found.append((begin, token.start() if token else inside[-1].end()))
+            begun = [after for *words_before, after in zip(words, words[1:], words[2:] + [b""]) if words_before == [b"begin", b"atomic"]]
+            body = words[:1] != [b"end"] if body else any(after != b"end" for after in begun)
+            inside, depth = [], 0
+            continue
+        inside.append(token)
+        depth += (token[0] in (b"(", b"[")) - (token[0] in (b")", b"]"))
+    return found
+
+
+def partly(printer, words, name, data):
+    """A file of which some statements can't be parsed, and the others are linted without them; nothing where that can't be parsed either."""
+    text, faults = data, []
+    for start, end in statements(data):
+        fault = re.fullmatch(r"error: (unterminated|syntax) at (\d+)\n", fuzz.run(printer, words, data[start:end]).err.decode())
+        if fault:
+            faults += refused(name, data, {"syntax": "syntax-error"}.get(fault[1], fault[1]), start + int(fault[2]), data).findings
+            text = text[:start] + re.sub(rb"[^\t-\r ]", b" ", text[start:end]) + text[end:]
+    rest = checked(printer, words, name, text) if text != data else None
+    return rest and rest.before is None and rest.status < 2 and rest._replace(status=4, before=Checked(name, data, faults, 4))
+
+
 def as_finding(known, one):
     """A printed report, without its fix where that is not offered."""
     fix_class = known.class_of(one.rule, one.start, one.end) if one.title is not None else None
@@ -171,7 +208,7 @@ def checked(printer, words, name, data):
         except UnicodeDecodeError as error:
             return refused(name, data, "not-utf8", error.start, data[:error.start])
     kind, at = re.fullmatch(r"error: (unterminated|syntax) at (\d+)\n", done.err.decode()).groups()
-    return refused(name, data, {"syntax": "syntax-error"}.get(kind, kind), int(at), data)
+    return kind == "syntax" and partly(printer, words, name, data) or refused(name, data, {"syntax": "syntax-error"}.get(kind, kind), int(at), data)
 
 
 # The format for people.
@@ -278,9 +315,9 @@ def number_of(count, word):
 
 
 def last_line(files):
-    issues = sum(len(file.findings) for file in files if file.status in (0, 1))
-    errors = sum(file.status > 1 for file in files)
-    marked = sum(bool(file.findings) for file in files)
+    issues = sum(len(file.findings) for file in files if file.before or file.status in (0, 1))
+    errors = sum(len(file.before.findings) if file.before else file.status > 1 for file in files)
+    marked = sum(bool(file.before or file.findings) for file in files)
     parts = [number_of(issues, "issue")] * (issues > 0 or errors == 0) + [number_of(errors, "error")] * (errors > 0)
     return f"Found {' and '.join(parts)} in {f'{marked} of ' if marked else ''}{number_of(len(files), 'file')}\n"
 
@@ -398,7 +435,7 @@ LINES = {"concise": as_concise, "gcc": as_gcc, "github": as_github}
 
 def written(files, style):
     """What is written of files."""
-    findings = [(file, found) for file in files for found in file.findings]
+    findings = [(part, found) for file in files for part in (file.before, file) if part for found in part.findings]
     if style["format"] in ARRAYS:
         inside = ",".join("\n" + ARRAYS[style["format"]](*one) for one in findings) + "\n"
         if style["format"] != "sarif":
@@ -534,7 +571,7 @@ def is_about_more(case):
     names = any(re.search(rf"(?<![\w-]){name}(?![\w-])", lines) or f"[{name}]" in case.out.decode("utf-8", "replace") for name in all_hazards())
     options = {word.partition("=")[0] for word in case.words if word.startswith("--") and word != "--"}
     foreign = options - {*OWN, *FLAGS, "--only", "--exclude", "--include", "--non-volatile", "--pg-major", "--pg-minor", "--pg-patch"}
-    psql = re.search(rb"(?mi)^(?:\xef\xbb\xbf)?(?:\\|copy )", case.text)
+    psql = re.search(rb"(?mi)^(?:\xef\xbb\xbf)?(?:\\|copy )| \\g", case.text)
     return names or bool(foreign) or bool(psql) or ".squawk.toml" in lines or bool({"-h", "-V"} & {*case.words})
 
 

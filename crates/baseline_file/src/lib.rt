@@ -1,6 +1,6 @@
-//! The baseline of a run: the file that has it, what it leaves of the answers, and the line that is written where it is refused.
+//! The baseline of a run: its file, the reports that it leaves, and the line that is written where it is refused.
 //!
-//! `specs/Loaded.antt` says what is taken of a file, and `specs/Leaving.antt` what is left of answers.
+//! `specs/Loaded.antt` says what is read from a file, and `specs/Leaving.antt` which reports are left.
 #![tactic(auto)]
 
 mod filter;

@@ -5,6 +5,8 @@ use Rattle.std.specs.List.{before_first, list_all, list_any, slice_split, starts
 use Rattle.std.specs.Str.{bytes_eq}
 use Rattle.checked_file.specs.declared.answer.Answer.{Answer}
 use Rattle.checked_file.specs.declared.answer.Answer.TheVariants.{Reports, Refused}
+use Rattle.checked_file.specs.declared.answer.Answer.TheVariants as answer
+use Rattle.checked_file.specs.declared.answer.Partial.{Partial}
 use Rattle.checked_file.specs.declared.checked.Checked.{Checked}
 use Rattle.checked_file.specs.Files.{readable_of}
 use Rattle.checked_file.specs.lint_report.declared.report.Report.{Report}
@@ -77,12 +79,23 @@ unknown_reports baseline name text reports = filter (λ v. not (is_known baselin
 
 -- ---- files
 
--- what is left of an answer: the reports that a baseline does not know; a refusal stays
+-- what is left where some statements could not be parsed: the reports that a baseline does not know
+pub record IsPartLeft (baseline : Baseline) (name text : Text) (old new : Partial) : Type 0 where
+  pub bytes : new.bytes ≡ old.bytes
+  pub faults : new.faults ≡ old.faults
+  pub reports : new.reports.items ≡ unknown_reports baseline name text old.reports.items
+
+-- what is left of an answer: the reports that a baseline does not know; what could not be parsed or linted stays
 abbrev pub IsLeftOf : Baseline → Text → Text → Answer → Answer → Type 0
 IsLeftOf baseline name text (Reports old) (Reports new) = new.items ≡ unknown_reports baseline name text old.items
-IsLeftOf baseline name text (Reports old) (Refused r) = ⊥
-IsLeftOf baseline name text (Refused r) (Reports new) = ⊥
+IsLeftOf baseline name text (answer.Partial old) (answer.Partial new) = IsPartLeft baseline name text old new
 IsLeftOf baseline name text (Refused r) (Refused s) = s ≡ r
+IsLeftOf baseline name text (Reports old) (answer.Partial new) = ⊥
+IsLeftOf baseline name text (Reports old) (Refused r) = ⊥
+IsLeftOf baseline name text (answer.Partial old) (Reports new) = ⊥
+IsLeftOf baseline name text (answer.Partial old) (Refused r) = ⊥
+IsLeftOf baseline name text (Refused r) (Reports new) = ⊥
+IsLeftOf baseline name text (Refused r) (answer.Partial new) = ⊥
 
 -- what is left of a file: all but its answer stays
 pub record IsLeft (baseline : Baseline) (old new : Checked) : Type 0 where

@@ -1,13 +1,13 @@
 //! Files without the reports that a baseline knows.
 ghost use Rattle.std.specs.Prelude.{◌≡◌, All, IfOk, string_bytes};
 ghost use Rattle.std.specs.List.{AllZip};
-ghost use Rattle.checked_file.specs.Sound.{IsIn, IsReportIn, IsSound};
+ghost use Rattle.checked_file.specs.Sound.{IsIn, IsPartialIn, IsReportIn, IsSound};
 ghost use Rattle.checked_file.specs.source_file.File.{IsRangeIn};
 ghost use Rattle.report_gitlab.specs.Issues.{report_fingerprint};
-ghost use Rattle.check_baseline.specs.Known.{IsLeft, IsLeftOf, is_known, unknown_reports};
+ghost use Rattle.check_baseline.specs.Known.{IsLeft, IsLeftOf, IsPartLeft, is_known, unknown_reports};
 
 use crate::baseline::Baseline;
-use checked_file::{Answer, Checked, NoMemory, Report, readable};
+use checked_file::{Answer, Checked, NoMemory, Partial, Report, readable};
 use report_gitlab::report_fingerprint;
 use std::alloc::Global;
 
@@ -60,6 +60,31 @@ fn unknown_reports(
     Ok(kept)
 }
 
+// What is left where some statements of a file could not be parsed.
+fn part_left(
+    alloc: Global,
+    baseline: &Baseline,
+    name: &str,
+    text: &str,
+    partial: Partial,
+) -> Result<Partial, NoMemory>
+    requires { IsPartialIn text.now partial }
+    ensures left { IfOk result (IsPartLeft baseline.now name.now text.now partial) }
+    ensures placed { IfOk result (IsPartialIn text.now) }
+{
+    let Partial {
+        bytes,
+        faults,
+        reports,
+    } = partial;
+    let reports = unknown_reports(alloc, baseline, name, text, reports)?;
+    Ok(Partial {
+        bytes,
+        faults,
+        reports,
+    })
+}
+
 // What is left of an answer for a file.
 fn left_of(
     alloc: Global,
@@ -76,6 +101,10 @@ fn left_of(
         Answer::Reports(reports) => {
             let kept = unknown_reports(alloc, baseline, name, text, reports)?;
             Ok(Answer::Reports(kept))
+        }
+        Answer::Partial(partial) => {
+            let left = part_left(alloc, baseline, name, text, partial)?;
+            Ok(Answer::Partial(left))
         }
         Answer::Refused(refusal) => Ok(Answer::Refused(refusal)),
     }
@@ -103,7 +132,7 @@ fn left(alloc: Global, baseline: &Baseline, file: Checked) -> Result<Checked, No
     })
 }
 
-/// Files without the reports that a baseline knows, in their order. What could not be linted stays. The error comes when memory runs out.
+/// Files without the reports that a baseline knows, in their order. What could not be parsed or linted stays. The error comes when memory runs out.
 pub fn without_known(
     alloc: Global,
     baseline: &Baseline,

@@ -1,11 +1,11 @@
 //! The text of a baseline.
 ghost use Rattle.std.specs.Prelude.{◌≡◌, ◌++◌, All, IfOk, OnOk, [], string_bytes};
 ghost use Rattle.std.specs.List.{flat_map};
-ghost use Rattle.checked_file.specs.Sound.{IsIn, IsReportIn, IsSound};
-ghost use Rattle.check_baseline.specs.Written.{answer_lines, file_lines, heading, refusal_line, refusal_mark, report_line, written};
+ghost use Rattle.checked_file.specs.Sound.{IsIn, IsPartialIn, IsReportIn, IsSound};
+ghost use Rattle.check_baseline.specs.Written.{answer_lines, file_lines, heading, partial_lines, refusal_line, refusal_mark, report_line, written};
 
 use crate::known::print_of;
-use checked_file::{Answer, Checked, NoMemory, Refusal, Report, push_escaped, readable};
+use checked_file::{Answer, Checked, NoMemory, Partial, Refusal, Report, push_escaped, readable};
 use std::alloc::Global;
 
 /// What comes before the first line.
@@ -51,7 +51,7 @@ fn push_lines(
     Ok(())
 }
 
-// Adds what comes before the name of a file that could not be linted.
+// Adds what comes before the name of a file of which something could not be linted.
 #[tactic(auto, unfolding(crate::specs::Written::refusal_mark))]
 fn push_refusal_mark(to: &mut Vec<u8>) -> Result<(), NoMemory>
     ensures { OnOk result (to.new.items ≡ to.old.items ++ refusal_mark) }
@@ -60,7 +60,7 @@ fn push_refusal_mark(to: &mut Vec<u8>) -> Result<(), NoMemory>
     Ok(())
 }
 
-// Adds the comment on a file that could not be linted.
+// Adds the comment on a file, or on a statement of it, that could not be linted.
 #[tactic(auto, unfolding(crate::specs::Written::refusal_line), using(std::proofs::lemmas::List::append_assoc))]
 fn push_refusal(to: &mut Vec<u8>, name: &str, refusal: &Refusal) -> Result<(), NoMemory>
     ensures { OnOk result (to.new.items ≡ to.old.items ++ refusal_line name.now refusal.now) }
@@ -71,6 +71,32 @@ fn push_refusal(to: &mut Vec<u8>, name: &str, refusal: &Refusal) -> Result<(), N
     to.extend_from_slice(refusal.message().as_bytes())?;
     to.push(b'\n')?;
     Ok(())
+}
+
+// Adds the comments on statements that could not be parsed.
+fn push_refusals(to: &mut Vec<u8>, name: &str, refusals: &[Refusal]) -> Result<(), NoMemory>
+    ensures { OnOk result (to.new.items ≡ to.old.items ++ flat_map (refusal_line name.now) refusals.now) }
+{
+    for refusal in refusals {
+        push_refusal(to, name, refusal)?;
+    }
+    Ok(())
+}
+
+// Adds the lines of a file of which some statements could not be parsed.
+#[tactic(auto, using(std::proofs::lemmas::List::append_assoc))]
+fn push_partial(
+    to: &mut Vec<u8>,
+    alloc: Global,
+    name: &str,
+    text: &str,
+    partial: &Partial,
+) -> Result<(), NoMemory>
+    requires { IsPartialIn text.now partial.now }
+    ensures { OnOk result (to.new.items ≡ to.old.items ++ partial_lines name.now text.now partial.now) }
+{
+    push_refusals(to, name, partial.faults.as_slice())?;
+    push_lines(to, alloc, name, text, partial.reports.as_slice())
 }
 
 // Adds the lines of an answer.
@@ -86,6 +112,7 @@ fn push_answer(
 {
     match answer {
         Answer::Reports(reports) => push_lines(to, alloc, name, text, reports.as_slice()),
+        Answer::Partial(partial) => push_partial(to, alloc, name, text, partial),
         Answer::Refused(refusal) => push_refusal(to, name, refusal),
     }
 }
@@ -111,8 +138,8 @@ fn push_files(to: &mut Vec<u8>, alloc: Global, files: &[Checked]) -> Result<(), 
     Ok(())
 }
 
-/// The text of the baseline that knows all reports of some files: a comment, and then a line for each report, or a comment on the file
-/// where it could not be linted. The error comes when memory runs out.
+/// The text of the baseline that knows all reports of some files: a comment, and then for each file a comment on each statement that could
+/// not be parsed and a line for each report, or a comment on the file where it could not be linted. The error comes when memory runs out.
 pub fn written(alloc: Global, files: &[Checked]) -> Result<Vec<u8>, NoMemory>
     requires { All IsSound files.now }
     ensures { IfOk result (λ text. text.items ≡ written files.now) }

@@ -1,6 +1,6 @@
-//! The command `check` with the linter: from the words after the program's name to what is written and the exit status.
+//! The command `check` with the linter: from its arguments to its output and exit status.
 //!
-//! `specs/Command.antt` says what a run does, by what its words ask for.
+//! `specs/Command.antt` says what a run does for which arguments.
 #![tactic(auto)]
 
 mod command;

@@ -4,9 +4,10 @@ use Rattle.std.proofs.lemmas.List.{drop_all, drop_more}
 use Rattle.checked_file.specs.declared.checked.Checked.{Checked}
 use Rattle.checked_file.specs.Answers.{has_findings}
 use Rattle.checked_file.specs.lint_report.declared.report.Report.{Report}
+use Rattle.checked_file.specs.source_file.declared.refusal.Refusal.{Refusal}
 use Rattle.checked_file.specs.source_file.File.{FileValue}
 use Rattle.check_print.specs.declared.style.Style.{Style}
-use Rattle.check_print.specs.Printed.{printed_file, printed_files, printed_reports, separated}
+use Rattle.check_print.specs.Printed.{printed_file, printed_files, printed_refusals, printed_reports, separated, separated_refusal}
 
 -- one report more
 pub report_pushed : (style : Style) (file : FileValue) (xs : List Report) (i : ℕ) (behind : Bool) (x : Report) (to new all : List ℕ) → i < length xs → x ≡ get_or xs i x
@@ -19,6 +20,21 @@ report_pushed style file xs i behind x to new all h e p q =
 pub reports_end : (style : Style) (file : FileValue) (xs : List Report) (i : ℕ) (behind : Bool) (to all : List ℕ) → length xs ≤ i
     → to ++ printed_reports style behind file (drop i xs) ≡ all → to ≡ all
 reports_end style file xs i behind to all h p =
+    let none : drop i xs ≡ [] = drop_all i xs h in
+    let after : to ++ [] ≡ all = rw none at p in
+    sym (append-nil to) ∙ after
+
+-- one refusal more
+pub refusal_pushed : (style : Style) (file : FileValue) (xs : List Refusal) (i : ℕ) (behind : Bool) (x : Refusal) (to new all : List ℕ) → i < length xs → x ≡ get_or xs i x
+    → to ++ printed_refusals style behind file (drop i xs) ≡ all → new ≡ to ++ separated_refusal style behind file x → new ++ printed_refusals style true file (drop (i + 1) xs) ≡ all
+refusal_pushed style file xs i behind x to new all h e p q =
+    let front : drop i xs ≡ x ∷ drop (i + 1) xs = drop_more xs i x h ∙ ap (λ y. y ∷ drop (i + 1) xs) (sym e) in
+    let before : to ++ (separated_refusal style behind file x ++ printed_refusals style true file (drop (i + 1) xs)) ≡ all = rw front at p in
+    rw q (append_assoc to (separated_refusal style behind file x) (printed_refusals style true file (drop (i + 1) xs)) ∙ before)
+
+pub refusals_end : (style : Style) (file : FileValue) (xs : List Refusal) (i : ℕ) (behind : Bool) (to all : List ℕ) → length xs ≤ i
+    → to ++ printed_refusals style behind file (drop i xs) ≡ all → to ≡ all
+refusals_end style file xs i behind to all h p =
     let none : drop i xs ≡ [] = drop_all i xs h in
     let after : to ++ [] ≡ all = rw none at p in
     sym (append-nil to) ∙ after

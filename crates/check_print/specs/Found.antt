@@ -1,7 +1,7 @@
 -- The findings of files, in order: what is printed of a run is printed of these.
-use Rattle.std.specs.Prelude.{ℕ, List, [], ◌∷◌, Option, Some, None, flat_map, map, option_map}
+use Rattle.std.specs.Prelude.{ℕ, List, [], ◌∷◌, ◌++◌, Option, Some, None, flat_map, map, option_map}
 use Rattle.checked_file.specs.declared.answer.Answer.{Answer}
-use Rattle.checked_file.specs.declared.answer.Answer.TheVariants.{Reports, Refused}
+use Rattle.checked_file.specs.declared.answer.Answer.TheVariants.{Reports, Partial, Refused}
 use Rattle.checked_file.specs.declared.checked.Checked.{Checked}
 use Rattle.checked_file.specs.lint_report.declared.report.Report.{Report}
 use Rattle.checked_file.specs.lint_report.declared.report.ReportFix.{ReportFix}
@@ -13,7 +13,7 @@ use Rattle.checked_file.specs.source_file.File.{FileValue}
 use Rattle.checked_file.specs.source_file.Hints.{hint_of, text_of}
 use Rattle.checked_file.specs.source_file.Refusals as refusals
 use Rattle.checked_file.specs.text_pos.Range.{Range}
-use Rattle.check_print.specs.Printed.{source_of}
+use Rattle.check_print.specs.Printed.{read_as, source_of}
 
 -- A finding: its file, its range, its level, the name of its rule or hazard and its message; its note, its help, its fix and the range of
 -- its statement, where it has them.
@@ -42,7 +42,7 @@ found_report file v = record {
   statement = Some v.statement;
 }
 
--- why a file could not be linted
+-- why a file could not be linted, or a statement of it not be parsed
 abbrev pub found_refusal : FileValue → Refusal → Found
 found_refusal file r = record {
   file = file;
@@ -58,6 +58,7 @@ found_refusal file r = record {
 
 abbrev pub found_by : FileValue → Answer → List Found
 found_by file (Reports reports) = map (found_report file) reports.items
+found_by file (Partial p) = map (found_refusal (read_as file p)) p.faults.items ++ map (found_report file) p.reports.items
 found_by file (Refused r) = found_refusal file r ∷ []
 
 -- the findings of a file

@@ -1,5 +1,5 @@
--- What of a file was passed over, since it is for psql and no SQL.
-use Rattle.std.specs.Prelude.{ℕ, List, [], ◌++◌, Option, Some, None, codes, decimal}
+-- What of a file was passed over: what is for psql and no SQL, and the bodies of functions.
+use Rattle.std.specs.Prelude.{ℕ, ◌==◌, if◌then◌else◌, List, [], ◌++◌, Option, Some, None, codes, decimal}
 use Rattle.checked_file.specs.declared.checked.Checked.{Checked}
 use Rattle.checked_file.specs.declared.checked.Passed.{Passed}
 use Rattle.checked_file.specs.Files.{readable_of}
@@ -9,11 +9,16 @@ use Rattle.checked_file.specs.source_file.Escaped.{escaped_name}
 unfoldable pub passed_place : FileValue → Passed → List ℕ
 passed_place file p = codes "note: " ++ escaped_name file.name ++ codes ":" ++ decimal (line_number file.text p.first)
 
+-- how many bodies, where there are some
+unfoldable pub passed_bodies : ℕ → List ℕ
+passed_bodies n = if n == 0 then [] else codes ", function bodies: " ++ decimal n
+
 unfoldable pub passed_counts : Passed → List ℕ
 passed_counts p =
-    codes ": commands of psql: " ++ decimal p.commands ++ codes ", lines of COPY data: " ++ decimal p.data_lines ++ codes "; they are read as blanks\n"
+    codes ": commands of psql: " ++ decimal p.commands ++ codes ", lines of COPY data: " ++ decimal p.data_lines ++ passed_bodies p.bodies
+    ++ codes "; they are read as blanks\n"
 
--- `note: dump.sql:5: commands of psql: 2, lines of COPY data: 40; they are read as blanks`
+-- `note: dump.sql:5: commands of psql: 2, lines of COPY data: 40, function bodies: 1; they are read as blanks`
 unfoldable pub passed_line : FileValue → Passed → List ℕ
 passed_line file p = passed_place file p ++ passed_counts p
 

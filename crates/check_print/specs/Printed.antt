@@ -1,15 +1,18 @@
 -- What is written of the files of a run.
-use Rattle.std.specs.Prelude.{ℕ, ◌||◌, Bool, true, false, List, [], ◌∷◌, ◌++◌, codes, if◌then◌else◌, flat_map}
+use Rattle.std.specs.Prelude.{ℕ, ◌==◌, ◌||◌, Bool, true, false, not, List, [], ◌∷◌, ◌++◌, codes, if◌then◌else◌, flat_map, length}
 use Rattle.check_words.specs.declared.request.Format.{Format}
 use Rattle.check_words.specs.declared.request.Format.TheVariants as format
 use Rattle.checked_file.specs.declared.answer.Answer.{Answer}
 use Rattle.checked_file.specs.declared.answer.Answer.TheVariants.{Reports, Refused}
+use Rattle.checked_file.specs.declared.answer.Answer.TheVariants as answer
+use Rattle.checked_file.specs.declared.answer.Partial.{Partial}
 use Rattle.checked_file.specs.declared.checked.Checked.{Checked}
 use Rattle.checked_file.specs.Answers.{has_findings}
 use Rattle.checked_file.specs.Files.{readable_of}
 use Rattle.checked_file.specs.lint_report.declared.report.Report.{Report}
 use Rattle.report_sarif.specs.Log as sarif
 use Rattle.report_text.specs.Closing as text
+use Rattle.checked_file.specs.source_file.declared.refusal.Refusal.{Refusal}
 use Rattle.checked_file.specs.source_file.File.{FileValue}
 use Rattle.check_print.specs.declared.style.Style.{Style}
 use Rattle.check_print.specs.Counted.{counts_of}
@@ -23,6 +26,10 @@ use Rattle.check_print.specs.Statistics.{code_lines}
 abbrev pub source_of : Checked → FileValue
 source_of file = record { name = file.name; text = readable_of file.bytes.items }
 
+-- the same file with the text as it was read, in which some statements could not be parsed
+abbrev pub read_as : FileValue → Partial → FileValue
+read_as file p = record { name = file.name; text = readable_of p.bytes.items }
+
 -- a report with what is before it
 abbrev pub separated : Style → Bool → FileValue → Report → List ℕ
 separated style follows file v = separator style.format follows ++ printed_report style.format style.color file v
@@ -32,9 +39,29 @@ abbrev pub printed_reports : Style → Bool → FileValue → List Report → Li
 printed_reports style follows file [] = []
 printed_reports style follows file (v ∷ vs) = separated style follows file v ++ printed_reports style true file vs
 
+-- a refusal with what is before it
+abbrev pub separated_refusal : Style → Bool → FileValue → Refusal → List ℕ
+separated_refusal style follows file r = separator style.format follows ++ printed_refusal style.format style.color file r
+
+-- refusals, the first of them by whether a finding was before it
+abbrev pub printed_refusals : Style → Bool → FileValue → List Refusal → List ℕ
+printed_refusals style follows file [] = []
+printed_refusals style follows file (r ∷ rs) = separated_refusal style follows file r ++ printed_refusals style true file rs
+
+-- something was before, or is among these
+abbrev pub follows_refusals : Bool → List Refusal → Bool
+follows_refusals follows rs = follows || not (length rs == 0)
+
+-- the statements that could not be parsed, in the text as it was read, and then the reports
+abbrev pub printed_partial : Style → Bool → FileValue → Partial → List ℕ
+printed_partial style follows file p =
+    printed_refusals style follows (read_as file p) p.faults.items
+    ++ printed_reports style (follows_refusals follows p.faults.items) file p.reports.items
+
 abbrev pub printed_answer : Style → Bool → FileValue → Answer → List ℕ
 printed_answer style follows file (Reports reports) = printed_reports style follows file reports.items
-printed_answer style follows file (Refused r) = separator style.format follows ++ printed_refusal style.format style.color file r
+printed_answer style follows file (answer.Partial p) = printed_partial style follows file p
+printed_answer style follows file (Refused r) = separated_refusal style follows file r
 
 unfoldable pub printed_file : Style → Bool → Checked → List ℕ
 printed_file style follows file = printed_answer style follows (source_of file) file.answer

@@ -1,7 +1,7 @@
 -- How many reports each rule and each hazard has.
 use Rattle.std.specs.Prelude.{ℕ, ◌+◌, ◌==◌, Bool, false, List, [], ◌++◌, codes, count_by, decimal, flat_map, fold, if◌then◌else◌}
 use Rattle.checked_file.specs.declared.answer.Answer.{Answer}
-use Rattle.checked_file.specs.declared.answer.Answer.TheVariants.{Reports, Refused}
+use Rattle.checked_file.specs.declared.answer.Answer.TheVariants.{Reports, Partial, Refused}
 use Rattle.checked_file.specs.declared.checked.Checked.{Checked}
 use Rattle.hazard_base.specs.declared.hazard.Hazard.{Hazard}
 use Rattle.hazard_base.specs.Hazards.{all_hazards, same_hazard}
@@ -10,6 +10,7 @@ use Rattle.lint_base.specs.RuleNames.{same_rule}
 use Rattle.lint_base.specs.Rules.{all_rules}
 use Rattle.checked_file.specs.lint_report.declared.code.Code.{Code}
 use Rattle.checked_file.specs.lint_report.declared.code.Code.TheVariants as code
+use Rattle.checked_file.specs.lint_report.declared.report.Report.{Report}
 use Rattle.checked_file.specs.lint_report.Codes.{name_of}
 use Rattle.check_print.specs.Counted.{capped}
 
@@ -21,8 +22,12 @@ same_code (code.Hazard hazard) (code.Rule rule) = false
 same_code (code.Hazard hazard) (code.Hazard other) = same_hazard hazard other
 
 -- the reports of a code for one file
+abbrev pub count_among : Code → List Report → ℕ
+count_among c reports = count_by (λ v. same_code v.code c) reports
+
 abbrev pub count_in : Code → Answer → ℕ
-count_in c (Reports reports) = count_by (λ v. same_code v.code c) reports.items
+count_in c (Reports reports) = count_among c reports.items
+count_in c (Partial p) = count_among c p.reports.items
 count_in c (Refused r) = 0
 
 -- the reports of a code for all files

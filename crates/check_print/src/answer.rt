@@ -1,11 +1,13 @@
 //! What came of one file.
 ghost use Rattle.std.specs.Prelude.{◌≡◌, ◌++◌, All, OnOk};
-ghost use Rattle.checked_file.specs.Sound.{IsIn, IsReportIn, IsSound};
-ghost use Rattle.check_print.specs.Printed.{printed_answer, printed_file, printed_reports, separated};
+ghost use Rattle.std.specs.Str.{IsCharBoundary};
+ghost use Rattle.checked_file.specs.Sound.{IsIn, IsPartialIn, IsReportIn, IsSound};
+ghost use Rattle.checked_file.specs.source_file.Refusals.{place_of};
+ghost use Rattle.check_print.specs.Printed.{follows_refusals, printed_answer, printed_file, printed_partial, printed_refusals, printed_reports, separated, separated_refusal};
 
 use crate::finding::{push_refusal, push_report, push_separator};
 use crate::style::Style;
-use checked_file::{Answer, Checked, NoMemory, Report, SourceFile, readable};
+use checked_file::{Answer, Checked, NoMemory, Partial, Refusal, Report, SourceFile, readable};
 use std::alloc::Global;
 
 // Adds a report with what is before it.
@@ -45,6 +47,70 @@ fn push_reports(
     Ok(())
 }
 
+// Adds a refusal with what is before it.
+#[tactic(auto, using(std::proofs::lemmas::List::append_assoc))]
+fn push_separated_refusal(
+    to: &mut Vec<u8>,
+    alloc: Global,
+    style: Style,
+    follows: bool,
+    file: &SourceFile<'_>,
+    refusal: &Refusal,
+) -> Result<(), NoMemory>
+    requires { IsCharBoundary file.now.text (place_of refusal.now) }
+    ensures { OnOk result (to.new.items ≡ to.old.items ++ separated_refusal style follows file.now refusal.now) }
+{
+    push_separator(to, style.format, follows)?;
+    push_refusal(to, alloc, style, file, refusal)
+}
+
+// Adds the refusals of statements.
+fn push_refusals(
+    to: &mut Vec<u8>,
+    alloc: Global,
+    style: Style,
+    follows: bool,
+    file: &SourceFile<'_>,
+    refusals: &[Refusal],
+) -> Result<(), NoMemory>
+    requires { All (λ r. IsCharBoundary file.now.text (place_of r)) refusals.now }
+    ensures { OnOk result (to.new.items ≡ to.old.items ++ printed_refusals style follows file.now refusals.now) }
+{
+    let mut behind = follows;
+    for refusal in refusals {
+        push_separated_refusal(to, alloc, style, behind, file, refusal)?;
+        behind = true;
+    }
+    Ok(())
+}
+
+// Whether something was before, or is among these.
+fn follows_refusals(follows: bool, refusals: &[Refusal]) -> bool
+    ensures { result ≡ follows_refusals follows refusals.now }
+{
+    follows || !refusals.is_empty()
+}
+
+// Adds the refusals of the statements of a file that could not be parsed, and the reports of the others.
+#[tactic(auto, using(std::proofs::lemmas::List::append_assoc))]
+fn push_partial(
+    to: &mut Vec<u8>,
+    alloc: Global,
+    style: Style,
+    follows: bool,
+    file: &SourceFile<'_>,
+    partial: &Partial,
+) -> Result<(), NoMemory>
+    requires { IsPartialIn file.now.text partial.now }
+    ensures { OnOk result (to.new.items ≡ to.old.items ++ printed_partial style follows file.now partial.now) }
+{
+    let refusals = partial.faults.as_slice();
+    let read = SourceFile::new(alloc, file.name(), readable(partial.bytes.as_slice()))?;
+    push_refusals(to, alloc, style, follows, &read, refusals)?;
+    let behind = follows_refusals(follows, refusals);
+    push_reports(to, alloc, style, behind, file, partial.reports.as_slice())
+}
+
 // Adds an answer for a file.
 #[tactic(auto, using(std::proofs::lemmas::List::append_assoc))]
 fn push_answer(
@@ -62,9 +128,9 @@ fn push_answer(
         Answer::Reports(reports) => {
             push_reports(to, alloc, style, follows, file, reports.as_slice())
         }
+        Answer::Partial(partial) => push_partial(to, alloc, style, follows, file, partial),
         Answer::Refused(refusal) => {
-            push_separator(to, style.format, follows)?;
-            push_refusal(to, alloc, style, file, refusal)
+            push_separated_refusal(to, alloc, style, follows, file, refusal)
         }
     }
 }

@@ -19,9 +19,7 @@ fn with_file(counts: Counts, file: &Checked) -> Counts
 {
     Counts {
         issues: counts.issues.saturating_add(file.answer.report_count()),
-        errors: counts
-            .errors
-            .saturating_add(one_if(file.answer.is_refused())),
+        errors: counts.errors.saturating_add(file.answer.error_count()),
         marked: counts
             .marked
             .saturating_add(one_if(file.answer.has_findings())),

@@ -1,4 +1,4 @@
-//! What is written of the files of a run, in each format.
+//! The results of a run, printed in each format.
 //!
 //! `specs/Printed.antt` puts the forms of the findings, which crates of their own define, together: what is before the first, between
 //! two, and after the last.

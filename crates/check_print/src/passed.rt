@@ -1,7 +1,7 @@
 //! What of files was passed over.
 ghost use Rattle.std.specs.Prelude.{◌≡◌, ◌++◌, All, OnOk, flat_map};
 ghost use Rattle.checked_file.specs.Sound.{IsSound};
-ghost use Rattle.check_print.specs.Passed.{passed_counts, passed_in, passed_line, passed_place};
+ghost use Rattle.check_print.specs.Passed.{passed_bodies, passed_counts, passed_in, passed_line, passed_place};
 
 use checked_file::{Checked, NoMemory, Passed, SourceFile, push_escaped_name, readable};
 use report_lines::{push, push_number};
@@ -18,7 +18,19 @@ fn push_place(to: &mut Vec<u8>, file: &SourceFile<'_>, passed: &Passed) -> Resul
     push_number(to, file.line(passed.first))
 }
 
-// Adds how many lines were passed over.
+// Adds how many bodies were passed over, where there are some.
+#[tactic(auto, unfolding(crate::specs::Passed::passed_bodies), using(std::proofs::lemmas::List::append_assoc))]
+fn push_bodies(to: &mut Vec<u8>, bodies: usize) -> Result<(), NoMemory>
+    ensures { OnOk result (to.new.items ≡ to.old.items ++ passed_bodies bodies) }
+{
+    if bodies == 0 {
+        return Ok(());
+    }
+    push(to, b", function bodies: ")?;
+    push_number(to, bodies)
+}
+
+// Adds how much was passed over.
 #[tactic(auto, unfolding(crate::specs::Passed::passed_counts), using(std::proofs::lemmas::List::append_assoc))]
 fn push_counts(to: &mut Vec<u8>, passed: &Passed) -> Result<(), NoMemory>
     ensures { OnOk result (to.new.items ≡ to.old.items ++ passed_counts passed.now) }
@@ -27,6 +39,7 @@ fn push_counts(to: &mut Vec<u8>, passed: &Passed) -> Result<(), NoMemory>
     push_number(to, passed.commands)?;
     push(to, b", lines of COPY data: ")?;
     push_number(to, passed.data_lines)?;
+    push_bodies(to, passed.bodies)?;
     push(to, b"; they are read as blanks\n")
 }
 

@@ -2,7 +2,7 @@
 ghost use Rattle.std.specs.Prelude.{◌≡◌, ◌++◌, OnOk, flat_map};
 ghost use Rattle.hazard_base.specs.Hazards.{all_hazards};
 ghost use Rattle.lint_base.specs.Rules.{all_rules};
-ghost use Rattle.check_print.specs.Statistics.{code_line, code_lines, count_in, count_of, hazard_line, rule_line, same_code};
+ghost use Rattle.check_print.specs.Statistics.{code_line, code_lines, count_among, count_in, count_of, hazard_line, rule_line, same_code};
 
 use checked_file::{Answer, Checked, Code, NoMemory, Report};
 use hazard_base::Hazard;
@@ -33,12 +33,20 @@ fn is_of(report: &Report, code: Code) -> bool
     same_code(report.code, code)
 }
 
+// How many of these reports go by a code.
+fn count_among(code: Code, reports: &[Report]) -> usize
+    ensures { result ≡ count_among code reports.now }
+{
+    reports.iter().filter(|report| is_of(report, code)).count()
+}
+
 // How many reports a code has for one file.
 fn count_in(code: Code, answer: &Answer) -> usize
     ensures { result ≡ count_in code answer.now }
 {
     match answer {
-        Answer::Reports(reports) => reports.iter().filter(|report| is_of(report, code)).count(),
+        Answer::Reports(reports) => count_among(code, reports.as_slice()),
+        Answer::Partial(partial) => count_among(code, partial.reports.as_slice()),
         Answer::Refused(_) => 0,
     }
 }

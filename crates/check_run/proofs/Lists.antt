@@ -4,7 +4,7 @@ use Rattle.std.proofs.lemmas.List.{take_all}
 use Rattle.std.proofs.lemmas.Option.{slice_get_within}
 use Rattle.std.specs.Prelude.{slice_get}
 use Rattle.checked_file.specs.declared.answer.Answer.{Answer}
-use Rattle.checked_file.specs.declared.answer.Answer.TheVariants.{Reports, Refused}
+use Rattle.checked_file.specs.declared.answer.Answer.TheVariants.{Reports, Partial, Refused}
 use Rattle.checked_file.specs.declared.checked.Checked.{Checked}
 use Rattle.checked_file.specs.declared.checked.Linted.{Linted}
 use Rattle.checked_file.specs.Files.{linted_of}
@@ -21,6 +21,7 @@ rose_wider f g h k a b r = omega arith
 
 unread_wider : (content : Content) (f g h k : ℕ) (answer : Answer) → f ≤ h → k ≤ g → IsUnread content h k answer → IsUnread content f g answer
 unread_wider content f g h k (Reports reports) a b u = u
+unread_wider content f g h k (Partial p) a b u = u
 unread_wider content f g h k (Refused refusal.Missing) a b u = u
 unread_wider content f g h k (Refused refusal.Unreadable) a b u = rose_wider f g h k a b u
 unread_wider content f g h k (Refused refusal.TooLong) a b u = u

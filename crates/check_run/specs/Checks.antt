@@ -5,7 +5,7 @@ use Rattle.sql_files.specs.devices.Refused.{MayBeLong, MayMiss}
 use Rattle.sql_files.specs.devices.declared.store.FileError.{FileError}
 use Rattle.sql_files.specs.devices.declared.store.FileError.TheVariants as error
 use Rattle.checked_file.specs.declared.answer.Answer.{Answer}
-use Rattle.checked_file.specs.declared.answer.Answer.TheVariants.{Reports, Refused}
+use Rattle.checked_file.specs.declared.answer.Answer.TheVariants.{Reports, Partial, Refused}
 use Rattle.checked_file.specs.declared.checked.Checked.{Checked}
 use Rattle.checked_file.specs.declared.checked.Linted.{Linted}
 use Rattle.checked_file.specs.Files.{linted_of}
@@ -20,6 +20,7 @@ Answers = List ℕ → Linted → Type 0
 -- why a file was not read: it is not there; or a call failed, which shows in the count of failures; or it has 2^32 bytes or more
 abbrev pub IsUnread : Content → ℕ → ℕ → Answer → Type 0
 IsUnread content before now (Reports reports) = ⊥
+IsUnread content before now (Partial p) = ⊥
 IsUnread content before now (Refused refusal.Missing) = MayMiss content
 IsUnread content before now (Refused refusal.Unreadable) = Rose before now
 IsUnread content before now (Refused refusal.TooLong) = MayBeLong content

@@ -1,6 +1,6 @@
-//! `check` over files, or over an input: what comes of each, what is written of them, and the status.
+//! `check` over files, or over an input: the result for each, the output, and the status.
 //!
-//! What lints a text is a [`Lint`], what leaves reports out a [`Filter`], and what writes the others a [`Printer`], so that nothing here
+//! A [`Lint`] lints a text, a [`Filter`] leaves reports out, and a [`Printer`] writes the others, so that nothing here
 //! depends on the linter, on a list of known reports or on a format. A [`Progress`] shows how far a run is.
 #![tactic(auto)]
 
@@ -26,7 +26,7 @@ pub use check_words::{
     SystemFiles, SystemWriter, say_stop, take_words, text_in, write_all,
 };
 pub use checked_file::{
-    Answer, Checked, Linted, NoMemory, Passed, Place, Refusal, SourceFile, TextSize, push_shown,
-    width,
+    Answer, Checked, Linted, NoMemory, Partial, Passed, Place, Refusal, Report, SourceFile,
+    TextSize, push_shown, width,
 };
 pub use sql_files::Words;

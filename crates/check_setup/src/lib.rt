@@ -1,4 +1,4 @@
-//! What a run of `lavkheto check` reads before the files that it checks: the configuration and the baseline.
+//! The configuration and the baseline of `lavkheto check`, read before the files.
 //!
 //! `specs/SetUp.antt` says what is read for a request, and why it is refused.
 #![tactic(auto)]

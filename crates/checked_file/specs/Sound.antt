@@ -7,6 +7,8 @@ use Rattle.source_file.specs.File.{IsRangeIn}
 use Rattle.source_file.specs.Refusals.{place_of}
 use Rattle.checked_file.specs.declared.answer.Answer.{Answer}
 use Rattle.checked_file.specs.declared.answer.Answer.TheVariants.{Reports, Refused}
+use Rattle.checked_file.specs.declared.answer.Answer.TheVariants as answer
+use Rattle.checked_file.specs.declared.answer.Partial.{Partial}
 use Rattle.checked_file.specs.declared.checked.Checked.{Checked}
 use Rattle.checked_file.specs.declared.checked.Linted.{Linted}
 use Rattle.checked_file.specs.Files.{readable_of}
@@ -21,9 +23,16 @@ pub record IsReportIn (text : List ℕ) (report : Report) : Type 0 where
   pub statement : IsRangeIn text report.statement
   pub edits : IfSome report.fix (λ f. AreEditsIn text f.fix.edits)
 
+-- what could not be parsed is in the text as it was read, which is short, and what is reported is in the text that was linted
+pub record IsPartialIn (text : List ℕ) (p : Partial) : Type 0 where
+  pub short : length (readable_of p.bytes.items) < 2 ^ 32
+  pub faults : All (λ r. IsCharBoundary (readable_of p.bytes.items) (place_of r)) p.faults.items
+  pub reports : All (IsReportIn text) p.reports.items
+
 -- its findings are in a text
 abbrev pub IsIn : List ℕ → Answer → Type 0
 IsIn text (Reports reports) = All (IsReportIn text) reports.items
+IsIn text (answer.Partial p) = IsPartialIn text p
 IsIn text (Refused r) = IsCharBoundary text (place_of r)
 
 -- the text that can be read is short, and the findings are in it

@@ -9,13 +9,26 @@ use source_file::Refusal;
 pub enum Answer {
     /// It was linted, and this is reported.
     Reports(Vec<Report>),
+    /// Some of its statements could not be parsed; the others were linted.
+    Partial(Partial),
     /// It could not be linted.
     Refused(Refusal),
 }
 
+/// A file of which some statements could not be parsed, and the others were linted.
+#[derive(Debug, Drop)]
+pub struct Partial {
+    /// The bytes as they were read. In the bytes that were linted these statements are blank.
+    pub bytes: Vec<u8>,
+    /// Where the statements could not be parsed, in these bytes: one for each, in their order.
+    pub faults: Vec<Refusal>,
+    /// What is reported of the other statements, in the bytes that were linted.
+    pub reports: Vec<Report>,
+}
+
 impl Answer {
     ghost use Rattle.std.specs.Prelude.{◌≡◌};
-    ghost use Rattle.checked_file.specs.Answers.{has_findings, is_refused, report_count, status_of};
+    ghost use Rattle.checked_file.specs.Answers.{error_count, has_findings, report_count, status_of};
 
     /// The status of a run over this file alone.
     pub fn status(&self) -> Status
@@ -29,6 +42,7 @@ impl Answer {
                     Status::Found
                 }
             }
+            Answer::Partial(_) => Status::Unparsed,
             Answer::Refused(refusal) => match refusal {
                 Refusal::NotUtf8 { .. } => Status::NotUtf8,
                 Refusal::Missing | Refusal::Unreadable => Status::Unreadable,
@@ -45,17 +59,19 @@ impl Answer {
     {
         match self {
             Answer::Reports(reports) => reports.len(),
+            Answer::Partial(partial) => partial.reports.len(),
             Answer::Refused(_) => 0,
         }
     }
 
-    /// Whether the file could not be linted.
-    pub fn is_refused(&self) -> bool
-        ensures { result ≡ is_refused self.now }
+    /// How many errors it has: the statements that could not be parsed, or one for the file that could not be linted.
+    pub fn error_count(&self) -> usize
+        ensures { result ≡ error_count self.now }
     {
         match self {
-            Answer::Reports(_) => false,
-            Answer::Refused(_) => true,
+            Answer::Reports(_) => 0,
+            Answer::Partial(partial) => partial.faults.len(),
+            Answer::Refused(_) => 1,
         }
     }
 
@@ -65,6 +81,7 @@ impl Answer {
     {
         match self {
             Answer::Reports(reports) => !reports.is_empty(),
+            Answer::Partial(partial) => !partial.faults.is_empty() || !partial.reports.is_empty(),
             Answer::Refused(_) => true,
         }
     }

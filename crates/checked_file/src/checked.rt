@@ -8,21 +8,23 @@ use lint_report::Text;
 use simdutf8::compat::from_utf8;
 use source_file::TextSize;
 
-/// The lines of a file that are for psql and no SQL: they were read as blanks.
+/// What of a file was read as blanks: what is for psql and no SQL, and the bodies of functions.
 #[derive(Clone, Copy, Debug, PartialEq, Eq)]
 pub struct Passed {
-    /// Where the first of them begins, in bytes of the file.
+    /// Where the first of it begins, in bytes of the file.
     pub first: TextSize,
-    /// How many are commands of psql itself.
+    /// How many commands of psql itself there are.
     pub commands: usize,
-    /// How many are data of a COPY .. FROM STDIN, with the lines `\.` that end them.
+    /// How many lines are data of a COPY .. FROM STDIN, with the lines `\.` that end them.
     pub data_lines: usize,
+    /// How many bodies of functions and procedures there are.
+    pub bodies: usize,
 }
 
 /// What came of the bytes of a file.
 #[derive(Drop)]
 pub struct Linted {
-    /// The bytes as they were read: those of the file, in which the lines that were passed over are blank.
+    /// The bytes as they were read: those of the file, in which what was passed over is blank.
     pub bytes: Vec<u8>,
     /// What was passed over, if anything was.
     pub passed: Option<Passed>,

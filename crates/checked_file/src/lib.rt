@@ -1,11 +1,11 @@
-//! What comes of a file: the linter's reports, or why there are none; and what follows of it for a whole run: the exit status.
+//! The result for a file: the linter's reports, or the reason why there are none; and the exit status of a whole run.
 #![tactic(auto)]
 
 mod answer;
 mod checked;
 mod status;
 
-pub use answer::Answer;
+pub use answer::{Answer, Partial};
 pub use checked::{Checked, Linted, Passed, readable, worst};
 pub use status::Status;
 

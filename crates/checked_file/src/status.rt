@@ -9,7 +9,7 @@ pub enum Status {
     Found,
     /// A file is not UTF-8.
     NotUtf8,
-    /// A file could not be parsed.
+    /// A file, or a statement of one, could not be parsed.
     Unparsed,
     /// A file could not be read.
     Unreadable,

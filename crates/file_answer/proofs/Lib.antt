@@ -1,4 +1,3 @@
-pub mod Backslashes
 pub mod Placing
 pub mod Reading
 pub use Rattle.check_run.proofs as of_check_run

@@ -28,7 +28,7 @@ read_some t b read (inl (utf8, (ps, passes, told))) by =
         parts = ps;
         passes = passes;
         text = by.bytes ∙ told.text;
-        are = subst (λ (p : Option Passed). IsPassed t ps p) (sym by.passed) (told.first, told.commands, told.data_lines);
+        are = subst (λ (p : Option Passed). IsPassed t ps p) (sym by.passed) (told.first, told.commands, told.data_lines, told.bodies);
       },
     )
 read_some t b read (inr (bad, none)) by = absurd (cc none)

@@ -1,5 +1,5 @@
 pub mod Answers
-pub mod Backslash
+pub mod Found
 pub mod Reading
 pub use Rattle.check_run.specs as check_run
 pub use Rattle.law_reports.specs as law_reports

@@ -6,7 +6,7 @@ use Rattle.check_run.specs.checked_file.declared.checked.Passed.{Passed}
 use Rattle.psql_text.specs.declared.blank.Blanked.{Blanked}
 use Rattle.psql_text.specs.declared.part.Part.{Part}
 use Rattle.psql_text.specs.Psql.{Passes, blank_all}
-use Rattle.psql_text.specs.Told.{IsAnswer, StartsAt, commands_in, data_in}
+use Rattle.psql_text.specs.Told.{IsAnswer, StartsAt, commands_in, data_in, bodies_in}
 use Rattle.law_reports.specs.sql_token.Token.{Text}
 use Rattle.file_answer.specs.declared.read.Read.{Read}
 
@@ -15,7 +15,7 @@ use Rattle.file_answer.specs.declared.read.Read.{Read}
 -- what is kept of the parts of a text that were passed over
 abbrev pub IsPassed : Text → List Part → Option Passed → Type 0
 IsPassed t ps None = ps ≡ []
-IsPassed t ps (Some p) = StartsAt ps p.first × (p.commands ≡ commands_in ps) × (p.data_lines ≡ data_in t ps)
+IsPassed t ps (Some p) = StartsAt ps p.first × (p.commands ≡ commands_in ps) × (p.data_lines ≡ data_in t ps) × (p.bodies ≡ bodies_in ps)
 
 -- Of a text that is UTF-8, what psql keeps to itself is blank, and what is kept of it is so.
 pub record IsBlank (t s : Text) (passed : Option Passed) : Type 0 where
@@ -41,7 +41,7 @@ IsReadAs is_strict t read = IsReadBy is_strict t read.bytes.items read.passed
 
 pub record IsBlankedBy (b : Blanked) (read : Read) : Type 0 where
   pub bytes : read.bytes.items ≡ string_bytes b.text
-  pub passed : read.passed ≡ Some (record { first = b.first; commands = b.commands; data_lines = b.data_lines })
+  pub passed : read.passed ≡ Some (record { first = b.first; commands = b.commands; data_lines = b.data_lines; bodies = b.bodies })
 
 abbrev pub IsTextIn : Text → Option Blanked → Type 0
 IsTextIn t found = (IsUtf8 t × ((ps : List Part) × Passes t ps × IsAnswer t ps found)) ⊎ ((¬ (IsUtf8 t)) × (found ≡ None))

@@ -1,98 +1,71 @@
 //! What comes of the bytes of a file.
 ghost use Rattle.std.specs.Prelude.{◌≡◌, ◌<◌, ◌^◌, IfOk, length};
 ghost use Rattle.check_run.specs.checked_file.Files.{readable_of};
-ghost use Rattle.check_run.specs.checked_file.Sound.{IsIn, IsSoundAnswer};
-ghost use Rattle.law_reports.specs.sql_read.Cause.{IsCause, IsTreeOf};
+ghost use Rattle.check_run.specs.checked_file.Sound.{IsSoundAnswer};
 ghost use Rattle.law_reports.specs.text_reports.declared.find.TextLinter.{TextLinter};
-ghost use Rattle.file_answer.specs.Answers.{IsAnswerOf, IsLintedAs};
+ghost use Rattle.file_answer.specs.Answers.{IsAnswerOf, IsLintedAs, as_read};
+ghost use Rattle.file_answer.specs.Found.{IsFound, IsFoundIn};
 
-use crate::backslash::first_backslash;
-use crate::read::read_bytes;
-use check_run::{Answer, Linted, Refusal};
-use law_reports::{LintError, NoMemory, Parse, TextLinter, TextSize, find_reports, parse};
+use crate::read::{Read, read_bytes};
+use crate::text::{Found, lint_text};
+use check_run::{Answer, Linted, Partial, Refusal};
+use law_reports::{NoMemory, TextLinter, TextSize};
 use simdutf8::compat::from_utf8;
 use std::alloc::Global;
 
-// What comes of a text that is refused.
-#[tactic(auto, using(crate::proofs::Placing::open_in, crate::proofs::Placing::syntax_in))]
-fn refused(text: &str, error: LintError) -> Result<Answer, NoMemory>
-    requires short { length text.now < 2 ^ 32 }
-    requires cause { IsCause text.now error }
-    ensures answer { IfOk result (λ answer. (l : TextLinter) → IsAnswerOf l text.now answer) }
-    ensures placed { IfOk result (IsIn text.now) }
-{
-    match error {
-        LintError::TooLong => unreachable!(),
-        LintError::Unterminated { at } => Ok(Answer::Refused(Refusal::Unterminated {
-            at: TextSize::new(at),
-        })),
-        LintError::Syntax { at } => Ok(Answer::Refused(Refusal::Syntax {
-            at: TextSize::new(at),
-        })),
-        LintError::NoMemory => Err(NoMemory),
-    }
-}
-
-// Lints the tree of a text.
-#[tactic(auto, using(crate::proofs::Placing::reports_in))]
-fn lint_tree(
-    alloc: Global,
-    linter: &mut TextLinter,
-    text: &str,
-    file: &Parse<'_>,
-) -> Result<Answer, NoMemory>
-    requires { IsTreeOf text.now file.now }
-    ensures answer { IfOk result (IsAnswerOf linter.old text.now) }
-    ensures placed { IfOk result (IsIn text.now) }
-    ensures same { linter.new ≡ linter.old }
-{
-    match first_backslash(file) {
-        Some(at) => Ok(Answer::Refused(Refusal::Syntax { at })),
-        None => {
-            let reports = find_reports(alloc, linter, file)?;
-            Ok(Answer::Reports(reports))
-        }
-    }
-}
-
-// Lints a text.
-fn lint_str(alloc: Global, linter: &mut TextLinter, text: &str) -> Result<Answer, NoMemory>
-    requires { length text.now < 2 ^ 32 }
-    ensures answer { IfOk result (IsAnswerOf linter.old text.now) }
-    ensures placed { IfOk result (IsIn text.now) }
-    ensures same { linter.new ≡ linter.old }
-{
-    match parse(alloc, text) {
-        Ok(file) => {
-            let answer = lint_tree(alloc, linter, text, &file)?;
-            Ok(answer)
-        }
-        Err(error) => {
-            let answer = refused(text, error)?;
-            Ok(answer)
-        }
-    }
-}
-
 // Lints bytes as they were read.
-#[tactic(auto, using(crate::proofs::Placing::end_in, crate::proofs::Placing::all_in))]
-fn lint_read(alloc: Global, linter: &mut TextLinter, bytes: &[u8]) -> Result<Answer, NoMemory>
+#[tactic(auto, using(crate::proofs::Placing::end_in, crate::proofs::Placing::found_in))]
+fn lint_read(alloc: Global, linter: &mut TextLinter, bytes: &[u8]) -> Result<Found, NoMemory>
     requires { length bytes.now < 2 ^ 32 }
-    ensures answer { IfOk result (IsAnswerOf linter.old bytes.now) }
-    ensures placed { IfOk result (IsIn (readable_of bytes.now)) }
+    ensures found { IfOk result (IsFound linter.old bytes.now) }
+    ensures placed { IfOk result (IsFoundIn (readable_of bytes.now)) }
     ensures same { linter.new ≡ linter.old }
 {
     match from_utf8(bytes) {
-        Ok(text) => lint_str(alloc, linter, text),
+        Ok(text) => lint_text(alloc, linter, text),
         Err(error) => {
             let at = TextSize::new(error.valid_up_to() as u32);
-            Ok(Answer::Refused(Refusal::NotUtf8 { at }))
+            Ok(Found::Refused(Refusal::NotUtf8 { at }))
         }
+    }
+}
+
+// The answer for bytes as they were read, of which this was found.
+#[tactic(auto, using(crate::proofs::Placing::front_short))]
+fn answered(read: Read, found: Found) -> Linted
+    requires short { length read.bytes.items < 2 ^ 32 }
+    requires placed { IsFoundIn (readable_of read.bytes.items) found }
+    ensures read { as_read result.bytes.items result.answer ≡ read.bytes.items }
+    ensures passed { result.passed ≡ read.passed }
+    ensures answer { (l : TextLinter) → IsFound l read.bytes.items found → IsAnswerOf l result.bytes.items result.answer }
+    ensures sound { IsSoundAnswer result }
+{
+    match found {
+        Found::Reports(reports) => Linted {
+            bytes: read.bytes,
+            passed: read.passed,
+            answer: Answer::Reports(reports),
+        },
+        Found::Refused(refusal) => Linted {
+            bytes: read.bytes,
+            passed: read.passed,
+            answer: Answer::Refused(refusal),
+        },
+        Found::Rest(rest) => Linted {
+            bytes: rest.text.into_bytes(),
+            passed: read.passed,
+            answer: Answer::Partial(Partial {
+                bytes: read.bytes,
+                faults: rest.faults,
+                reports: rest.reports,
+            }),
+        },
     }
 }
 
 /// Lints the bytes of a file, and leaves the linter as it was. What is for psql and no SQL is read as blanks, unless it is to be read as SQL
-/// too. The findings are in the front of the bytes as they were read that is UTF-8. The error comes when memory runs out.
+/// too. Where some statements can't be parsed, they are blank in the bytes that are linted, in which the reports are; their faults are in the
+/// bytes as they were read. All findings are in the front of these bytes that is UTF-8. The error comes when memory runs out.
 pub fn lint_bytes(
     alloc: Global,
     linter: &mut TextLinter,
@@ -105,10 +78,6 @@ pub fn lint_bytes(
     ensures same { linter.new ≡ linter.old }
 {
     let read = read_bytes(alloc, is_strict, bytes)?;
-    let answer = lint_read(alloc, linter, read.bytes.as_slice())?;
-    Ok(Linted {
-        bytes: read.bytes,
-        passed: read.passed,
-        answer,
-    })
+    let found = lint_read(alloc, linter, read.bytes.as_slice())?;
+    Ok(answered(read, found))
 }

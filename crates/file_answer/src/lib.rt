@@ -1,12 +1,12 @@
-//! The linter, for the bytes of a file.
+//! Lints the bytes of a file.
 //!
-//! `specs/Answers.antt` says what comes of bytes: what is read of them, and what is reported of that.
+//! `specs/Answers.antt` says what is read from bytes, and what is reported of it.
 #![tactic(auto)]
 
 mod answer;
-mod backslash;
 mod linter;
 mod read;
+mod text;
 
 pub use answer::lint_bytes;
 pub use linter::FileLinter;

@@ -38,11 +38,12 @@ fn blanked(text: Blanked) -> Read
             first,
             commands: text.commands,
             data_lines: text.data_lines,
+            bodies: text.bodies,
         }),
     }
 }
 
-// The text in which what is for psql is blank; nothing where nothing is for psql, or the bytes are not UTF-8.
+// The text in which what is passed over is blank; nothing where nothing is, or the bytes are not UTF-8.
 #[tactic(auto, using(crate::proofs::Reading::text_found))]
 fn text_in(alloc: Global, bytes: &[u8]) -> Result<Option<Blanked>, NoMemory>
     ensures found { IfOk result (spec.IsTextIn bytes.now) }
@@ -57,8 +58,8 @@ fn text_in(alloc: Global, bytes: &[u8]) -> Result<Option<Blanked>, NoMemory>
     }
 }
 
-/// The bytes as they are read: with blanks in the place of what is for psql and no SQL, unless all is to be read as SQL. Bytes that are not
-/// UTF-8 stay as they are. The error comes when memory runs out.
+/// The bytes as they are read: with blanks in the place of what is for psql and no SQL and of the bodies of functions, unless all is read as
+/// SQL. Bytes that are not UTF-8 stay as they are. The error comes when memory runs out.
 #[tactic(auto, using(crate::proofs::Reading::read_none, crate::proofs::Reading::read_some, crate::proofs::Reading::read_short))]
 pub(crate) fn read_bytes(alloc: Global, is_strict: bool, bytes: Vec<u8>) -> Result<Read, NoMemory>
     requires { length bytes.items < 2 ^ 32 }

@@ -1,9 +1,7 @@
-//! What the words of `fix` ask for is done, by whatever fixes texts, over any files and streams: from the words after the program's name to
-//! what is printed or written and the exit status.
+//! `fix` with any fixer, over any files and streams: from the arguments to the exit status.
 //!
-//! `specs/Settled.antt` says what the words and the configuration choose, `Command` what a run does, and `Noted` what is said on the error
-//! sink. What fixes texts is a type that is
-//! [`Chosen`], so that nothing here depends on the linter's rules.
+//! `specs/Settled.antt` says what the arguments and the configuration choose, `Command` what a run does, and `Noted` what is said on the
+//! error sink. The fixer is a type that is [`Chosen`], so that nothing here depends on the linter's rules.
 #![tactic(auto)]
 
 mod chosen;

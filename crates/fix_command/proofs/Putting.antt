@@ -10,7 +10,7 @@ use Rattle.psql_edit.proofs.of_psql_text.Blanks.{all_stays}
 use Rattle.psql_edit.specs.psql_text.Psql.{Passes, blank_all}
 use Rattle.psql_edit.specs.psql_text.Told.{StartsAt}
 use Rattle.psql_edit.specs.psql_text.declared.part.Part.{Part}
-use Rattle.fix_command.specs.Beside.{IsAnswerBeside, IsInTheWay, IsPutBack}
+use Rattle.fix_command.specs.ForPsql.{IsAnswerForPsql, IsInTheWay, IsPutBack}
 use Rattle.fix_command.specs.Fixes.{IsAnswerFor, IsAnswerOf}
 use Rattle.fix_command.specs.Places.{IsPlaceFor}
 
@@ -36,15 +36,15 @@ pub answer_plain : (wide : Bool) (linter : Linter) (text : Text) (ps : List Part
 answer_plain wide linter text ps outcome passes none h = record { parts = []; passes = subst (Passes text) none passes; answer = h }
 
 -- something is
-pub answer_beside : (wide : Bool) (linter : Linter) (text : Text) (ps : List Part) (first : ℕ) (outcome : TextOutcome) → Passes text ps → StartsAt ps first → IsAnswerBeside wide linter text ps outcome
+pub answer_for_psql : (wide : Bool) (linter : Linter) (text : Text) (ps : List Part) (first : ℕ) (outcome : TextOutcome) → Passes text ps → StartsAt ps first → IsAnswerForPsql wide linter text ps outcome
     → IsAnswerFor wide linter text outcome
-answer_beside wide linter text [] first outcome passes starts h = absurd starts
-answer_beside wide linter text (p ∷ ps) first outcome passes starts h = record { parts = p ∷ ps; passes = passes; answer = h }
+answer_for_psql wide linter text [] first outcome passes starts h = absurd starts
+answer_for_psql wide linter text (p ∷ ps) first outcome passes starts h = record { parts = p ∷ ps; passes = passes; answer = h }
 
 -- its SQL is fixed and put back
-pub fixed_beside : (wide : Bool) (linter : Linter) (text : Text) (ps : List Part) (sql made : Text) (others : List OtherFix) (fixed : FixedValue) (outcome : TextOutcome) → sql ≡ blank_all ps text
-    → IsFixedText sql wide linter.rules linter.settings fixed → made ≡ fixed.text → others ≡ fixed.others → IsPutBack text ps made others outcome → IsAnswerBeside wide linter text ps outcome
-fixed_beside wide linter text ps sql made others fixed outcome same by_steps is_text are_others put =
+pub fixed_for_psql : (wide : Bool) (linter : Linter) (text : Text) (ps : List Part) (sql made : Text) (others : List OtherFix) (fixed : FixedValue) (outcome : TextOutcome) → sql ≡ blank_all ps text
+    → IsFixedText sql wide linter.rules linter.settings fixed → made ≡ fixed.text → others ≡ fixed.others → IsPutBack text ps made others outcome → IsAnswerForPsql wide linter text ps outcome
+fixed_for_psql wide linter text ps sql made others fixed outcome same by_steps is_text are_others put =
     let with_text = subst (λ (t : Text). IsPutBack text ps t others outcome) is_text put in
     inl (record {
       fixed = fixed;

@@ -12,7 +12,7 @@ use Rattle.fix_text.specs.squawk_linter.declared.linter.Linter.{Linter}
 use Rattle.fix_asked.specs.squawk_words.declared.choices.Choices.{Choices}
 use Rattle.psql_edit.specs.psql_text.Psql.{Passes}
 use Rattle.psql_edit.specs.psql_text.declared.part.Part.{Part}
-use Rattle.fix_command.specs.Beside.{IsAnswerBeside}
+use Rattle.fix_command.specs.ForPsql.{IsAnswerForPsql}
 
 -- The new text is reached from the old one by steps, each of which makes one fix that the classes allow, until no such fix is left: the safe
 -- fixes, and the unsafe ones too where `wide` says so. The others are the fixes of the old text that change the same bytes as one that comes first.
@@ -35,7 +35,7 @@ IsAnswerOf wide linter text (Refused (refusal.Syntax at)) = IsSyntaxAt text at
 -- this comes of a text, of which these parts are no SQL to psql
 abbrev pub IsAnswerBy : Bool → Linter → Text → List Part → TextOutcome → Type 0
 IsAnswerBy wide linter text [] outcome = IsAnswerOf wide linter text outcome
-IsAnswerBy wide linter text (p ∷ ps) outcome = IsAnswerBeside wide linter text (p ∷ ps) outcome
+IsAnswerBy wide linter text (p ∷ ps) outcome = IsAnswerForPsql wide linter text (p ∷ ps) outcome
 
 -- This comes of a text, by what of it is no SQL to psql.
 pub record IsAnswerFor (wide : Bool) (linter : Linter) (text : Text) (outcome : TextOutcome) : Type 0 where

@@ -1,3 +1,3 @@
 pub mod Places
-pub mod Beside
+pub mod ForPsql
 pub mod Fixes

@@ -1,11 +1,11 @@
-//! The linter as what fixes texts.
+//! The fixer of the program: the linter's fixes, by their classes.
 ghost use Rattle.std.specs.Prelude.{◌≡◌, ◌<◌, ◌^◌, Bool, IfOk, length};
 ghost use Rattle.fix_command.specs.Fixes.{IsAnswerFor, IsAnswerOf};
 ghost use Rattle.fix_asked.specs.fix_run.Outcomes.{IsPlacedIn};
 ghost use Rattle.fix_text.specs.squawk_linter.declared.linter.Linter.{Linter as AnyLinter};
 ghost use Rattle.fix_text.specs.sql_read.Cause.{IsCause};
 
-use crate::beside::outcome_beside;
+use crate::for_psql::outcome_for_psql;
 use fix_asked::{Choices, Chosen, Fixer, NoMemory, Refusal, TextOutcome, TextSize};
 use fix_text::{LintError, Linter, LinterSettings, Names, Text, fix_text};
 use psql_edit::without_psql;
@@ -54,7 +54,7 @@ fn copied(alloc: Global, linter: &Linter) -> Result<Linter, NoMemory>
     })
 }
 
-// What comes of a text of SQL that is refused.
+// The refusal of a text of SQL.
 #[tactic(auto, using(crate::proofs::Placing::open_in, crate::proofs::Placing::syntax_in))]
 fn refused(text: &str, error: LintError) -> Result<TextOutcome, NoMemory>
     requires short { length text.now < 2 ^ 32 }
@@ -74,7 +74,7 @@ fn refused(text: &str, error: LintError) -> Result<TextOutcome, NoMemory>
     }
 }
 
-// What comes of a text of SQL. The linter is not to be used again.
+// The result for a text of SQL. The linter must not be used again.
 fn outcome_of(
     alloc: Global,
     linter: &mut Linter,
@@ -111,7 +111,7 @@ fn answer(
     let found = without_psql(alloc, text)?;
     match found {
         None => outcome_of(alloc, linter, wide, text),
-        Some(read) => outcome_beside(alloc, linter, wide, text, read.first, read.text.as_str()),
+        Some(read) => outcome_for_psql(alloc, linter, wide, text, read.first, read.text.as_str()),
     }
 }
 

@@ -1,11 +1,11 @@
-//! The command `fix`: `fix_asked` with the linter as what fixes texts.
+//! The command `fix`, with the fixes of the linter.
 //!
-//! `specs/Fixes.antt` says what is made of a text, and `Beside` what is made of one that was made for psql.
+//! `specs/Fixes.antt` says what is made of a text, and `ForPsql` what is made of one for psql.
 #![tactic(auto)]
 
-mod beside;
 mod command;
 mod fixer;
+mod for_psql;
 mod places;
 
 pub use command::run;

@@ -1,6 +1,6 @@
-//! `fix` over files, or over an input: what is made of each, and what is printed or written of it.
+//! `fix` over files, or over an input: the fixed text of each, printed or written.
 //!
-//! What fixes a text is a [`Fixer`], so that nothing here depends on the linter. `specs/Outcomes.antt` says what comes of a file, `Giving`
+//! A [`Fixer`] fixes a text, so that nothing here depends on the linter. `specs/Outcomes.antt` has the results for a file, `Giving`
 //! what is printed or written, and `Runs` what a run does.
 #![tactic(auto)]
 

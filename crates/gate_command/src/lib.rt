@@ -1,7 +1,7 @@
-//! The command `gate`: from the words after the program's name, over any files, to what is written and the exit status.
+//! The command `gate`, over any files: from its arguments to its output and exit status.
 //!
-//! `specs/Asked.antt` says what the words ask for and which are refused, `specs/Outcomes.antt` what comes of files, and `specs/Command.antt` what a
-//! run does.
+//! `specs/Asked.antt` says what the arguments ask for and which are refused, `specs/Outcomes.antt` has the answers for files, and
+//! `specs/Command.antt` says what a run does.
 #![tactic(auto)]
 
 mod answer;

@@ -1,6 +1,6 @@
-//! The files of a gate: which ones words stand for, in which order they run, and their texts.
+//! The files of a gate: which ones the arguments name, in which order they run, and their texts.
 //!
-//! `specs/Named.antt` says which files the words stand for, and `specs/Read.antt` what was read of them.
+//! `specs/Named.antt` says which files the arguments name, and `specs/Read.antt` what was read of them.
 #![tactic(auto)]
 
 mod named;

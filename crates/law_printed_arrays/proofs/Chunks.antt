@@ -4,10 +4,10 @@ use Rattle.std.proofs.lemmas.List.{map-append}
 use Rattle.law_printed_lines.specs.check_print.declared.style.Style.{Style}
 use Rattle.law_printed_lines.specs.check_print.Found.{Found, all_found, found_by, found_in, found_refusal, found_report}
 use Rattle.law_printed_lines.specs.check_print.Findings.{array_separator, printed_refusal, printed_report, separator}
-use Rattle.law_printed_lines.specs.check_print.Printed.{printed_answer, printed_file, printed_files, printed_reports, separated, source_of}
+use Rattle.law_printed_lines.specs.check_print.Printed.{follows_refusals, printed_answer, printed_file, printed_files, printed_refusals, printed_reports, read_as, separated, source_of}
 use Rattle.law_printed_lines.specs.check_words.declared.request.Format.TheVariants as format
 use Rattle.law_printed_lines.specs.checked_file.declared.answer.Answer.{Answer}
-use Rattle.law_printed_lines.specs.checked_file.declared.answer.Answer.TheVariants.{Reports, Refused}
+use Rattle.law_printed_lines.specs.checked_file.declared.answer.Answer.TheVariants.{Reports, Partial, Refused}
 use Rattle.law_printed_lines.specs.checked_file.declared.checked.Checked.{Checked}
 use Rattle.law_printed_lines.specs.checked_file.Answers.{has_findings}
 use Rattle.law_printed_lines.specs.lint_report.declared.report.Report.{Report}
@@ -38,6 +38,11 @@ chunks_append b (ms ∷ mss) more =
     let head = array_separator b ++ compact_text (object ms) in
     ap (λ l. head ++ l) (chunks_append true mss more ∙ ap (λ c. chunks true mss ++ chunks c more) (after_true mss)) ∙ sym (append_assoc head (chunks true mss) (chunks true more))
 
+after_append : (b : Bool) (mss more : List Members) → after b (mss ++ more) ≡ after (after b mss) more
+after_append b [] more = refl
+after_append b (ms ∷ mss) [] = refl
+after_append b (ms ∷ mss) (other ∷ more) = refl
+
 -- a style in which each finding is an object on a line of its own
 abbrev pub Prints : Style → (Found → Members) → Type 0
 Prints style members =
@@ -63,10 +68,12 @@ reports_chunks style members prints b file (v ∷ vs) =
     ap (λ l. l ++ printed_reports style true file vs) (prints.0 b file v)
     ∙ ap (λ l. (array_separator b ++ compact_text (object (members (found_report file v)))) ++ l) (reports_chunks style members prints true file vs)
 
-answer_chunks : (style : Style) (members : Found → Members) → Prints style members → (b : Bool) (file : FileValue) (answer : Answer)
-    → printed_answer style b file answer ≡ chunks b (map members (found_by file answer))
-answer_chunks style members prints b file (Reports reports) = reports_chunks style members prints b file reports.items
-answer_chunks style members prints b file (Refused r) = prints.1 b file r ∙ sym (append-nil _)
+refusals_chunks : (style : Style) (members : Found → Members) → Prints style members → (b : Bool) (file : FileValue) (rs : List Refusal)
+    → printed_refusals style b file rs ≡ chunks b (map members (map (found_refusal file) rs))
+refusals_chunks style members prints b file [] = refl
+refusals_chunks style members prints b file (r ∷ rs) =
+    ap (λ l. l ++ printed_refusals style true file rs) (prints.1 b file r)
+    ∙ ap (λ l. (array_separator b ++ compact_text (object (members (found_refusal file r)))) ++ l) (refusals_chunks style members prints true file rs)
 
 or_false : (b : Bool) → (b || false) ≡ b
 or_false true = refl
@@ -76,6 +83,10 @@ or_true : (b : Bool) → (b || true) ≡ true
 or_true true = refl
 or_true false = refl
 
+or_assoc : (a b c : Bool) → (a || (b || c)) ≡ ((a || b) || c)
+or_assoc true b c = refl
+or_assoc false b c = refl
+
 -- where there are findings, something is before what comes after them
 reports_after : (members : Found → Members) (b : Bool) (file : FileValue) (vs : List Report) → (b || not (length vs == 0)) ≡ after b (map members (map (found_report file) vs))
 reports_after members b file [] = or_false b
@@ -83,8 +94,37 @@ reports_after members b file (v ∷ vs) =
     let more : (length (v ∷ vs) == 0) ≡ false = grind arith in
     ap (λ c. b || not c) more ∙ or_true b
 
+refusals_after : (members : Found → Members) (b : Bool) (file : FileValue) (rs : List Refusal) → follows_refusals b rs ≡ after b (map members (map (found_refusal file) rs))
+refusals_after members b file [] = or_false b
+refusals_after members b file (r ∷ rs) =
+    let more : (length (r ∷ rs) == 0) ≡ false = grind arith in
+    ap (λ c. b || not c) more ∙ or_true b
+
+answer_chunks : (style : Style) (members : Found → Members) → Prints style members → (b : Bool) (file : FileValue) (answer : Answer)
+    → printed_answer style b file answer ≡ chunks b (map members (found_by file answer))
+answer_chunks style members prints b file (Reports reports) = reports_chunks style members prints b file reports.items
+answer_chunks style members prints b file (Partial p) =
+    let read = read_as file p in
+    let behind = follows_refusals b p.faults.items in
+    let faults = map members (map (found_refusal read) p.faults.items) in
+    let reports = map members (map (found_report file) p.reports.items) in
+    ap (λ l. l ++ printed_reports style behind file p.reports.items) (refusals_chunks style members prints b read p.faults.items)
+    ∙ ap (λ l. chunks b faults ++ l) (reports_chunks style members prints behind file p.reports.items ∙ ap (λ c. chunks c reports) (refusals_after members b read p.faults.items))
+    ∙ sym (chunks_append b faults reports)
+    ∙ ap (chunks b) (sym (map-append members (map (found_refusal read) p.faults.items) (map (found_report file) p.reports.items)))
+answer_chunks style members prints b file (Refused r) = prints.1 b file r ∙ sym (append-nil _)
+
 answer_after : (members : Found → Members) (b : Bool) (file : FileValue) (answer : Answer) → (b || has_findings answer) ≡ after b (map members (found_by file answer))
 answer_after members b file (Reports reports) = reports_after members b file reports.items
+answer_after members b file (Partial p) =
+    let read = read_as file p in
+    let faults = map members (map (found_refusal read) p.faults.items) in
+    let reports = map members (map (found_report file) p.reports.items) in
+    or_assoc b (not (length p.faults.items == 0)) (not (length p.reports.items == 0))
+    ∙ reports_after members (follows_refusals b p.faults.items) file p.reports.items
+    ∙ ap (λ c. after c reports) (refusals_after members b read p.faults.items)
+    ∙ sym (after_append b faults reports)
+    ∙ ap (after b) (sym (map-append members (map (found_refusal read) p.faults.items) (map (found_report file) p.reports.items)))
 answer_after members b file (Refused r) = or_true b
 
 -- what is printed of files

@@ -1,12 +1,12 @@
 -- The findings of sound files are in their texts.
-use Rattle.std.proofs.Common.{◌<◌, ◌^◌, List, [], ◌∷◌, All, arith, length}
+use Rattle.std.proofs.Common.{◌<◌, ◌^◌, List, [], ◌∷◌, All, arith, length, map}
 use Rattle.std.proofs.lemmas.List.Elements.{All-append, All-cons, All-head, All-map, All-nil, All-tail, All-weaker}
 use Rattle.std.specs.Option.{IfSome}
 use Rattle.std.specs.Str.{IsCharBoundary}
 use Rattle.law_printed_lines.specs.check_print.Found.{Found, all_found, found_by, found_in, found_refusal, found_report}
-use Rattle.law_printed_lines.specs.check_print.Printed.{source_of}
+use Rattle.law_printed_lines.specs.check_print.Printed.{read_as, source_of}
 use Rattle.law_printed_lines.specs.checked_file.declared.answer.Answer.{Answer}
-use Rattle.law_printed_lines.specs.checked_file.declared.answer.Answer.TheVariants.{Reports, Refused}
+use Rattle.law_printed_lines.specs.checked_file.declared.answer.Answer.TheVariants.{Reports, Partial, Refused}
 use Rattle.law_printed_lines.specs.checked_file.declared.checked.Checked.{Checked}
 use Rattle.law_printed_lines.specs.checked_file.Sound.{AreEditsIn, IsIn, IsReportIn, IsSound}
 use Rattle.law_printed_lines.specs.lint_report.declared.report.Report.{Report}
@@ -36,10 +36,22 @@ placed_refusal file r named short h =
       statement = tt;
     }
 
+placed_reports : (file : FileValue) (vs : List Report) → All (λ b. b < 256) file.name → length file.text < 2 ^ 32 → All (IsReportIn file.text) vs → All IsPlaced (map (found_report file) vs)
+placed_reports file vs named short h =
+    All-map IsPlaced (found_report file) vs
+    (All-weaker (IsReportIn file.text) (λ v. IsPlaced (found_report file v)) (λ v. placed_report file v named short) vs h)
+
+placed_refusals : (file : FileValue) (rs : List Refusal) → All (λ b. b < 256) file.name → length file.text < 2 ^ 32 → All (λ r. IsCharBoundary file.text (place_of r)) rs
+    → All IsPlaced (map (found_refusal file) rs)
+placed_refusals file rs named short h =
+    All-map IsPlaced (found_refusal file) rs
+    (All-weaker (λ r. IsCharBoundary file.text (place_of r)) (λ r. IsPlaced (found_refusal file r)) (λ r. placed_refusal file r named short) rs h)
+
 placed_by : (file : FileValue) (answer : Answer) → All (λ b. b < 256) file.name → length file.text < 2 ^ 32 → IsIn file.text answer → All IsPlaced (found_by file answer)
-placed_by file (Reports reports) named short h =
-    All-map IsPlaced (found_report file) reports.items
-    (All-weaker (IsReportIn file.text) (λ v. IsPlaced (found_report file v)) (λ v. placed_report file v named short) reports.items h)
+placed_by file (Reports reports) named short h = placed_reports file reports.items named short h
+placed_by file (Partial p) named short h =
+    All-append IsPlaced (map (found_refusal (read_as file p)) p.faults.items) (map (found_report file) p.reports.items)
+    (placed_refusals (read_as file p) p.faults.items named h.short h.faults) (placed_reports file p.reports.items named short h.reports)
 placed_by file (Refused r) named short h = All-cons IsPlaced (found_refusal file r) [] (placed_refusal file r named short h) (All-nil IsPlaced)
 
 placed_in : (file : Checked) → IsSound file → All IsPlaced (found_in file)

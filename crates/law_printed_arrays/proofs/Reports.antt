@@ -3,10 +3,10 @@ use Rattle.std.proofs.Common.{◌≡◌, ◌∙◌, Result, Ok, Err, ℕ, List, 
 use Rattle.std.proofs.lemmas.List.{map-append}
 use Rattle.std.specs.Prelude.{codes, unwrap_or}
 use Rattle.std.specs.Str.{bytes_eq}
-use Rattle.law_printed_lines.specs.check_print.Found.{all_found, found_by, found_in, found_report}
-use Rattle.law_printed_lines.specs.check_print.Printed.{source_of}
+use Rattle.law_printed_lines.specs.check_print.Found.{all_found, found_by, found_in, found_refusal, found_report}
+use Rattle.law_printed_lines.specs.check_print.Printed.{read_as, source_of}
 use Rattle.law_printed_lines.specs.checked_file.declared.answer.Answer.{Answer}
-use Rattle.law_printed_lines.specs.checked_file.declared.answer.Answer.TheVariants.{Reports, Refused}
+use Rattle.law_printed_lines.specs.checked_file.declared.answer.Answer.TheVariants.{Reports, Partial, Refused}
 use Rattle.law_printed_lines.specs.checked_file.declared.checked.Checked.{Checked}
 use Rattle.law_printed_lines.proofs.of_hazard_base.HazardNames as hazard_names
 use Rattle.law_printed_lines.specs.hazard_base.declared.hazard.Hazard.{Hazard}
@@ -96,8 +96,22 @@ reports_back file [] = refl
 reports_back file (r ∷ rs) =
     ap (λ x. x ∷ map reported_of (map kept_finding (map (found_report file) rs))) (report_back file r) ∙ ap (λ xs. (file.name, Ok r) ∷ xs) (reports_back file rs)
 
+refusals_back : (file : FileValue) (rs : List Refusal) → map reported_of (map kept_finding (map (found_refusal file) rs)) ≡ map (λ r. (file.name, r)) (map (λ r. Err r) rs)
+refusals_back file [] = refl
+refusals_back file (r ∷ rs) =
+    ap (λ x. (file.name, Err x) ∷ map reported_of (map kept_finding (map (found_refusal file) rs))) (refusal_back r) ∙ ap (λ xs. (file.name, Err r) ∷ xs) (refusals_back file rs)
+
 answer_back : (file : FileValue) (answer : Answer) → map reported_of (map kept_finding (found_by file answer)) ≡ map (λ r. (file.name, r)) (reported_by answer)
 answer_back file (Reports reports) = reports_back file reports.items
+answer_back file (Partial p) =
+    let read = read_as file p in
+    let faults = map (found_refusal read) p.faults.items in
+    let reports = map (found_report file) p.reports.items in
+    ap (map reported_of) (map-append kept_finding faults reports)
+    ∙ map-append reported_of (map kept_finding faults) (map kept_finding reports)
+    ∙ ap (λ l. l ++ map reported_of (map kept_finding reports)) (refusals_back read p.faults.items)
+    ∙ ap (λ l. map (λ r. (file.name, r)) (map (λ r. Err r) p.faults.items) ++ l) (reports_back file p.reports.items)
+    ∙ sym (map-append (λ r. (file.name, r)) (map (λ r. Err r) p.faults.items) (map (λ r. Ok r) p.reports.items))
 answer_back file (Refused r) = ap (λ x. (file.name, Err x) ∷ []) (refusal_back r)
 
 -- ---- from those of files

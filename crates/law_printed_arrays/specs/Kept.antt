@@ -1,8 +1,8 @@
 -- What the formats for programs keep of a finding.
-use Rattle.std.specs.Prelude.{ℕ, List, [], ◌∷◌, Option, flat_map, map, Result, Ok, Err}
+use Rattle.std.specs.Prelude.{ℕ, List, [], ◌∷◌, ◌++◌, Option, flat_map, map, Result, Ok, Err}
 use Rattle.law_printed_lines.specs.check_print.Found.{Found}
 use Rattle.law_printed_lines.specs.checked_file.declared.answer.Answer.{Answer}
-use Rattle.law_printed_lines.specs.checked_file.declared.answer.Answer.TheVariants.{Reports, Refused}
+use Rattle.law_printed_lines.specs.checked_file.declared.answer.Answer.TheVariants.{Reports, Partial, Refused}
 use Rattle.law_printed_lines.specs.checked_file.declared.checked.Checked.{Checked}
 use Rattle.law_printed_lines.specs.lint_report.declared.report.Report.{Report}
 use Rattle.law_printed_lines.specs.lint_report.declared.report.ReportFix.{ReportFix}
@@ -15,9 +15,10 @@ use Rattle.law_printed_lines.specs.text_pos.Range.{Range}
 
 -- ---- reports
 
--- a report, or why a file could not be linted
+-- a report, or why a file could not be linted or a statement of it not be parsed
 abbrev pub reported_by : Answer → List (Result Report Refusal)
 reported_by (Reports reports) = map (λ r. Ok r) reports.items
+reported_by (Partial p) = map (λ r. Err r) p.faults.items ++ map (λ r. Ok r) p.reports.items
 reported_by (Refused r) = Err r ∷ []
 
 -- those of a file, each with the file's name

@@ -1,5 +1,5 @@
-//! Laws of what is printed for programs: no two different lists of reports are printed alike in JSON, and none in SARIF; and what GitLab reads
-//! leads back to each finding as far as its format keeps it.
+//! Laws of what is printed for programs: no two different lists of reports are printed alike in JSON, and none in SARIF; and GitLab's
+//! report leads back to each finding, as far as its format keeps it.
 #![tactic(auto)]
 
 ghost use Rattle.law_printed_lines.specs.check_words.declared.request.Format.TheVariants as format;

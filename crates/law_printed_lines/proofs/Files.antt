@@ -7,10 +7,10 @@ use Rattle.std.proofs.lemmas.List.Elements.{All-append, All-cons, All-head, All-
 use Rattle.check_print.specs.declared.style.Style.{Style}
 use Rattle.check_print.specs.Findings.{printed_refusal, printed_report, separator}
 use Rattle.check_print.specs.Found.{Found, all_found, found_by, found_in, found_refusal, found_report}
-use Rattle.check_print.specs.Printed.{printed_answer, printed_file, printed_files, printed_reports, separated, source_of}
+use Rattle.check_print.specs.Printed.{follows_refusals, printed_answer, printed_file, printed_files, printed_refusals, printed_reports, read_as, separated, source_of}
 use Rattle.check_print.specs.check_words.declared.request.Format.TheVariants as format
 use Rattle.check_print.specs.checked_file.declared.answer.Answer.{Answer}
-use Rattle.check_print.specs.checked_file.declared.answer.Answer.TheVariants.{Reports, Refused}
+use Rattle.check_print.specs.checked_file.declared.answer.Answer.TheVariants.{Reports, Partial, Refused}
 use Rattle.check_print.specs.checked_file.declared.checked.Checked.{Checked}
 use Rattle.check_print.specs.checked_file.Answers.{has_findings}
 use Rattle.check_print.specs.lint_report.declared.report.Report.{Report}
@@ -20,7 +20,7 @@ use Rattle.check_print.specs.report_lines.declared.concise.Order.TheVariants.{Ru
 use Rattle.check_print.specs.report_lines.Github.{command, detail}
 use Rattle.check_print.specs.source_file.declared.refusal.Refusal.{Refusal}
 use Rattle.check_print.specs.source_file.File.{FileValue}
-use Rattle.law_printed_lines.specs.Unique.{IsShort, style_in}
+use Rattle.law_printed_lines.specs.Unique.{IsShort, IsShortAnswer, style_in}
 use Rattle.law_printed_lines.proofs.Commands.{command_line}
 use Rattle.law_printed_lines.proofs.Names.{code_name, is_name, refusal_name}
 
@@ -62,9 +62,22 @@ reports_lines style line prints b file (v ∷ vs) =
     ap (λ l. l ++ printed_reports style true file vs) (prints.0 b file v)
     ∙ ap (λ l. line (found_report file v) ++ l) (reports_lines style line prints true file vs)
 
+refusals_lines : (style : Style) (line : Found → List ℕ) → Prints style line → (b : Bool) (file : FileValue) (rs : List Refusal)
+    → printed_refusals style b file rs ≡ flat_map line (map (found_refusal file) rs)
+refusals_lines style line prints b file [] = refl
+refusals_lines style line prints b file (r ∷ rs) =
+    ap (λ l. l ++ printed_refusals style true file rs) (prints.1 b file r)
+    ∙ ap (λ l. line (found_refusal file r) ++ l) (refusals_lines style line prints true file rs)
+
 answer_lines : (style : Style) (line : Found → List ℕ) → Prints style line → (b : Bool) (file : FileValue) (answer : Answer)
     → printed_answer style b file answer ≡ flat_map line (found_by file answer)
 answer_lines style line prints b file (Reports reports) = reports_lines style line prints b file reports.items
+answer_lines style line prints b file (Partial p) =
+    let read = read_as file p in
+    let behind = follows_refusals b p.faults.items in
+    ap (λ l. l ++ printed_reports style behind file p.reports.items) (refusals_lines style line prints b read p.faults.items)
+    ∙ ap (λ l. flat_map line (map (found_refusal read) p.faults.items) ++ l) (reports_lines style line prints behind file p.reports.items)
+    ∙ sym (flat_map-append line (map (found_refusal read) p.faults.items) (map (found_report file) p.reports.items))
 answer_lines style line prints b file (Refused r) = prints.1 b file r ∙ sym (append-nil (line (found_refusal file r)))
 
 pub files_lines : (style : Style) (line : Found → List ℕ) → Prints style line → (b : Bool) (files : List Checked)
@@ -84,11 +97,20 @@ pub record IsGood (f : Found) : Type 0 where
   pub short : length f.file.text < 2 ^ 32
   pub named : is_name f.rule ≡ true
 
-good_by : (file : FileValue) (answer : Answer) → length file.text < 2 ^ 32 → All IsGood (found_by file answer)
-good_by file (Reports reports) short = All-map IsGood (found_report file) reports.items (λ k d low. record { short = short; named = code_name _ })
-good_by file (Refused r) short = All-cons IsGood (found_refusal file r) [] (record { short = short; named = refusal_name r }) (All-nil IsGood)
+reports_good : (file : FileValue) (vs : List Report) → length file.text < 2 ^ 32 → All IsGood (map (found_report file) vs)
+reports_good file vs short = All-map IsGood (found_report file) vs (λ k d low. record { short = short; named = code_name _ })
+
+refusals_good : (file : FileValue) (rs : List Refusal) → length file.text < 2 ^ 32 → All IsGood (map (found_refusal file) rs)
+refusals_good file rs short = All-map IsGood (found_refusal file) rs (λ k d low. record { short = short; named = refusal_name _ })
+
+good_by : (file : FileValue) (answer : Answer) → length file.text < 2 ^ 32 → IsShortAnswer answer → All IsGood (found_by file answer)
+good_by file (Reports reports) short read = reports_good file reports.items short
+good_by file (Partial p) short read =
+    All-append IsGood (map (found_refusal (read_as file p)) p.faults.items) (map (found_report file) p.reports.items) (refusals_good (read_as file p) p.faults.items read) (reports_good file p.reports.items short)
+good_by file (Refused r) short read = All-cons IsGood (found_refusal file r) [] (record { short = short; named = refusal_name r }) (All-nil IsGood)
 
 pub all_good : (files : List Checked) → All IsShort files → All IsGood (all_found files)
 all_good [] h = All-nil IsGood
 all_good (file ∷ files) h =
-    All-append IsGood (found_in file) (all_found files) (good_by (source_of file) file.answer (All-head IsShort file files h)) (all_good files (All-tail IsShort file files h))
+    let short = All-head IsShort file files h in
+    All-append IsGood (found_in file) (all_found files) (good_by (source_of file) file.answer short.linted short.read) (all_good files (All-tail IsShort file files h))

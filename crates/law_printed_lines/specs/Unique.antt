@@ -1,7 +1,9 @@
 -- What is printed on lines leads back to each finding.
-use Rattle.std.specs.Prelude.{◌≡◌, ◌<◌, ◌^◌, All, List, length, map}
+use Rattle.std.specs.Prelude.{◌≡◌, ◌<◌, ◌^◌, All, List, length, map, ⊤}
 use Rattle.check_print.specs.check_words.declared.request.Format.{Format}
 use Rattle.check_print.specs.check_words.declared.request.Format.TheVariants as format
+use Rattle.check_print.specs.checked_file.declared.answer.Answer.{Answer}
+use Rattle.check_print.specs.checked_file.declared.answer.Answer.TheVariants.{Reports, Partial, Refused}
 use Rattle.check_print.specs.checked_file.declared.checked.Checked.{Checked}
 use Rattle.check_print.specs.checked_file.Files.{readable_of}
 use Rattle.check_print.specs.declared.style.Style.{Style}
@@ -13,9 +15,16 @@ use Rattle.law_printed_lines.specs.Kept.{kept, kept_command}
 abbrev pub style_in : Format → Style → Style
 style_in format style = record { format = format; color = style.color; quiet = style.quiet; statistics = style.statistics }
 
+-- where some statements of a file could not be parsed, the text as it was read is short
+abbrev pub IsShortAnswer : Answer → Type 0
+IsShortAnswer (Reports reports) = ⊤
+IsShortAnswer (Partial p) = length (readable_of p.bytes.items) < 2 ^ 32
+IsShortAnswer (Refused r) = ⊤
+
 -- the text that can be read has less than 2^32 bytes, so that its lines and columns have few digits
-abbrev pub IsShort : Checked → Type 0
-IsShort file = length (readable_of file.bytes.items) < 2 ^ 32
+pub record IsShort (file : Checked) : Type 0 where
+  pub linted : length (readable_of file.bytes.items) < 2 ^ 32
+  pub read : IsShortAnswer file.answer
 
 -- Files of which the same is printed on lines that begin with the rule have the same findings, at the same places, with the same messages,
 -- in the same order.

@@ -2,7 +2,7 @@
 use Rattle.std.proofs.Common.{◌≡◌, ℕ, ◌==◌, true, List, [], ◌∷◌, ◌++◌, Option, Some, None, append_assoc, codes, decimal, flat_map, refl, subst}
 use Rattle.std.proofs.lemmas.Bool.{cond_both}
 use Rattle.law_printed_lines.specs.check_print.declared.style.Style.{Style}
-use Rattle.law_printed_lines.specs.check_print.Passed.{passed_by, passed_counts, passed_in, passed_line, passed_place}
+use Rattle.law_printed_lines.specs.check_print.Passed.{passed_bodies, passed_by, passed_counts, passed_in, passed_line, passed_place}
 use Rattle.law_printed_lines.specs.check_print.Printed.{last_line, passed_lines, statistics}
 use Rattle.law_printed_lines.specs.check_print.Statistics.{code_line, code_lines, count_of, hazard_line, rule_line}
 use Rattle.law_printed_lines.specs.checked_file.declared.checked.Checked.{Checked}
@@ -34,14 +34,19 @@ place_piece file p = front (front (front (solid (codes "note: ") refl refl) (esc
 regroup : (a b t n : List ℕ) → (a ++ (b ++ t)) ++ n ≡ a ++ (b ++ (t ++ n))
 regroup a b t n = simp append_assoc
 
+bodies_clean : (n : ℕ) → IsClean (passed_bodies n)
+unfolding passed_bodies
+bodies_clean n =
+    cond_both (n == 0) [] (codes ", function bodies: " ++ decimal n) IsClean (λ _. word [] refl) (λ _. both (word (codes ", function bodies: ") refl) (decimal_clean n))
+
 passed_row : (file : FileValue) (p : Passed) → IsRows (passed_line file p)
 unfolding passed_line passed_counts
 passed_row file p =
-    let before = codes ": commands of psql: " ++ decimal p.commands ++ codes ", lines of COPY data: " ++ decimal p.data_lines in
+    let before = codes ": commands of psql: " ++ decimal p.commands ++ codes ", lines of COPY data: " ++ decimal p.data_lines ++ passed_bodies p.bodies in
     let after = codes "; they are read as blanks" in
     subst IsRows (regroup (passed_place file p) before after (codes "\n"))
     (row (front (place_piece file p)
-    (both (both (both (both (word (codes ": commands of psql: ") refl) (decimal_clean p.commands)) (word (codes ", lines of COPY data: ") refl)) (decimal_clean p.data_lines))
+    (both (both (both (both (both (word (codes ": commands of psql: ") refl) (decimal_clean p.commands)) (word (codes ", lines of COPY data: ") refl)) (decimal_clean p.data_lines)) (bodies_clean p.bodies))
     (word (codes "; they are read as blanks") refl))))
 
 passed_option : (file : FileValue) (p : Option Passed) → IsRows (passed_by file p)

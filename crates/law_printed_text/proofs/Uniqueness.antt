@@ -4,17 +4,18 @@ use Rattle.std.proofs.lemmas.List.{map-append}
 use Rattle.std.proofs.lemmas.List.Elements.{All-append, All-cons, All-head, All-nil, All-tail}
 use Rattle.law_printed_lines.specs.check_print.declared.style.Style.{Style}
 use Rattle.law_printed_lines.specs.check_print.Findings.{printed_refusal, printed_report}
-use Rattle.law_printed_lines.specs.check_print.Found.{all_found, found_by, found_in, found_report}
-use Rattle.law_printed_lines.specs.check_print.Printed.{last_line, passed_lines, printed, printed_answer, printed_file, printed_files, printed_reports, source_of, statistics}
+use Rattle.law_printed_lines.specs.check_print.Found.{all_found, found_by, found_in, found_refusal, found_report}
+use Rattle.law_printed_lines.specs.check_print.Printed.{follows_refusals, last_line, passed_lines, printed, printed_answer, printed_file, printed_files, printed_refusals, printed_reports, read_as, source_of, statistics}
 use Rattle.law_printed_lines.specs.check_words.declared.request.Format.TheVariants as format
 use Rattle.law_printed_lines.specs.checked_file.declared.answer.Answer.{Answer}
-use Rattle.law_printed_lines.specs.checked_file.declared.answer.Answer.TheVariants.{Reports, Refused}
+use Rattle.law_printed_lines.specs.checked_file.declared.answer.Answer.TheVariants.{Reports, Partial, Refused}
 use Rattle.law_printed_lines.specs.checked_file.declared.checked.Checked.{Checked}
 use Rattle.law_printed_lines.specs.checked_file.Answers.{has_findings}
 use Rattle.law_printed_lines.specs.lint_report.declared.report.Report.{Report}
+use Rattle.law_printed_lines.specs.source_file.declared.refusal.Refusal.{Refusal}
 use Rattle.law_printed_lines.specs.source_file.File.{FileValue}
 use Rattle.law_printed_lines.specs.Kept.{Kept, kept}
-use Rattle.law_printed_lines.specs.Unique.{IsShort, style_in}
+use Rattle.law_printed_lines.specs.Unique.{IsShort, IsShortAnswer, style_in}
 use Rattle.law_printed_text.specs.Unique.{UniqueTexts}
 use Rattle.law_printed_text.proofs.Closings.{closing_rows}
 use Rattle.law_printed_text.proofs.Items.{IsShortItem, Item, found_of, text_of}
@@ -25,9 +26,13 @@ use Rattle.law_printed_text.proofs.Lists.{lists_back, texts}
 abbrev reported : FileValue → Report → Item
 reported file r = (file, inl r)
 
+abbrev refused : FileValue → Refusal → Item
+refused file r = (file, inr r)
+
 abbrev items_by : FileValue → Answer → List Item
 items_by file (Reports reports) = map (reported file) reports.items
-items_by file (Refused r) = (file, inr r) ∷ []
+items_by file (Partial p) = map (refused (read_as file p)) p.faults.items ++ map (reported file) p.reports.items
+items_by file (Refused r) = refused file r ∷ []
 
 abbrev items_in : Checked → List Item
 items_in file = items_by (source_of file) file.answer
@@ -44,8 +49,20 @@ reports_kept : (file : FileValue) (vs : List Report) → map kept (map (found_re
 reports_kept file [] = refl
 reports_kept file (v ∷ vs) = ap (λ l. kept (found_report file v) ∷ l) (reports_kept file vs)
 
+refusals_kept : (file : FileValue) (rs : List Refusal) → map kept (map (found_refusal file) rs) ≡ map kept_of (map (refused file) rs)
+refusals_kept file [] = refl
+refusals_kept file (r ∷ rs) = ap (λ l. kept (found_refusal file r) ∷ l) (refusals_kept file rs)
+
 answer_kept : (file : FileValue) (answer : Answer) → map kept (found_by file answer) ≡ map kept_of (items_by file answer)
 answer_kept file (Reports reports) = reports_kept file reports.items
+answer_kept file (Partial p) =
+    let read = read_as file p in
+    let faults = map (found_refusal read) p.faults.items in
+    let reports = map (found_report file) p.reports.items in
+    map-append kept faults reports
+    ∙ ap (λ l. l ++ map kept reports) (refusals_kept read p.faults.items)
+    ∙ ap (λ l. map kept_of (map (refused read) p.faults.items) ++ l) (reports_kept file p.reports.items)
+    ∙ sym (map-append kept_of (map (refused read) p.faults.items) (map (reported file) p.reports.items))
 answer_kept file (Refused r) = refl
 
 all_kept : (files : List Checked) → map kept (all_found files) ≡ map kept_of (all_items files)
@@ -60,14 +77,22 @@ reports_short : (file : FileValue) (vs : List Report) → length file.text < 2 ^
 reports_short file [] h = All-nil IsShortItem
 reports_short file (v ∷ vs) h = All-cons IsShortItem (reported file v) (map (reported file) vs) h (reports_short file vs h)
 
-answer_short : (file : FileValue) (answer : Answer) → length file.text < 2 ^ 32 → All IsShortItem (items_by file answer)
-answer_short file (Reports reports) h = reports_short file reports.items h
-answer_short file (Refused r) h = All-cons IsShortItem (file, inr r) [] h (All-nil IsShortItem)
+refusals_short : (file : FileValue) (rs : List Refusal) → length file.text < 2 ^ 32 → All IsShortItem (map (refused file) rs)
+refusals_short file [] h = All-nil IsShortItem
+refusals_short file (r ∷ rs) h = All-cons IsShortItem (refused file r) (map (refused file) rs) h (refusals_short file rs h)
+
+answer_short : (file : FileValue) (answer : Answer) → length file.text < 2 ^ 32 → IsShortAnswer answer → All IsShortItem (items_by file answer)
+answer_short file (Reports reports) h read = reports_short file reports.items h
+answer_short file (Partial p) h read =
+    All-append IsShortItem (map (refused (read_as file p)) p.faults.items) (map (reported file) p.reports.items) (refusals_short (read_as file p) p.faults.items read)
+    (reports_short file p.reports.items h)
+answer_short file (Refused r) h read = All-cons IsShortItem (file, inr r) [] h (All-nil IsShortItem)
 
 all_short : (files : List Checked) → All IsShort files → All IsShortItem (all_items files)
 all_short [] h = All-nil IsShortItem
 all_short (file ∷ files) h =
-    All-append IsShortItem (items_in file) (all_items files) (answer_short (source_of file) file.answer (All-head IsShort file files h)) (all_short files (All-tail IsShort file files h))
+    let short = All-head IsShort file files h in
+    All-append IsShortItem (items_in file) (all_items files) (answer_short (source_of file) file.answer short.linted short.read) (all_short files (All-tail IsShort file files h))
 
 -- ---- what is printed is printed of them
 
@@ -85,9 +110,20 @@ module _ (style : Style) where
   reports_texts b file [] = refl
   reports_texts b file (v ∷ vs) = ap (λ l. text_of style.color (file, inl v) ++ l) (reports_texts true file vs)
 
+  refusals_texts : (b : Bool) (file : FileValue) (rs : List Refusal) → printed_refusals text_style b file rs ≡ texts style.color (map (refused file) rs)
+  unfolding printed_refusal
+  refusals_texts b file [] = refl
+  refusals_texts b file (r ∷ rs) = ap (λ l. text_of style.color (refused file r) ++ l) (refusals_texts true file rs)
+
   answer_texts : (b : Bool) (file : FileValue) (answer : Answer) → printed_answer text_style b file answer ≡ texts style.color (items_by file answer)
   unfolding printed_refusal
   answer_texts b file (Reports reports) = reports_texts b file reports.items
+  answer_texts b file (Partial p) =
+      let read = read_as file p in
+      let behind = follows_refusals b p.faults.items in
+      ap (λ l. l ++ printed_reports text_style behind file p.reports.items) (refusals_texts b read p.faults.items)
+      ∙ ap (λ l. texts style.color (map (refused read) p.faults.items) ++ l) (reports_texts behind file p.reports.items)
+      ∙ sym (texts_append style.color (map (refused read) p.faults.items) (map (reported file) p.reports.items))
   answer_texts b file (Refused r) = sym (append-nil _)
 
   files_texts : (b : Bool) (files : List Checked) → printed_files text_style b files ≡ texts style.color (all_items files)

@@ -41,19 +41,19 @@ begins t text r next same found ahead = record {
   blank = same;
 }
 
-blank_more : (parts : List Part) (p : Part) (t : List ℕ) → blank_all (parts ++ p ∷ []) t ≡ blanked p.from p.to (blank_all parts t)
+blank_more : (parts : List Part) (p : Part) (t : List ℕ) → blank_all (parts ++ p ∷ []) t ≡ blanked p (blank_all parts t)
 blank_more [] p t = refl
-blank_more (q ∷ parts) p t = blank_more parts p (blanked q.from q.to t)
+blank_more (q ∷ parts) p t = blank_more parts p (blanked q t)
 
-pub goes_on : (t text u : List ℕ) (parts more : List Part) (f : Found) (next : Option Found) → Going t text parts (Some f) → more ≡ parts ++ f.part ∷ [] → u ≡ blanked f.part.from f.part.to text →
+pub goes_on : (t text u : List ℕ) (parts more : List Part) (f : Found) (next : Option Found) → Going t text parts (Some f) → more ≡ parts ++ f.part ∷ [] → u ≡ blanked f.part text →
     Finds u f.next next → IfSome next (IsAhead u f.next) → Going t u more next
 goes_on t text u parts more f next going one_more blank finds ahead =
     let old = going.ahead.1 in
     let ms = going.found.0 in
     let place : IsPartOf t f.part = (old.begun, omega (arith, old.within, going.same)) in
-    let now : u ≡ blank_all (parts ++ f.part ∷ []) t = blank ∙ (ap (blanked f.part.from f.part.to) going.blank ∙ sym (blank_more parts f.part t)) in
+    let now : u ≡ blank_all (parts ++ f.part ∷ []) t = blank ∙ (ap (blanked f.part) going.blank ∙ sym (blank_more parts f.part t)) in
     let both : Going t u (parts ++ f.part ∷ []) next = record {
-      same = ap length blank ∙ length-blanked f.part.from f.part.to text ∙ going.same;
+      same = ap length blank ∙ length-blanked f.part text ∙ going.same;
       within = All-append (IsPartOf t) parts (f.part ∷ []) going.within (All-cons (IsPartOf t) f.part [] place (All-nil (IsPartOf t)));
       ahead = some_ahead u f.next next ahead;
       from = state u f.next ms;
@@ -65,20 +65,20 @@ goes_on t text u parts more f next going one_more blank finds ahead =
     } in
     subst (λ (x : List Part). Going t u x next) (sym one_more) both
 
-pub place_after : (t text u : List ℕ) (parts : List Part) (f : Found) → Going t text parts (Some f) → u ≡ blanked f.part.from f.part.to text → IsPlace u f.next
+pub place_after : (t text u : List ℕ) (parts : List Part) (f : Found) → Going t text parts (Some f) → u ≡ blanked f.part text → IsPlace u f.next
 place_after t text u parts f going blank =
-    let same : length u ≡ length text = ap length blank ∙ length-blanked f.part.from f.part.to text in
+    let same : length u ≡ length text = ap length blank ∙ length-blanked f.part text in
     let place = going.ahead.1.place in
     record { at = omega (arith, place.at); taken = omega (arith, place.taken); opened = place.opened; closed = place.closed }
 
 pub part_within : (t text : List ℕ) (parts : List Part) (f : Found) → Going t text parts (Some f) → (f.part.from ≤ f.part.to) × (f.part.to ≤ length text)
 part_within t text parts f going = (going.ahead.1.begun, going.ahead.1.within)
 
-pub less_left : (t text u : List ℕ) (parts : List Part) (f : Found) (next : Option Found) → Going t text parts (Some f) → u ≡ blanked f.part.from f.part.to text → IfSome next (IsAhead u f.next) →
+pub less_left : (t text u : List ℕ) (parts : List Part) (f : Found) (next : Option Found) → Going t text parts (Some f) → u ≡ blanked f.part text → IfSome next (IsAhead u f.next) →
     left_of t next < left_of t (Some f)
 less_left t text u parts f None going blank h = omega arith
 less_left t text u parts f (Some g) going blank h =
-    let same : length u ≡ length text = ap length blank ∙ length-blanked f.part.from f.part.to text in
+    let same : length u ≡ length text = ap length blank ∙ length-blanked f.part text in
     omega (arith, h.at, h.place.at, going.same)
 
 pub all_found : (t text : List ℕ) (parts : List Part) → Going t text parts None → Passes t parts

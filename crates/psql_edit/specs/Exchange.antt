@@ -12,11 +12,11 @@ IsPartOf t p = (p.from ≤ p.to) × (p.to ≤ length t)
 abbrev pub piece : List ℕ → Part → PartKind × List ℕ
 piece t p = (p.kind, take (p.to - p.from) (drop p.from t))
 
--- the commands and the data of a text of which these parts are no SQL, in their order
+-- the commands, the data and the bodies of a text of which these parts are not read as SQL, in their order
 abbrev pub for_psql : List ℕ → List Part → List (PartKind × List ℕ)
 for_psql t ps = map (piece t) ps
 
--- The SQL of the new text is this, and its commands and data are, byte for byte, those of the old one, of which these parts are no SQL.
+-- The SQL of the new text is this, and its commands, data and bodies are, byte for byte, those of the old one, of which these parts are not read as SQL.
 pub record HasSql (old : List ℕ) (ps : List Part) (sql new : List ℕ) : Type 0 where
   pub parts : List Part
   pub passes : Passes new parts

@@ -31,8 +31,8 @@ fn taken(
     }
 }
 
-/// The text with this SQL in the place of its own, and with its own commands of psql and data of COPY, if both go together: where they do
-/// not, as where a line of data would be in the midst of a name, the answer is `None`. Where the SQL is the one of the text, that is the
+/// The text with this SQL in the place of its own, and with its own commands of psql, data of COPY and bodies of functions, if all go together:
+/// where they do not, as where a line of data would be in the midst of a name, the answer is `None`. Where the SQL is the one of the text, that is the
 /// text itself. It takes time in proportion to both texts. The error comes when memory runs out.
 pub fn with_sql(alloc: Global, old: &str, sql: &str) -> Result<Option<String>, NoMemory>
     ensures some { (ps : List AnyPart) → Passes old.now ps → IfOk result (λ new. IfSome new (λ new. HasSql old.now ps sql.now (string_bytes new))) }

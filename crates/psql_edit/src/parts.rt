@@ -1,4 +1,4 @@
-//! The parts of a text that are no SQL to psql.
+//! The parts of a text that are not read as SQL.
 
 ghost use Rattle.std.specs.Prelude.{◌≡◌, ◌↔◌, All, IfOk, IsTrue};
 ghost use Rattle.psql_text.specs.Psql.{Passes, blank_all};
@@ -12,7 +12,7 @@ use std::alloc::Global;
 pub(crate) struct Parts {
     /// The text, in which the parts are blank.
     pub(crate) sql: Vec<u8>,
-    /// The parts that are no SQL.
+    /// The parts that are not read as SQL.
     pub(crate) parts: Vec<Part>,
 }
 
@@ -27,7 +27,7 @@ pub(crate) fn parts_in(alloc: Global, text: &[u8]) -> Result<Parts, NoMemory>
     let mut next = next_part(text, start());
     'parts: while let Some(found) = next {
         parts.push(found.part)?;
-        blank_out(&mut sql, found.part.from, found.part.to);
+        blank_out(&mut sql, found.part);
         next = next_part(sql.as_slice(), found.next);
     }
     Ok(Parts { sql, parts })
@@ -37,7 +37,10 @@ fn is_same_kind(a: PartKind, b: PartKind) -> bool
     ensures { IsTrue result ↔ (a ≡ b) }
 {
     match (a, b) {
-        (PartKind::Command, PartKind::Command) | (PartKind::Data, PartKind::Data) => true,
+        (PartKind::Command, PartKind::Command)
+        | (PartKind::Data, PartKind::Data)
+        | (PartKind::Ending, PartKind::Ending)
+        | (PartKind::Body, PartKind::Body) => true,
         _ => false,
     }
 }

@@ -5,3 +5,4 @@ pub mod Once
 pub mod Places
 pub mod Plain
 pub mod Steps
+pub mod Words

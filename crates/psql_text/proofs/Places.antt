@@ -6,20 +6,22 @@ use Rattle.std.proofs.lemmas.Str.{IsCharBoundary-end, IsCharBoundary-before_asci
 use Rattle.std.proofs.lemmas.Bool.{and_parts, cases_lt}
 use Rattle.std.proofs.lemmas.Bool.Decides.{nat_tests}
 use Rattle.sql_lex.specs.sql_token.Token.{Text}
-use Rattle.psql_text.specs.Commands.{is_quiet}
-use Rattle.psql_text.specs.Lines.{begins_command, starts_line, IsLineEnd, IsDataEnd}
+use Rattle.psql_text.specs.Commands.{is_ending, is_quiet}
+use Rattle.psql_text.specs.Lines.{begins_command, begins_ending, starts_line, IsLineEnd, IsDataEnd}
 
 same_number : (a b : ℕ) → (a == b) ≡ true → a ≡ b
 same_number a b h = grind (arith, nat_tests)
 
-pub is_backslash : (t : Text) (i : ℕ) → begins_command t i ≡ true → get_or t i 0 ≡ 92
-is_backslash t i h =
+pub is_backslash_at : (t : Text) (i : ℕ) → begins_command t i ≡ true → get_or t i 0 ≡ 92
+is_backslash_at t i h =
     let begins = (and_parts (get_or t i 0 == 92 && starts_line t i) (is_quiet (drop (i + 1) t)) h).0 in
     same_number _ _ (and_parts (get_or t i 0 == 92) (starts_line t i) begins).0
 
-pub command_some : (t : Text) (i e : ℕ) → begins_command t i ≡ true → i < length t → IsLineEnd t i e → i < e
-command_some t i e begins within line =
-    let backslash = is_backslash t i begins in
+pub is_ending_backslash : (t : Text) (i : ℕ) → begins_ending t i ≡ true → get_or t i 0 ≡ 92
+is_ending_backslash t i h = same_number _ _ (and_parts (get_or t i 0 == 92) (is_ending (drop (i + 1) t)) h).0
+
+pub command_some : (t : Text) (i e : ℕ) → get_or t i 0 ≡ 92 → i < length t → IsLineEnd t i e → i < e
+command_some t i e backslash within line =
     elim (cases_lt i e) [
       | inl less ↦ less
       | inr more ↦

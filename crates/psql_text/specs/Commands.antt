@@ -1,5 +1,5 @@
--- Commands of psql that neither send SQL, nor drop it, nor take it from elsewhere (PostgreSQL manual, psql, "Meta-Commands"). The texts are what follows
--- the backslash of a command.
+-- Commands of psql (PostgreSQL manual, psql, "Meta-Commands"): those that neither send SQL, nor drop it, nor take it from elsewhere, and those that end the
+-- statement before them. The texts are what follows the backslash of a command.
 use Rattle.std.specs.Prelude.{ℕ, ◌==◌, Bool, not, ◌&&◌, ◌||◌, [], take, drop, length, nat_le, slice_index, codes, if◌then◌else◌, Option, Some, None}
 use Rattle.std.specs.List.{list_any, position}
 use Rattle.std.specs.Str.{bytes_eq}
@@ -47,6 +47,10 @@ is_about_session name =
     bytes_eq name (codes "c") || bytes_eq name (codes "cd") || bytes_eq name (codes "connect") || bytes_eq name (codes "conninfo")
     || bytes_eq name (codes "encoding") || bytes_eq name (codes "password") || bytes_eq name (codes "restrict") || bytes_eq name (codes "unrestrict")
 
+-- the end of the session
+unfoldable pub is_leaving : Text → Bool
+is_leaving name = bytes_eq name (codes "q") || bytes_eq name (codes "quit")
+
 -- where answers go, and how they look
 unfoldable pub is_about_output : Text → Bool
 is_about_output name =
@@ -69,7 +73,7 @@ abbrev pub describes : Text → Bool
 describes name = slice_index name 0 == 100
 
 abbrev pub is_quiet_name : Text → Bool
-is_quiet_name name = is_about_session name || is_about_output name || is_message name || is_about_variable name || describes name
+is_quiet_name name = is_about_session name || is_leaving name || is_about_output name || is_message name || is_about_variable name || describes name
 
 -- a variable by which psql takes SQL in another way: each line for a statement, or with transactions of its own
 abbrev pub is_switch : Text → Bool
@@ -82,3 +86,25 @@ goes_on z = list_any (λ b. b == 92) (front_to z (position is_line_feed z))
 -- the line has one command, which is such a one, and sets no such variable
 unfoldable pub is_quiet : Text → Bool
 is_quiet z = is_quiet_name (word z) && not (bytes_eq (word z) (codes "set") && is_switch (argument z)) && not (goes_on z)
+
+-- ---- commands that end the statement before them
+
+-- they send it
+unfoldable pub is_sending : Text → Bool
+is_sending name =
+    bytes_eq name (codes "g") || bytes_eq name (codes "gx") || bytes_eq name (codes "gset") || bytes_eq name (codes "gdesc")
+    || bytes_eq name (codes "crosstabview") || bytes_eq name (codes "watch")
+
+-- they drop it, or are the edge of a branch
+unfoldable pub is_edge : Text → Bool
+is_edge name =
+    bytes_eq name (codes "r") || bytes_eq name (codes "reset") || bytes_eq name (codes "if") || bytes_eq name (codes "elif")
+    || bytes_eq name (codes "else") || bytes_eq name (codes "endif")
+
+-- on the line is a backslash, or a bar, after which psql sends what is read to another program
+abbrev pub leads_on : Text → Bool
+leads_on z = list_any (λ b. b == 92 || b == 124) (front_to z (position is_line_feed z))
+
+-- the line has no other command, and this is such a one
+unfoldable pub is_ending : Text → Bool
+is_ending z = (is_sending (word z) || is_edge (word z)) && not (leads_on z)

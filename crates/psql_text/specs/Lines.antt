@@ -2,7 +2,7 @@
 use Rattle.std.specs.Prelude.{◌≡◌, ◌≤◌, ◌<◌, ℕ, ◌+◌, ◌-◌, Bool, true, false, ◌&&◌, ◌||◌, ◌==◌, nat_le, drop, length, slice_index}
 use Rattle.sql_lex.specs.text_pos.Line.{is_line_feed}
 use Rattle.sql_lex.specs.sql_token.Token.{Text, begins_byte_order_mark}
-use Rattle.psql_text.specs.Commands.{is_quiet}
+use Rattle.psql_text.specs.Commands.{is_quiet, is_ending}
 
 -- a line begins at i: where the text begins, also after its byte order mark, or after a line feed
 abbrev pub starts_line : Text → ℕ → Bool
@@ -12,6 +12,10 @@ starts_line t i = i == 0 || is_line_feed (slice_index t (i - 1)) || (i == 3 && b
 -- that is a backslash.
 abbrev pub begins_command : Text → ℕ → Bool
 begins_command t i = slice_index t i == 92 && starts_line t i && is_quiet (drop (i + 1) t)
+
+-- a backslash is at i, and with it a command that ends the statement before it
+abbrev pub begins_ending : Text → ℕ → Bool
+begins_ending t i = slice_index t i == 92 && is_ending (drop (i + 1) t)
 
 -- The line on which i is ends at e: before its line feed, or with the text.
 pub record IsLineEnd (t : Text) (i e : ℕ) : Type 0 where

@@ -1,11 +1,14 @@
 -- How far the code has read a text, against the definition.
-use Rattle.std.specs.Prelude.{◌≡◌, ◌≤◌, ◌<◌, ◌+◌, ◌-◌, ℕ, Bool, true, List, [], ◌∷◌, length, Option, Some, None}
+use Rattle.std.specs.Prelude.{◌≡◌, ◌≤◌, ◌<◌, ◌==◌, ◌+◌, ◌-◌, ℕ, Bool, true, not, ◌&&◌, ◌||◌, List, [], ◌∷◌, length, Option, Some, None}
 use Rattle.std.specs.Str.{IsUtf8, IsCharBoundary}
 use Rattle.sql_lex.specs.Signs.{SignsFrom}
-use Rattle.sql_lex.specs.sql_token.Token.{Text}
+use Rattle.sql_lex.specs.sql_token.Token.{Text, At}
+use Rattle.sql_lex.specs.sql_token.declared.token.TokKind.{TokKind}
 use Rattle.psql_text.specs.Count.{data_of}
-use Rattle.psql_text.specs.Marks.{is_none, begins_copy, opened, closed, has_from, ends_in_from, has_from_stdin}
-use Rattle.psql_text.specs.Psql.{State, Reads, blanked}
+use Rattle.psql_text.specs.Lines.{begins_command, begins_ending}
+use Rattle.psql_text.specs.Marks.{is_none, is_begin, begins_copy, opened, closed, has_from, ends_in_from, has_from_stdin, lead_of, is_whole, begun, ended}
+use Rattle.psql_text.specs.Psql.{State, Reads, blanked, mark_at}
+use Rattle.psql_text.specs.declared.block.Block.{Block}
 use Rattle.psql_text.specs.declared.mark.Mark.{Mark}
 use Rattle.psql_text.specs.declared.statement.Statement.{Statement}
 use Rattle.psql_text.specs.declared.part.Part.{Part}
@@ -24,10 +27,33 @@ summary ms = record {
   has_from = has_from ms;
   ends_in_from = ends_in_from ms;
   has_from_stdin = has_from_stdin ms;
+  lead = lead_of ms;
 }
+
+-- what is kept of these marks of a body
+abbrev pub block_of : List Mark → Block
+block_of ms = record { opened = opened ms; closed = closed ms; begun = begun ms; ended = ended ms }
 
 abbrev pub state : Text → Reading → List Mark → State
 state t r ms = record { text = t; at = r.at; taken = r.taken; marks = ms }
+
+-- a command that ends the statement is next
+abbrev pub is_ending_next : Text → Reading → Bool
+is_ending_next t r = begins_ending t r.at && not (r.statement.begins_copy && r.statement.has_from_stdin)
+
+abbrev pub is_command_next : Text → Reading → Bool
+is_command_next t r = begins_command t r.at || is_ending_next t r
+
+-- a mark is the BEGIN of a body in the statement
+abbrev pub begins_body_of : Statement → Mark → Bool
+begins_body_of s m = is_begin m && (s.opened == s.closed && is_whole s.lead)
+
+-- A token is next that begins a body.
+pub record IsAtBody (t : Text) (r : Reading) : Type 0 where
+  pub kind : TokKind
+  pub end : ℕ
+  pub token : At t r.at kind end
+  pub begins : begins_body_of r.statement (mark_at t r.at kind end) ≡ true
 
 -- The reading is within the text, and its counts are small.
 pub record IsPlace (t : Text) (r : Reading) : Type 0 where
@@ -78,7 +104,7 @@ abbrev pub GoesTo : Text → State → Reading → Type 0
 GoesTo t s r = (ms : List Mark) × (r.statement ≡ summary ms) × Follows s (state t r ms)
 
 abbrev pub GoesPast : Text → State → Found → Type 0
-GoesPast t s f = (ms : List Mark) × (f.next.statement ≡ summary ms) × FollowsAfter s f.part (state (blanked f.part.from f.part.to t) f.next ms)
+GoesPast t s f = (ms : List Mark) × (f.next.statement ≡ summary ms) × FollowsAfter s f.part (state (blanked f.part t) f.next ms)
 
 abbrev pub StepIs : Text → State → Step → Type 0
 StepIs t s (step.Token passed) = GoesTo t s passed.next

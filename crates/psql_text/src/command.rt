@@ -1,4 +1,4 @@
-//! Which lines that begin with a backslash are passed over.
+//! Which lines that begin with a backslash are passed over, and which commands end the statement before them.
 
 ghost use Rattle.std.specs.Prelude.{◌≡◌};
 ghost use Rattle.std.specs.List.{position};
@@ -79,6 +79,14 @@ fn is_about_session(name: &[u8]) -> bool
         || is(name, "unrestrict")
 }
 
+// The end of the session.
+#[tactic(auto, unfolding(crate::specs::Commands::is_leaving))]
+fn is_leaving(name: &[u8]) -> bool
+    ensures { result ≡ spec.is_leaving name.now }
+{
+    is(name, "q") || is(name, "quit")
+}
+
 // Where answers go, and how they look.
 #[tactic(auto, unfolding(crate::specs::Commands::is_about_output))]
 fn is_about_output(name: &[u8]) -> bool
@@ -126,6 +134,7 @@ fn is_quiet_name(name: &[u8]) -> bool
     ensures { result ≡ spec.is_quiet_name name.now }
 {
     is_about_session(name)
+        || is_leaving(name)
         || is_about_output(name)
         || is_message(name)
         || is_about_variable(name)
@@ -153,4 +162,48 @@ pub fn is_quiet(z: &[u8]) -> bool
 {
     let name = word(z);
     is_quiet_name(name) && !(is(name, "set") && is_switch(argument(z))) && !goes_on(z)
+}
+
+// It sends the statement before it.
+#[tactic(auto, unfolding(crate::specs::Commands::is_sending))]
+fn is_sending(name: &[u8]) -> bool
+    ensures { result ≡ spec.is_sending name.now }
+{
+    is(name, "g")
+        || is(name, "gx")
+        || is(name, "gset")
+        || is(name, "gdesc")
+        || is(name, "crosstabview")
+        || is(name, "watch")
+}
+
+// It drops the statement before it, or is the edge of a branch.
+#[tactic(auto, unfolding(crate::specs::Commands::is_edge))]
+fn is_edge(name: &[u8]) -> bool
+    ensures { result ≡ spec.is_edge name.now }
+{
+    is(name, "r")
+        || is(name, "reset")
+        || is(name, "if")
+        || is(name, "elif")
+        || is(name, "else")
+        || is(name, "endif")
+}
+
+// Whether another command, or another program to which psql sends, may follow on the line.
+fn leads_on(z: &[u8]) -> bool
+    ensures { result ≡ spec.leads_on z.now }
+{
+    front_to(z, feed(z))
+        .iter()
+        .any(|b| *b == b'\\' || *b == b'|')
+}
+
+/// Whether a line of which this is what follows a backslash has one command there, which ends the statement before it.
+#[tactic(auto, unfolding(crate::specs::Commands::is_ending))]
+pub fn is_ending(z: &[u8]) -> bool
+    ensures { result ≡ spec.is_ending z.now }
+{
+    let name = word(z);
+    (is_sending(name) || is_edge(name)) && !leads_on(z)
 }

@@ -7,12 +7,12 @@ pub fn one_reading()
     ensures { OneReading }
 {}
 
-/// All bytes keep their places, and each is as it was, or a space where it was no white space.
+/// All bytes keep their places, and each is as it was, or a space where it was no white space, or a semicolon where it was a backslash.
 pub fn places_stay()
     ensures { PlacesStay }
 {}
 
-/// Where no line begins with a backslash and no token is the word STDIN, nothing is passed over.
+/// Where no command of psql is passed over, no token is the word STDIN, and no function may have a body, nothing is passed over.
 pub fn plain_texts_stay()
     ensures { PlainTextsStay }
 {}

@@ -4,7 +4,7 @@ ghost use Rattle.std.specs.Prelude.{◌≡◌, ◌<◌, ◌≤◌, ℕ, true, fa
 ghost use Rattle.psql_text.specs.Lines as spec;
 
 use crate::class::{begins_byte_order_mark, byte};
-use crate::command::is_quiet;
+use crate::command::{is_ending, is_quiet};
 use memchr::memchr;
 
 fn starts_line(text: &[u8], at: usize) -> bool
@@ -20,6 +20,14 @@ pub fn begins_command(text: &[u8], at: usize) -> bool
     ensures { result ≡ spec.begins_command text.now at }
 {
     text[at] == b'\\' && starts_line(text, at) && is_quiet(&text[at + 1..])
+}
+
+/// Whether a command is at this place that ends the statement before it.
+pub fn begins_ending(text: &[u8], at: usize) -> bool
+    requires { at < length text.now }
+    ensures { result ≡ spec.begins_ending text.now at }
+{
+    text[at] == b'\\' && is_ending(&text[at + 1..])
 }
 
 /// The end of the line on which this place is: its line feed, or the end of the text.

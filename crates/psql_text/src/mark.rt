@@ -1,4 +1,4 @@
-//! What of its tokens tells whether a statement is COPY .. FROM STDIN.
+//! What of its tokens tells whether a statement is COPY .. FROM STDIN, and where the body of a function ends.
 
 ghost use Rattle.std.specs.Prelude.{◌≡◌, slice_index};
 ghost use Rattle.psql_text.specs.Marks as spec;
@@ -6,7 +6,7 @@ ghost use Rattle.psql_text.specs.Marks as spec;
 use crate::class::byte;
 use sql_lex::TokKind;
 
-/// What a token is to a statement that may be COPY .. FROM STDIN.
+/// What a token is to a statement that may be COPY .. FROM STDIN, or make a function.
 #[derive(Clone, Copy)]
 pub enum Mark {
     /// The word COPY.
@@ -15,12 +15,28 @@ pub enum Mark {
     From,
     /// The word STDIN.
     Stdin,
+    /// The word CREATE.
+    Create,
+    /// The word OR.
+    Or,
+    /// The word REPLACE.
+    Replace,
+    /// The word FUNCTION or PROCEDURE.
+    Routine,
+    /// The word BEGIN.
+    Begin,
+    /// The word CASE.
+    Case,
+    /// The word END.
+    End,
     /// `(` or `[`
     Opener,
     /// `)` or `]`
     Closer,
     /// `;`
     Semicolon,
+    /// A backslash.
+    Backslash,
     /// Any other significant token.
     Other,
     /// Blanks or a comment.
@@ -46,6 +62,48 @@ impl Mark {
         matches!(self, Mark::Stdin)
     }
 
+    pub fn is_create(self) -> bool
+        ensures { result ≡ spec.is_create self }
+    {
+        matches!(self, Mark::Create)
+    }
+
+    pub fn is_or(self) -> bool
+        ensures { result ≡ spec.is_or self }
+    {
+        matches!(self, Mark::Or)
+    }
+
+    pub fn is_replace(self) -> bool
+        ensures { result ≡ spec.is_replace self }
+    {
+        matches!(self, Mark::Replace)
+    }
+
+    pub fn is_routine(self) -> bool
+        ensures { result ≡ spec.is_routine self }
+    {
+        matches!(self, Mark::Routine)
+    }
+
+    pub fn is_begin(self) -> bool
+        ensures { result ≡ spec.is_begin self }
+    {
+        matches!(self, Mark::Begin)
+    }
+
+    pub fn is_case(self) -> bool
+        ensures { result ≡ spec.is_case self }
+    {
+        matches!(self, Mark::Case)
+    }
+
+    pub fn is_end(self) -> bool
+        ensures { result ≡ spec.is_end self }
+    {
+        matches!(self, Mark::End)
+    }
+
     pub fn is_opener(self) -> bool
         ensures { result ≡ spec.is_opener self }
     {
@@ -64,6 +122,12 @@ impl Mark {
         matches!(self, Mark::Semicolon)
     }
 
+    pub fn is_backslash(self) -> bool
+        ensures { result ≡ spec.is_backslash self }
+    {
+        matches!(self, Mark::Backslash)
+    }
+
     pub fn is_nothing(self) -> bool
         ensures { result ≡ spec.is_nothing self }
     {
@@ -71,6 +135,39 @@ impl Mark {
     }
 }
 
+#[tactic(auto, unfolding(crate::specs::Marks::block_mark))]
+fn block_mark(bytes: &[u8]) -> Mark
+    ensures { result ≡ spec.block_mark bytes.now }
+{
+    if bytes.eq_ignore_ascii_case(b"begin") {
+        Mark::Begin
+    } else if bytes.eq_ignore_ascii_case(b"case") {
+        Mark::Case
+    } else if bytes.eq_ignore_ascii_case(b"end") {
+        Mark::End
+    } else {
+        Mark::Other
+    }
+}
+
+#[tactic(auto, unfolding(crate::specs::Marks::routine_mark))]
+fn routine_mark(bytes: &[u8]) -> Mark
+    ensures { result ≡ spec.routine_mark bytes.now }
+{
+    if bytes.eq_ignore_ascii_case(b"create") {
+        Mark::Create
+    } else if bytes.eq_ignore_ascii_case(b"or") {
+        Mark::Or
+    } else if bytes.eq_ignore_ascii_case(b"replace") {
+        Mark::Replace
+    } else if bytes.eq_ignore_ascii_case(b"function") || bytes.eq_ignore_ascii_case(b"procedure") {
+        Mark::Routine
+    } else {
+        block_mark(bytes)
+    }
+}
+
+#[tactic(auto, unfolding(crate::specs::Marks::word_mark))]
 fn word_mark(bytes: &[u8]) -> Mark
     ensures { result ≡ spec.word_mark bytes.now }
 {
@@ -81,7 +178,7 @@ fn word_mark(bytes: &[u8]) -> Mark
     } else if bytes.eq_ignore_ascii_case(b"stdin") {
         Mark::Stdin
     } else {
-        Mark::Other
+        routine_mark(bytes)
     }
 }
 
@@ -96,6 +193,16 @@ fn punct_mark(byte: u8) -> Mark
     }
 }
 
+fn other_mark(byte: u8) -> Mark
+    ensures { result ≡ spec.other_mark byte }
+{
+    if byte == b'\\' {
+        Mark::Backslash
+    } else {
+        Mark::Other
+    }
+}
+
 /// What a token of this kind and of these bytes is.
 #[tactic(auto, unfolding(crate::specs::Marks::mark_of))]
 pub fn mark_of(kind: TokKind, bytes: &[u8]) -> Mark
@@ -105,6 +212,7 @@ pub fn mark_of(kind: TokKind, bytes: &[u8]) -> Mark
         TokKind::Blank | TokKind::LineComment | TokKind::BlockComment => Mark::Nothing,
         TokKind::Word => word_mark(bytes),
         TokKind::Punct => punct_mark(byte(bytes, 0)),
+        TokKind::Other => other_mark(byte(bytes, 0)),
         _ => Mark::Other,
     }
 }

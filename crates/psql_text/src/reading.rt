@@ -1,18 +1,19 @@
 //! How far a text was read, and the next part of it that is no SQL.
 
-ghost use Rattle.std.specs.Prelude.{◌≡◌, ◌≤◌, ◌<◌, ◌+◌, true, false, [], length, List, IfSome, IfNone};
-ghost use Rattle.sql_lex.specs.Signs.{begins_sign};
-ghost use Rattle.sql_lex.specs.sql_token.Token.{At, NeverCloses, Text};
+ghost use Rattle.std.specs.Prelude.{◌≡◌, ◌≤◌, ◌<◌, ◌+◌, true, false, [], length, List, IfSome};
+ghost use Rattle.sql_lex.specs.sql_token.Token.{At, Text};
 ghost use Rattle.psql_text.specs.Lines as lines;
-ghost use Rattle.psql_text.specs.Reading.{IsPlace, IsAhead, GoesPast, MayFollow, Steps, Finds, MovesOn, state, summary};
+ghost use Rattle.psql_text.specs.Reading.{IsPlace, IsAhead, IsAtBody, GoesPast, MayFollow, Steps, Finds, MovesOn, is_command_next, state, summary};
+ghost use Rattle.psql_text.specs.Reading as spec;
 ghost use Rattle.psql_text.specs.declared.mark.Mark.{Mark};
 
-use crate::class::byte;
-use crate::lines::{begins_command, data_end, line_end};
+use crate::body::body_end;
+use crate::lines::{begins_command, begins_ending, data_end, line_end};
 use crate::mark::mark_of;
 use crate::part::{Part, PartKind};
 use crate::statement::Statement;
-use sql_lex::{TokKind, token_at};
+use crate::token::{is_operator, token_after};
+use sql_lex::TokKind;
 
 /// How far a text was read.
 #[derive(Clone, Copy)]
@@ -48,7 +49,7 @@ pub enum Step {
     Token(Passed),
     /// A part that is no SQL, or a token after which one comes.
     Part(Found),
-    /// A token that never closes.
+    /// A token that never closes, or a body that does not end.
     Open,
 }
 
@@ -89,43 +90,75 @@ fn command_at(text: &[u8], reading: Reading) -> Found
     }
 }
 
-fn is_operator(kind: TokKind) -> bool
-    ensures { result ≡ true → kind ≡ TokKind.Op }
+/// The command at this place that ends the statement.
+fn ending_at(text: &[u8], reading: Reading) -> Found
+    requires place { IsPlace text.now reading }
+    requires begins { (lines.begins_command text.now reading.at ≡ false) × (spec.is_ending_next text.now reading ≡ true) }
+    requires within { reading.at < length text.now }
+    ensures goes { (ms : List Mark) → reading.statement ≡ summary ms → GoesPast text.now (state text.now reading ms) result }
+    ensures moves { IsAhead text.now reading result }
 {
-    matches!(kind, TokKind::Op)
-}
-
-fn begins_with_sign(z: &[u8]) -> bool
-    ensures { result ≡ begins_sign z.now }
-{
-    let first = byte(z, 0);
-    first == b'+' || (first == b'-' && byte(z, 1) != b'-')
-}
-
-/// The token at a place. After an operator a sign is a token by itself, and what follows it is not looked at, so that a run of signs takes
-/// one pass.
-fn token_after(text: &[u8], at: usize, is_after_operator: bool) -> Option<(TokKind, usize)>
-    requires begins { at < length text.now }
-    requires signs { MayFollow text.now at is_after_operator }
-    ensures found { IfSome result (λ t. At text.now at t.0 t.1) }
-    ensures within { IfSome result (λ t. (at < t.1) × (t.1 ≤ length text.now)) }
-    ensures none { IfNone result (NeverCloses text.now at) }
-{
-    if is_after_operator && begins_with_sign(&text[at..]) {
-        return Some((TokKind::Op, at + 1));
+    let end = line_end(text, reading.at);
+    Found {
+        part: Part {
+            kind: PartKind::Ending,
+            from: reading.at,
+            to: end,
+        },
+        next: Reading {
+            at: end,
+            taken: reading.taken,
+            statement: Statement::new(),
+        },
     }
-    token_at(text, at)
+}
+
+/// Whether a command is at this place that ends the statement, which is no COPY .. FROM STDIN.
+fn is_ending_next(text: &[u8], reading: Reading) -> bool
+    requires { reading.at < length text.now }
+    ensures { result ≡ spec.is_ending_next text.now reading }
+{
+    begins_ending(text, reading.at) && !reading.statement.is_copy_stdin()
+}
+
+/// What comes of the body that begins at this place.
+fn step_into(text: &[u8], reading: Reading) -> Step
+    requires place { IsPlace text.now reading }
+    requires plain { is_command_next text.now reading ≡ false }
+    requires begins { IsAtBody text.now reading }
+    requires within { reading.at < length text.now }
+    ensures goes { Steps text.now reading result }
+    ensures moves { MovesOn text.now reading result }
+{
+    match body_end(text, reading.at) {
+        None => Step::Open,
+        Some(end) => Step::Part(Found {
+            part: Part {
+                kind: PartKind::Body,
+                from: reading.at,
+                to: end,
+            },
+            next: Reading {
+                at: end,
+                taken: reading.taken,
+                statement: reading.statement,
+            },
+        }),
+    }
 }
 
 /// What comes of the token of this kind that ends here.
 fn step_over(text: &[u8], reading: Reading, kind: TokKind, end: usize) -> Step
     requires place { IsPlace text.now reading }
-    requires plain { lines.begins_command text.now reading.at ≡ false }
+    requires plain { is_command_next text.now reading ≡ false }
     requires token { At text.now reading.at kind end }
     ensures goes { Steps text.now reading result }
     ensures moves { MovesOn text.now reading result }
 {
     let mark = mark_of(kind, &text[reading.at..end]);
+    if reading.statement.begins_body_at(mark) {
+        return step_into(text, reading);
+    }
     let next = Reading {
         at: end,
         taken: reading.taken,
@@ -171,6 +204,9 @@ fn step_at(text: &[u8], reading: Reading, is_after_operator: bool) -> Step
 {
     if begins_command(text, reading.at) {
         return Step::Part(command_at(text, reading));
+    }
+    if is_ending_next(text, reading) {
+        return Step::Part(ending_at(text, reading));
     }
     match token_after(text, reading.at, is_after_operator) {
         Some((kind, end)) => step_over(text, reading, kind, end),

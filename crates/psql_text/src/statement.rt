@@ -1,11 +1,12 @@
-//! The statement that is being read, as far as it tells whether it is COPY .. FROM STDIN.
+//! The statement that is being read, as far as it tells whether it is COPY .. FROM STDIN, or makes a function or a procedure.
 
 ghost use Rattle.std.specs.Prelude.{◌≡◌, ◌==◌, ◌&&◌, ◌<◌, ◌≤◌, ◌+◌, ◌^◌, [], ◌∷◌, List};
 ghost use Rattle.sql_lex.specs.sql_token.Depth.{one_if};
 ghost use Rattle.psql_text.specs.Marks as spec;
-ghost use Rattle.psql_text.specs.Reading.{summary};
+ghost use Rattle.psql_text.specs.Reading.{begins_body_of, summary};
 ghost use Rattle.psql_text.specs.declared.mark.Mark.{Mark};
 
+use crate::lead::Lead;
 use crate::mark::Mark;
 
 /// What is kept of the tokens of a statement that were read.
@@ -25,10 +26,12 @@ pub struct Statement {
     pub ends_in_from: bool,
     /// After it STDIN was read.
     pub has_from_stdin: bool,
+    /// Its first words.
+    pub lead: Lead,
 }
 
 /// One more where this holds.
-fn plus(n: usize, more: bool) -> usize
+pub(crate) fn plus(n: usize, more: bool) -> usize
     requires { n + 1 < 2 ^ 64 }
     ensures { result ≡ n + one_if more }
 {
@@ -49,6 +52,7 @@ impl Statement {
             has_from: false,
             ends_in_from: false,
             has_from_stdin: false,
+            lead: Lead::Empty,
         }
     }
 
@@ -66,11 +70,32 @@ impl Statement {
         mark.is_semicolon() && self.is_outside()
     }
 
+    /// Whether it is COPY .. FROM STDIN.
+    pub fn is_copy_stdin(self) -> bool
+        ensures { result ≡ (self.begins_copy && self.has_from_stdin) }
+    {
+        self.begins_copy && self.has_from_stdin
+    }
+
     /// Whether this mark is its semicolon, and it is COPY .. FROM STDIN.
     pub fn ends_copy_at(self, mark: Mark) -> bool
         ensures { (ms : List Mark) → self ≡ summary ms → result ≡ spec.ends_copy ms mark }
     {
-        self.ends_at(mark) && (self.begins_copy && self.has_from_stdin)
+        self.ends_at(mark) && self.is_copy_stdin()
+    }
+
+    /// Whether this mark is the BEGIN of a body in it.
+    pub fn begins_body_at(self, mark: Mark) -> bool
+        ensures { result ≡ begins_body_of self mark }
+    {
+        mark.is_begin() && (self.is_outside() && self.lead.is_whole())
+    }
+
+    /// Its first words, with this mark after the others.
+    fn lead_with(self, mark: Mark) -> Lead
+        ensures { (ms : List Mark) → self ≡ summary ms → result ≡ spec.lead_of (mark ∷ ms) }
+    {
+        self.lead.after(mark)
     }
 
     /// Whether its first word is COPY, with this mark after the others.
@@ -126,6 +151,7 @@ impl Statement {
             has_from: self.has_from_with(mark),
             ends_in_from: self.ends_in_from_with(mark),
             has_from_stdin: self.has_from_stdin_with(mark),
+            lead: self.lead_with(mark),
         }
     }
 

@@ -7,5 +7,6 @@ pub returns : goal.returns
 returns c =
     let t = c.args.text.now.items in
     let u = c.loop-at.text.items in
-    let all : c.loop-at.at ≡ c.args.to = omega arith in
-    blanked_by c.args.from c.args.to t u c.loop-at.invariant.same (λ k less. subst (λ (x : ℕ). get_or u k 0 ≡ byte_blanked c.args.from x t k) all (c.loop-at.invariant.each k less))
+    let p = c.args.part in
+    let all : c.loop-at.at ≡ p.to = omega arith in
+    blanked_by p t u c.loop-at.invariant.same (λ k less. subst (λ (x : ℕ). get_or u k 0 ≡ byte_blanked (record { kind = p.kind; from = p.from; to = x }) t k) all (c.loop-at.invariant.each k less))

@@ -5,7 +5,7 @@ use Rattle.psql_text.proofs.Going.{Going, begins, goes_on, left_of, part_within,
 use Rattle.psql_text.proofs.blank.blank_parts.Goals as goal
 
 pub parts-init : goal.parts-init
-parts-init c = begins c.args.bytes.now c.args.text.now.items c.args.first (record { commands = 0; data_lines = 0 }) c.requires.same refl refl c.requires.goes c.requires.ahead
+parts-init c = begins c.args.bytes.now c.args.text.now.items c.args.first (record { commands = 0; data_lines = 0; bodies = 0 }) c.requires.same refl refl refl c.requires.goes c.requires.ahead
 
 pub with-counts-requires-clause-part : goal.with-counts-requires-clause-part
 with-counts-requires-clause-part c =
@@ -16,8 +16,11 @@ with-counts-requires-clause-part c =
 pub with-counts-requires-clause-few : goal.with-counts-requires-clause-few
 with-counts-requires-clause-few c =
     let going = subst (λ (x : Option Found). Going c.args.bytes.now c.args.first c.parts.text.items c.parts.counts x) c.in-Some.is c.parts.invariant in
-    let few = few_more c.args.bytes.now c.args.first c.in-Some.found c.parts.text.items c.parts.counts going in
-    (omega (arith, few.0, going.same, c.parts.text.ok.0, c.parts.text.small), omega (arith, few.1, going.same, c.parts.text.ok.0, c.parts.text.small))
+    let few = few_more c.args.bytes.now c.args.first c.in-Some.found c.parts.text.items c.parts.counts going in (
+      omega (arith, few.0, going.same, c.parts.text.ok.0, c.parts.text.small),
+      omega (arith, few.1, going.same, c.parts.text.ok.0, c.parts.text.small),
+      omega (arith, few.2, going.same, c.parts.text.ok.0, c.parts.text.small),
+    )
 
 pub blank_out-requires : goal.blank_out-requires
 blank_out-requires c =
@@ -40,7 +43,7 @@ pub parts-preserved : goal.parts-preserved
 parts-preserved c =
     let going = subst (λ (x : Option Found). Going c.args.bytes.now c.args.first c.parts.text.items c.parts.counts x) c.in-Some.is c.parts.invariant in
     let next = goes_on c.args.bytes.now c.args.first c.in-Some.found c.parts.text.items c.deref.result.now c.parts.counts c.with-counts.result c.next_part-next.result going (c.deref.ensures.value ∙ c.blank_out.ensures)
-    c.with-counts.ensures.commands c.with-counts.ensures.data c.with-counts.ensures.few.0 c.with-counts.ensures.few.1 c.next_part-next.ensures.finds c.next_part-next.ensures.ahead in
+    c.with-counts.ensures.commands c.with-counts.ensures.data c.with-counts.ensures.bodies c.with-counts.ensures.few.0 c.with-counts.ensures.few.1 c.with-counts.ensures.few.2 c.next_part-next.ensures.finds c.next_part-next.ensures.ahead in
     subst (λ (x : List ℕ). Going c.args.bytes.now c.args.first x c.with-counts.result c.next_part-next.result) c.deref.ensures.value next
 
 pub returns-clause-told : goal.returns-clause-told

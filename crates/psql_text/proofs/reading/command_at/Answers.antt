@@ -2,7 +2,7 @@ use Rattle.std.proofs.Common.{arith}
 use Rattle.std.proofs.lemmas.Str.{IsCharBoundary-before_ascii}
 use Rattle.psql_text.specs.Psql.Reads.{command}
 use Rattle.psql_text.specs.Reading.{state}
-use Rattle.psql_text.proofs.Places.{is_backslash, command_some, line_whole}
+use Rattle.psql_text.proofs.Places.{is_backslash_at, command_some, line_whole}
 use Rattle.psql_text.proofs.reading.command_at.Goals as goal
 
 pub returns-clause-goes : goal.returns-clause-goes
@@ -15,8 +15,8 @@ returns-clause-moves c =
     let end = c.line_end-end.result in
     let line = c.line_end-end.ensures in
     let place = c.requires.place in
-    let some = command_some t at end c.requires.begins c.requires.within line in
-    let backslash = is_backslash t at c.requires.begins in
+    let backslash = is_backslash_at t at c.requires.begins in
+    let some = command_some t at end backslash c.requires.within line in
     record {
       at = some;
       place = record { at = line.within; taken = place.taken; opened = omega (arith, place.opened); closed = omega (arith, place.closed) };

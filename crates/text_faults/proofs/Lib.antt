@@ -1,0 +1,4 @@
+pub mod Backslashes
+pub mod Places
+pub mod Ranges
+pub mod Going

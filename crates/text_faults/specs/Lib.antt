@@ -1,0 +1,3 @@
+pub mod Backslash
+pub mod Faults
+pub mod Joined
