@@ -39,7 +39,7 @@ LAYERS = [
     ("Output", "Each format is a crate `report_..`; `check_print` chooses one.",
      "source_file checked_file report_* json_value check_print gate_report text_diff psql_edit fix_output rule_pages"),
     ("Commands", "A crate `.._command` for each command, over any streams and files; `lavkheto` gives them those of the system.",
-     "check_run check_baseline baseline_file check_setup check_progress text_faults file_answer *_command fix_run fix_asked lavkheto"),
+     "check_run check_baseline baseline_file check_setup check_progress file_answer *_command fix_run fix_asked lavkheto"),
     ("Language server", "The protocol as a state machine, with JSON, frames and the linter around it.",
      "text_utf16 lsp_*"),
     ("Older paths", "They only pass names on, so that older paths still work.",

@@ -18,7 +18,7 @@ use Rattle.law_reports.specs.sql_token.declared.token.Tok.{Tok}
 use Rattle.law_reports.specs.sql_token.Token.{Lexed, Text}
 use Rattle.law_reports.specs.text_pos.Range.{Range}
 use Rattle.law_reports.specs.text_reports.Placed.{IsReportPlaced}
-use Rattle.text_faults.specs.Faults.{IsFault}
+use Rattle.file_answer.specs.Faults.{IsFault}
 use Rattle.file_answer.specs.declared.text.Found.{Found}
 use Rattle.file_answer.specs.Found.{IsFoundIn}
 use Rattle.file_answer.specs.Reading.{IsReadBy}

@@ -13,8 +13,8 @@ use Rattle.law_reports.specs.sql_read.Cause.{IsTreeOf}
 use Rattle.law_reports.specs.sql_tree.Statement.{Tree}
 use Rattle.law_reports.specs.text_reports.declared.find.TextLinter.{TextLinter}
 use Rattle.law_reports.specs.text_reports.Reports.{all_reports}
-use Rattle.text_faults.specs.Backslash.{first_backslash}
-use Rattle.text_faults.specs.Faults.{AreFaultsOf, IsFault}
+use Rattle.file_answer.specs.Backslash.{first_backslash}
+use Rattle.file_answer.specs.Faults.{AreFaultsOf, IsFault}
 use Rattle.file_answer.specs.Reading.{IsReadBy}
 
 -- all that is reported of a text, which has one tree, and no command of psql that was not read

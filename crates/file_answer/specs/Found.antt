@@ -6,7 +6,7 @@ use Rattle.check_run.specs.checked_file.Sound.{IsReportIn}
 use Rattle.check_run.specs.source_file.Refusals.{place_of}
 use Rattle.law_reports.specs.sql_token.Token.{Text}
 use Rattle.law_reports.specs.text_reports.declared.find.TextLinter.{TextLinter}
-use Rattle.text_faults.specs.Faults.{IsFault}
+use Rattle.file_answer.specs.Faults.{IsFault}
 use Rattle.file_answer.specs.Answers.{AreReportsOf, IsAnswerOf, IsPartOf}
 use Rattle.file_answer.specs.declared.text.Outcome.{Outcome}
 use Rattle.file_answer.specs.declared.text.Outcome.TheVariants as outcome

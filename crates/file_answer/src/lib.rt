@@ -1,11 +1,17 @@
 //! Lints the bytes of a file.
 //!
-//! `specs/Answers.antt` says what is read from bytes, and what is reported of it.
+//! `specs/Answers.antt` says what is read from bytes, and what is reported of it; `Faults` why a text can't be read, and which of its statements
+//! have a fault; and `Joined` which its statements are.
 #![tactic(auto)]
 
 mod answer;
+mod backslash;
+mod fault;
+mod joined;
 mod linter;
+mod range;
 mod read;
+mod statements;
 mod text;
 
 pub use answer::lint_bytes;

@@ -3,13 +3,15 @@ ghost use Rattle.std.specs.Prelude.{◌≡◌, ◌<◌, ◌^◌, IfOk, length};
 ghost use Rattle.std.specs.Str.{IsCharBoundary};
 ghost use Rattle.check_run.specs.source_file.Refusals.{place_of};
 ghost use Rattle.law_reports.specs.sql_read.Cause.{IsTreeOf};
-ghost use Rattle.text_faults.specs.Faults.{IsFault};
+ghost use Rattle.file_answer.specs.Faults.{IsFault};
 ghost use Rattle.file_answer.specs.Found.{IsFound, IsFoundIn, IsOutcomeIn, IsOutcomeOf};
 
+use crate::backslash::first_backslash;
+use crate::fault::refusal_of;
+use crate::statements::without_faults;
 use check_run::{Refusal, Report};
 use law_reports::{NoMemory, Parse, TextLinter, TextSize, find_reports, parse};
 use std::alloc::Global;
-use text_faults::{first_backslash, refusal_of, without_faults};
 
 // What comes of a text as a whole.
 #[derive(Drop)]

@@ -2,19 +2,19 @@
 
 ghost use Rattle.std.specs.Prelude.{◌≡◌, ◌<◌, ◌^◌, IfOk, IfSome, MatchOption, length};
 ghost use Rattle.std.specs.Str.{IsCharBoundary};
-ghost use Rattle.source_file.specs.Refusals.{place_of};
-ghost use Rattle.sql_read.specs.Cause.{IsCause, IsTreeOf};
-ghost use Rattle.text_faults.specs.Faults.{IsFault, IsReadable};
+ghost use Rattle.check_run.specs.source_file.Refusals.{place_of};
+ghost use Rattle.law_reports.specs.sql_read.Cause.{IsCause, IsTreeOf};
+ghost use Rattle.file_answer.specs.Faults.{IsFault, IsReadable};
 
 use crate::backslash::first_backslash;
-use source_file::Refusal;
-use sql_read::sql_tree::Parse;
-use sql_read::{LintError, NoMemory, TextSize, parse};
+use check_run::Refusal;
+use law_reports::sql_read::sql_tree::Parse;
+use law_reports::sql_read::{LintError, NoMemory, TextSize, parse};
 use std::alloc::Global;
 
 /// Why a text can't be read, by what its reader says. The error comes where that is that memory ran out.
 #[tactic(auto, using(crate::proofs::Places::open_in, crate::proofs::Places::syntax_in))]
-pub fn refusal_of(text: &str, error: LintError) -> Result<Refusal, NoMemory>
+pub(crate) fn refusal_of(text: &str, error: LintError) -> Result<Refusal, NoMemory>
     requires short { length text.now < 2 ^ 32 }
     requires cause { IsCause text.now error }
     ensures fault { IfOk result (IsFault text.now) }

@@ -3,10 +3,10 @@
 ghost use Rattle.std.specs.Prelude.{◌≡◌, ◌<◌, IfSome, length, slice_index};
 ghost use Rattle.std.specs.List.{position};
 ghost use Rattle.std.specs.Str.{IsCharBoundary};
-ghost use Rattle.text_faults.specs.Backslash as spec;
+ghost use Rattle.file_answer.specs.Backslash as spec;
 
-use sql_read::sql_tree::Parse;
-use sql_read::{TextSize, Tok, TokKind};
+use law_reports::sql_read::sql_tree::Parse;
+use law_reports::sql_read::{TextSize, Tok, TokKind};
 
 fn is_other(kind: TokKind) -> bool
     ensures { result ≡ spec.is_other kind }
@@ -48,7 +48,7 @@ fn start_of(p: &Parse<'_>, n: usize) -> u32
 
 /// The place of the first token that is a backslash.
 #[tactic(auto, using(crate::proofs::Backslashes::boundary, crate::proofs::Backslashes::first, crate::proofs::Backslashes::none))]
-pub fn first_backslash(p: &Parse<'_>) -> Option<TextSize>
+pub(crate) fn first_backslash(p: &Parse<'_>) -> Option<TextSize>
     ensures place { result ≡ spec.first_backslash p.now }
     ensures boundary { IfSome result (IsCharBoundary p.now.text) }
 {

@@ -1,12 +1,12 @@
 //! The bytes of a statement.
 
 ghost use Rattle.std.specs.Prelude.{◌≡◌, ◌≤◌, length, true};
-ghost use Rattle.source_file.specs.File.{IsRangeIn};
-ghost use Rattle.sql_read.specs.sql_token.Token.{Lexed};
-ghost use Rattle.sql_read.specs.sql_tree.Range.{span_range_of, token_at};
-ghost use Rattle.text_faults.specs.Faults as spec;
+ghost use Rattle.check_run.specs.source_file.File.{IsRangeIn};
+ghost use Rattle.law_reports.specs.sql_read.sql_token.Token.{Lexed};
+ghost use Rattle.law_reports.specs.sql_read.sql_tree.Range.{span_range_of, token_at};
+ghost use Rattle.file_answer.specs.Faults as spec;
 
-use sql_read::{Span, TextRange, TextSize, Tok, TokKind};
+use law_reports::sql_read::{Span, TextRange, TextSize, Tok, TokKind};
 
 // The token of this number; past the last one, an empty token at the start of the text.
 fn token_at(toks: &[Tok], number: u32) -> Tok

@@ -1,6 +1,6 @@
 use Rattle.std.proofs.Common.{List, ◌≤◌, ℕ, length, sym, subst}
-use Rattle.text_faults.proofs.Ranges.{span_in}
-use Rattle.text_faults.proofs.range.range_of.Goals as goal
+use Rattle.file_answer.proofs.Ranges.{span_in}
+use Rattle.file_answer.proofs.range.range_of.Goals as goal
 
 pub ends_in_semicolon-requires : goal.ends_in_semicolon-requires
 ends_in_semicolon-requires c =

@@ -1,10 +1,10 @@
 use Rattle.std.proofs.Common.{ℕ, subst, sym}
 use Rattle.std.specs.Str.{IsCharBoundary}
-use Rattle.sql_read.specs.Cause.{IsCause}
-use Rattle.sql_read.specs.declared.error.LintError.{LintError}
-use Rattle.sql_read.specs.declared.error.LintError.TheVariants.{Syntax}
-use Rattle.text_faults.proofs.Places.{syntax_in}
-use Rattle.text_faults.proofs.fault.refusal_of.Goals as goal
+use Rattle.law_reports.specs.sql_read.Cause.{IsCause}
+use Rattle.law_reports.specs.sql_read.declared.error.LintError.{LintError}
+use Rattle.law_reports.specs.sql_read.declared.error.LintError.TheVariants.{Syntax}
+use Rattle.file_answer.proofs.Places.{syntax_in}
+use Rattle.file_answer.proofs.fault.refusal_of.Goals as goal
 
 pub returns-in-Syntax-clause-placed : goal.returns-in-Syntax-clause-placed
 returns-in-Syntax-clause-placed c =

@@ -1,8 +1,8 @@
 use Rattle.std.proofs.Common.{◌≡◌, ◌++◌, length, None}
-use Rattle.sql_read.specs.sql_token.Depth.{statements}
-use Rattle.sql_read.specs.sql_token.Terminal.{terminals}
-use Rattle.text_faults.specs.Joined.{joined}
-use Rattle.text_faults.proofs.joined.spans_of.Given as goal
+use Rattle.law_reports.specs.sql_read.sql_token.Depth.{statements}
+use Rattle.law_reports.specs.sql_read.sql_token.Terminal.{terminals}
+use Rattle.file_answer.specs.Joined.{joined}
+use Rattle.file_answer.proofs.joined.spans_of.Given as goal
 
 -- the statements so far, and those that are left
 abbrev pub invariant-statements : goal.invariant-statements

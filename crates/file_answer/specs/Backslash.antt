@@ -2,12 +2,12 @@
 -- not read.
 use Rattle.std.specs.Prelude.{◌≡◌, ℕ, ◌==◌, Bool, true, false, ◌&&◌, slice_index, slice_index_or, option_map, Option, Some}
 use Rattle.std.specs.List.{position}
-use Rattle.sql_read.specs.Cause.{IsTreeOf}
-use Rattle.sql_read.specs.sql_token.declared.token.Tok.{Tok}
-use Rattle.sql_read.specs.sql_token.declared.token.TokKind.{TokKind}
-use Rattle.sql_read.specs.sql_token.declared.token.TokKind.TheVariants.{Other}
-use Rattle.sql_read.specs.sql_token.Token.{Text}
-use Rattle.sql_read.specs.sql_tree.Statement.{Tree, no_token}
+use Rattle.law_reports.specs.sql_read.Cause.{IsTreeOf}
+use Rattle.law_reports.specs.sql_read.sql_token.declared.token.Tok.{Tok}
+use Rattle.law_reports.specs.sql_read.sql_token.declared.token.TokKind.{TokKind}
+use Rattle.law_reports.specs.sql_read.sql_token.declared.token.TokKind.TheVariants.{Other}
+use Rattle.law_reports.specs.sql_read.sql_token.Token.{Text}
+use Rattle.law_reports.specs.sql_read.sql_tree.Statement.{Tree, no_token}
 
 abbrev pub is_other : TokKind → Bool
 is_other Other = true

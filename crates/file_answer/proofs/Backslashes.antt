@@ -8,9 +8,9 @@ use Rattle.std.proofs.lemmas.Bool.Decides.{nat_tests}
 use Rattle.std.proofs.lemmas.List.{get_or_past}
 use Rattle.std.proofs.lemmas.List.Quantifiers.{position-Some}
 use Rattle.std.proofs.lemmas.Str.{IsCharBoundary-before_ascii}
-use Rattle.sql_read.specs.sql_token.Token.{Text}
-use Rattle.sql_read.specs.sql_tree.Statement.{Tree, no_token}
-use Rattle.text_faults.specs.Backslash.{first_backslash, is_backslash, is_other, start_of}
+use Rattle.law_reports.specs.sql_read.sql_token.Token.{Text}
+use Rattle.law_reports.specs.sql_read.sql_tree.Statement.{Tree, no_token}
+use Rattle.file_answer.specs.Backslash.{first_backslash, is_backslash, is_other, start_of}
 
 same_number : (a b : ℕ) → (a == b) ≡ true → a ≡ b
 same_number a b h = grind (arith, nat_tests)

@@ -3,17 +3,17 @@ use Rattle.std.specs.Prelude.{◌≡◌, ◌⊎◌, ℕ, ◌+◌, ◌-◌, ◌==
 use Rattle.psql_text.specs.Psql.{blanked}
 use Rattle.psql_text.specs.declared.part.Part.{Part}
 use Rattle.psql_text.specs.declared.part.PartKind.TheVariants.{Command}
-use Rattle.source_file.specs.declared.refusal.Refusal.{Refusal}
-use Rattle.source_file.specs.declared.refusal.Refusal.TheVariants.{Missing, Unreadable, NotUtf8, TooLong, Unterminated, Syntax}
-use Rattle.sql_read.specs.Cause.{IsTreeOf}
-use Rattle.sql_read.specs.sql_token.declared.token.Span.{Span}
-use Rattle.sql_read.specs.sql_token.declared.token.Tok.{Tok}
-use Rattle.sql_read.specs.sql_token.Token.{Lexed, OpenAt, Text}
-use Rattle.sql_read.specs.sql_tree.Range.{span_range_of}
-use Rattle.sql_read.specs.sql_tree.Statement.{IsSyntaxAt, Tree}
-use Rattle.sql_read.specs.text_pos.Range.{Range}
-use Rattle.text_faults.specs.Backslash.{IsBackslashAt, first_backslash}
-use Rattle.text_faults.specs.Joined.{spans_of}
+use Rattle.check_run.specs.source_file.declared.refusal.Refusal.{Refusal}
+use Rattle.check_run.specs.source_file.declared.refusal.Refusal.TheVariants.{Missing, Unreadable, NotUtf8, TooLong, Unterminated, Syntax}
+use Rattle.law_reports.specs.sql_read.Cause.{IsTreeOf}
+use Rattle.law_reports.specs.sql_read.sql_token.declared.token.Span.{Span}
+use Rattle.law_reports.specs.sql_read.sql_token.declared.token.Tok.{Tok}
+use Rattle.law_reports.specs.sql_read.sql_token.Token.{Lexed, OpenAt, Text}
+use Rattle.law_reports.specs.sql_read.sql_tree.Range.{span_range_of}
+use Rattle.law_reports.specs.sql_read.sql_tree.Statement.{IsSyntaxAt, Tree}
+use Rattle.law_reports.specs.sql_read.text_pos.Range.{Range}
+use Rattle.file_answer.specs.Backslash.{IsBackslashAt, first_backslash}
+use Rattle.file_answer.specs.Joined.{spans_of}
 
 -- ---- a text
 

@@ -1,6 +1,6 @@
 use Rattle.std.proofs.Common.{◌≡◌, length}
-use Rattle.text_faults.specs.Joined.{has_body}
-use Rattle.text_faults.proofs.joined.has_body.Given as goal
+use Rattle.file_answer.specs.Joined.{has_body}
+use Rattle.file_answer.proofs.joined.has_body.Given as goal
 
 -- what is left has a body where all has one
 abbrev pub invariant-left : goal.invariant-left

@@ -1,12 +1,12 @@
 -- The statements of a text, as those are joined that are one. A body in BEGIN ATOMIC .. END has statements of its own.
 use Rattle.std.specs.Prelude.{Bool, false, not, ◌&&◌, ◌||◌, List, [], ◌∷◌, Option, Some, None, if◌then◌else◌}
-use Rattle.sql_read.specs.sql_token.declared.terminal.Terminal.{Terminal}
-use Rattle.sql_read.specs.sql_token.declared.token.Span.{Span}
-use Rattle.sql_read.specs.sql_token.declared.token.Tok.{Tok}
-use Rattle.sql_read.specs.sql_token.Depth.{span_of, statements}
-use Rattle.sql_read.specs.sql_token.sql_keyword.declared.words.TheConstants.Keyword as keyword
-use Rattle.sql_read.specs.sql_token.Terminal.{is_keyword, terminals}
-use Rattle.sql_read.specs.sql_token.Token.{Text}
+use Rattle.law_reports.specs.sql_read.sql_token.declared.terminal.Terminal.{Terminal}
+use Rattle.law_reports.specs.sql_read.sql_token.declared.token.Span.{Span}
+use Rattle.law_reports.specs.sql_read.sql_token.declared.token.Tok.{Tok}
+use Rattle.law_reports.specs.sql_read.sql_token.Depth.{span_of, statements}
+use Rattle.law_reports.specs.sql_read.sql_token.sql_keyword.declared.words.TheConstants.Keyword as keyword
+use Rattle.law_reports.specs.sql_read.sql_token.Terminal.{is_keyword, terminals}
+use Rattle.law_reports.specs.sql_read.sql_token.Token.{Text}
 
 -- they begin with END
 abbrev pub begins_end : List Terminal → Bool

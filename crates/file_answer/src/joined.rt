@@ -1,10 +1,10 @@
 //! The statements of a text, as those are joined that are one.
 
 ghost use Rattle.std.specs.Prelude.{◌≡◌, ◌++◌, ◌<◌, ◌^◌, [], IfOk, OnOk, length};
-ghost use Rattle.sql_read.specs.sql_token.Token.{Lexed};
-ghost use Rattle.text_faults.specs.Joined as spec;
+ghost use Rattle.law_reports.specs.sql_read.sql_token.Token.{Lexed};
+ghost use Rattle.file_answer.specs.Joined as spec;
 
-use sql_read::{Keyword, NoMemory, Span, Statements, Terminal, Tok, span_of};
+use law_reports::sql_read::{Keyword, NoMemory, Span, Statements, Terminal, Tok, span_of};
 use std::alloc::Global;
 
 fn begins_end(terminals: &[Terminal]) -> bool

@@ -1,8 +1,8 @@
 use Rattle.std.proofs.Common.{All}
 use Rattle.std.specs.Str.{IsCharBoundary}
-use Rattle.source_file.specs.Refusals.{place_of}
-use Rattle.text_faults.proofs.Going.{Going, StaysWhole}
-use Rattle.text_faults.proofs.statements.blank_faults.Given as goal
+use Rattle.check_run.specs.source_file.Refusals.{place_of}
+use Rattle.file_answer.proofs.Going.{Going, StaysWhole}
+use Rattle.file_answer.proofs.statements.blank_faults.Given as goal
 
 -- the faults of the statements so far, and the text in which those are blank that have one
 abbrev pub invariant-loop-span : goal.invariant-loop-span

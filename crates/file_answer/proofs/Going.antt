@@ -7,14 +7,14 @@ use Rattle.psql_text.proofs.Blanks.{all_stays, length-blanked, utf8-blanked}
 use Rattle.psql_text.specs.Laws.{IsSameOrBlank}
 use Rattle.psql_text.specs.Psql.{blanked}
 use Rattle.psql_text.specs.declared.part.Part.{Part}
-use Rattle.source_file.specs.declared.refusal.Refusal.{Refusal}
-use Rattle.source_file.specs.File.{IsRangeIn}
-use Rattle.sql_read.specs.sql_token.declared.token.Span.{Span}
-use Rattle.sql_read.specs.sql_token.declared.token.Tok.{Tok}
-use Rattle.sql_read.specs.sql_token.Token.{Text}
-use Rattle.sql_read.specs.text_pos.Range.{Range}
-use Rattle.text_faults.specs.Faults.{HaveFaults, IsFaultIn, IsReadable, range_of, whole_part}
-use Rattle.text_faults.specs.Faults.HaveFaults.{none, read, fault}
+use Rattle.check_run.specs.source_file.declared.refusal.Refusal.{Refusal}
+use Rattle.check_run.specs.source_file.File.{IsRangeIn}
+use Rattle.law_reports.specs.sql_read.sql_token.declared.token.Span.{Span}
+use Rattle.law_reports.specs.sql_read.sql_token.declared.token.Tok.{Tok}
+use Rattle.law_reports.specs.sql_read.sql_token.Token.{Text}
+use Rattle.law_reports.specs.sql_read.text_pos.Range.{Range}
+use Rattle.file_answer.specs.Faults.{HaveFaults, IsFaultIn, IsReadable, range_of, whole_part}
+use Rattle.file_answer.specs.Faults.HaveFaults.{none, read, fault}
 
 -- The statements up to the one of this number have these faults, and these bytes are the text with those blank that have one: what the
 -- others have comes after these.

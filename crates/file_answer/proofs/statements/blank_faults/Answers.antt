@@ -2,13 +2,13 @@ use Rattle.std.proofs.Common.{◌≡◌, ◌∙◌, ◌+◌, All, List, Option, 
 use Rattle.std.proofs.lemmas.List.Elements.{All-push}
 use Rattle.std.specs.Prelude.{MatchOption, IfSome, slice_range}
 use Rattle.std.specs.Str.{IsCharBoundary}
-use Rattle.source_file.specs.declared.refusal.Refusal.{Refusal}
-use Rattle.source_file.specs.Refusals.{place_of}
-use Rattle.sql_read.specs.sql_token.Token.{Text}
-use Rattle.text_faults.specs.Faults.{IsFaultIn, IsReadable}
-use Rattle.text_faults.proofs.Going.{Going, StaysWhole, all_read, fault_on, read_on, whole_blanked}
-use Rattle.text_faults.proofs.statements.blank_faults.Goals as goal
-use Rattle.text_faults.proofs.statements.blank_faults.Goals.{in-Some+in_ok-push, in_default}
+use Rattle.check_run.specs.source_file.declared.refusal.Refusal.{Refusal}
+use Rattle.check_run.specs.source_file.Refusals.{place_of}
+use Rattle.law_reports.specs.sql_read.sql_token.Token.{Text}
+use Rattle.file_answer.specs.Faults.{IsFaultIn, IsReadable}
+use Rattle.file_answer.proofs.Going.{Going, StaysWhole, all_read, fault_on, read_on, whole_blanked}
+use Rattle.file_answer.proofs.statements.blank_faults.Goals as goal
+use Rattle.file_answer.proofs.statements.blank_faults.Goals.{in-Some+in_ok-push, in_default}
 
 pub loop-span-preserved : goal.loop-span-preserved
 loop-span-preserved c =

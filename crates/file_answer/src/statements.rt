@@ -3,28 +3,28 @@
 ghost use Rattle.std.specs.Prelude.{◌≡◌, ◌+◌, ◌<◌, ◌^◌, All, IfOk, IfSome, List, MatchOption, length, slice_range, string_bytes};
 ghost use Rattle.std.specs.Str.{IsCharBoundary, IsUtf8};
 ghost use Rattle.psql_text.specs.Psql.{blanked};
-ghost use Rattle.source_file.specs.File.{IsRangeIn};
-ghost use Rattle.source_file.specs.Refusals.{place_of};
-ghost use Rattle.sql_read.specs.sql_token.Token.{Lexed};
-ghost use Rattle.sql_read.specs.sql_token.declared.token.Tok.{Tok};
-ghost use Rattle.text_faults.specs.Faults as spec;
-ghost use Rattle.text_faults.specs.Faults.{AreFaultsOf, HaveFaults, IsFaultIn, IsReadable, whole_part};
+ghost use Rattle.check_run.specs.source_file.File.{IsRangeIn};
+ghost use Rattle.check_run.specs.source_file.Refusals.{place_of};
+ghost use Rattle.law_reports.specs.sql_read.sql_token.Token.{Lexed};
+ghost use Rattle.law_reports.specs.sql_read.sql_token.declared.token.Tok.{Tok};
+ghost use Rattle.file_answer.specs.Faults as spec;
+ghost use Rattle.file_answer.specs.Faults.{AreFaultsOf, HaveFaults, IsFaultIn, IsReadable, whole_part};
 
 use crate::fault::fault_of;
 use crate::joined::spans_of;
 use crate::range::range_of;
+use check_run::Refusal;
+use law_reports::sql_read::{LexError, NoMemory, Span, TextRange, TextSize, Tok, lex};
 use psql_text::{Part, PartKind, blank_out};
-use source_file::Refusal;
-use sql_read::{LexError, NoMemory, Span, TextRange, TextSize, Tok, lex};
 use std::alloc::Global;
 
 /// The faults of a text, and the text without the statements that have them.
 #[derive(Drop)]
-pub struct Faults {
+pub(crate) struct Faults {
     /// Where the statements can't be read: one fault for each of these, in their order.
-    pub faults: Vec<Refusal>,
+    pub(crate) faults: Vec<Refusal>,
     /// The text, in which these statements are blank.
-    pub text: String,
+    pub(crate) text: String,
 }
 
 // The place at a distance from another one.
@@ -131,7 +131,7 @@ fn tokens(alloc: Global, text: &str) -> Result<Vec<Tok>, NoMemory>
 
 /// The faults of the statements of a text, each of which is read by itself, and the text in which those that have one are blank. Each
 /// token of the text closes. The error comes when memory runs out.
-pub fn without_faults(alloc: Global, text: &str) -> Result<Faults, NoMemory>
+pub(crate) fn without_faults(alloc: Global, text: &str) -> Result<Faults, NoMemory>
     requires short { length text.now < 2 ^ 32 }
     requires lexed { (toks : List Tok) × Lexed text.now toks }
     ensures faults { IfOk result (λ found. AreFaultsOf text.now found.faults.items (string_bytes found.text)) }

@@ -8,17 +8,17 @@ use Rattle.std.proofs.lemmas.List.{get_or-drop, get_or-take}
 use Rattle.std.proofs.lemmas.Str.{IsCharBoundary-before_ascii, IsCharBoundary-start}
 use Rattle.std.proofs.Math.ListN.{get_or-eq_default}
 use Rattle.std.proofs.Math.Nat.{max-eq_left, max-eq_right}
-use Rattle.source_file.specs.declared.refusal.Refusal.{Refusal}
-use Rattle.source_file.specs.declared.refusal.Refusal.TheVariants.{Missing, Unreadable, NotUtf8, TooLong, Unterminated, Syntax}
-use Rattle.source_file.specs.File.{IsRangeIn}
-use Rattle.source_file.specs.Refusals.{place_of}
-use Rattle.sql_read.proofs.of_sql_token.Boundaries.{token_between}
-use Rattle.sql_read.specs.sql_token.declared.token.Tok.{Tok}
-use Rattle.sql_read.specs.sql_token.Token.{Lexed, Text}
-use Rattle.sql_read.specs.sql_tree.Range.{span_range_of, token_at}
-use Rattle.sql_read.specs.sql_tree.Statement.{no_token}
-use Rattle.sql_read.specs.text_pos.Range.{Range}
-use Rattle.text_faults.specs.Faults.{IsFault, cut_short, ends_in_semicolon, moved}
+use Rattle.check_run.specs.source_file.declared.refusal.Refusal.{Refusal}
+use Rattle.check_run.specs.source_file.declared.refusal.Refusal.TheVariants.{Missing, Unreadable, NotUtf8, TooLong, Unterminated, Syntax}
+use Rattle.check_run.specs.source_file.File.{IsRangeIn}
+use Rattle.check_run.specs.source_file.Refusals.{place_of}
+use Rattle.sql_token.proofs.Boundaries.{token_between}
+use Rattle.law_reports.specs.sql_read.sql_token.declared.token.Tok.{Tok}
+use Rattle.law_reports.specs.sql_read.sql_token.Token.{Lexed, Text}
+use Rattle.law_reports.specs.sql_read.sql_tree.Range.{span_range_of, token_at}
+use Rattle.law_reports.specs.sql_read.sql_tree.Statement.{no_token}
+use Rattle.law_reports.specs.sql_read.text_pos.Range.{Range}
+use Rattle.file_answer.specs.Faults.{IsFault, cut_short, ends_in_semicolon, moved}
 
 -- ---- from token to token
 

@@ -1,4 +1,0 @@
-pub mod Backslashes
-pub mod Places
-pub mod Ranges
-pub mod Going

@@ -1,3 +1,0 @@
-pub mod Backslash
-pub mod Faults
-pub mod Joined
