@@ -1,4 +1,4 @@
-//! The words of `lavkheto check`: what they ask for.
+//! The arguments of `lavkheto check`: what they ask for.
 //!
 //! `specs/Asked.antt` says what words ask for. The words that choose rules, hazards and settings are kept as they are for
 //! `code_choice`, which reads them.

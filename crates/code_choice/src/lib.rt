@@ -1,4 +1,4 @@
-//! Which rules and which hazards words choose, and the linter's settings.
+//! Which rules and which hazards the arguments choose, and the linter's settings.
 //!
 //! The words are those of `squawk_words`, in which lists of rules may name hazards too, and `--no-hazards`. `specs/Choices.antt` says what
 //! they choose.

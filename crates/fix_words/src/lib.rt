@@ -1,4 +1,4 @@
-//! The words of `lavkheto fix`: what they ask for, or what is wrong with the first one that is refused.
+//! The arguments of `lavkheto fix`: what they ask for, or what is wrong with the first one that is refused.
 //!
 //! `specs/Steps.antt` says what one word adds, `Asked` what all ask for, and `Faults` the line about a word that is refused.
 #![tactic(auto)]

@@ -8,8 +8,8 @@ use Rattle.lint_ignore.specs.sql_tree.Statement.{Tree}
 use Rattle.lint_transaction.specs.Earlier.{any_below, since}
 use Rattle.lint_transaction.specs.Transaction.{is_path, same_path, stmt_at}
 use Rattle.lint_transaction.proofs.EarlierLaws.{or_swap, since-suc}
-use Rattle.lint_transaction.specs.Created.{IsKnown}
 use Rattle.lint_transaction.specs.SpanSet.{has_span}
+use Rattle.lint_transaction.specs.Tracking.{IsTracking}
 use Rattle.hazard_find.specs.Earlier.{drops, is_dropped, is_limited, is_made, is_temporary, last_cut, lock_timeout, made_view, statement_timeout, temporary_by}
 use Rattle.hazard_find.specs.Timeouts.{changes, limits}
 use Rattle.hazard_find.specs.Walk.{IsKept, Kept}
@@ -63,7 +63,7 @@ name_more tree name paths i d was old new within o n =
 
 -- what is kept after one more statement
 pub kept_next : (tree : Tree) (assumed : Bool) (i : ℕ) (s : Stmt) (old new : Kept) → s ≡ stmt_at tree i
-    → ((b : Bool) (n : ℕ) → s ≡ stmt_at tree n → IsKnown tree b n old.created → IsKnown tree b (n + 1) new.created)
+    → ((b : Bool) (n : ℕ) → s ≡ stmt_at tree n → IsTracking tree b n old.created → IsTracking tree b (n + 1) new.created)
     → ((path : List (List ℕ)) → has_span tree new.temporary path ≡ (is_path tree (temporary_by s.body) path || has_span tree old.temporary path))
     → ((name : List (List ℕ)) → has_span tree new.dropped name ≡ (drops tree name s || has_span tree old.dropped name))
     → ((path : List (List ℕ)) → has_span tree new.made path ≡ (is_path tree (made_view tree s) path || has_span tree old.made path))

@@ -1,10 +1,9 @@
 //! What earlier statements say, as a walk over the statements of one tree keeps it.
 
-ghost use Rattle.std.specs.Prelude.{◌≡◌, ◌+◌, ◌||◌, ℕ, Bool, List, true, OnOk, OnErr};
+ghost use Rattle.std.specs.Prelude.{◌≡◌, ◌+◌, ◌||◌, ℕ, Bool, List, true, IfOk, OnOk, OnErr};
 ghost use Rattle.std.specs.List.{list_any};
 ghost use Rattle.lint_ignore.specs.sql_tree.Path.{path_cuts};
 ghost use Rattle.lint_ignore.specs.sql_tree.Statement.{Tree};
-ghost use Rattle.lint_transaction.specs.Created.{IsKnown};
 ghost use Rattle.lint_transaction.specs.SpanSet.{has_span};
 ghost use Rattle.lint_transaction.specs.Transaction.{is_open, is_path, same_path, stmt_at};
 ghost use Rattle.lint_transaction.specs.declared.span_key.SpanKey.TheVariants as by;
@@ -17,7 +16,7 @@ use crate::timeouts::is_set_after;
 use hazard_base::NoMemory;
 use lint_ignore::{Body, Keyword, Parse, Span, Stmt, StmtKind};
 use lint_node::same_kind;
-use lint_transaction::{CreatedTables, SpanKey, SpanSet};
+use lint_transaction::{SpanKey, SpanSet, TablesCreatedInTransaction};
 use std::alloc::Global;
 use std::marker::Model;
 
@@ -149,10 +148,10 @@ fn insert_made(set: &mut SpanSet, p: &Parse<'_>, s: &Stmt) -> Result<(), NoMemor
     insert_path(set, p, made_view(p, s))
 }
 
-/// What earlier statements say. It holds no text.
+/// What earlier statements say.
 #[derive(Drop)]
-pub(crate) struct Earlier {
-    created: CreatedTables,
+pub(crate) struct Earlier<'t> {
+    created: TablesCreatedInTransaction<'t>,
     temporary: SpanSet,
     dropped: SpanSet,
     made: SpanSet,
@@ -160,7 +159,7 @@ pub(crate) struct Earlier {
     statement_limited: bool,
 }
 
-impl Model for Earlier {
+impl<'t> Model for Earlier<'t> {
     ghost use Rattle.std.specs.Prelude.{◌≡◌};
     ghost use Rattle.hazard_find.specs.Walk.{Kept};
     ghost use Rattle.lint_transaction.specs.declared.span_key.SpanKey.TheVariants as by;
@@ -172,13 +171,13 @@ impl Model for Earlier {
     ghost invariant = { λ e. (e.temporary.key ≡ by.Path) × (e.dropped.key ≡ by.Path) × (e.made.key ≡ by.Path) };
 }
 
-impl Earlier {
+impl<'t> Earlier<'t> {
     /// Before the first statement.
-    pub fn new(alloc: Global, assumed: bool) -> Earlier
+    pub fn new(alloc: Global, assumed: bool) -> Earlier<'t>
         ensures { (tree : Tree) → IsKept tree assumed 0 result }
     {
         Earlier {
-            created: CreatedTables::new(alloc, assumed),
+            created: TablesCreatedInTransaction::new(alloc, assumed),
             temporary: SpanSet::new(alloc, SpanKey::Path),
             dropped: SpanSet::new(alloc, SpanKey::Path),
             made: SpanSet::new(alloc, SpanKey::Path),
@@ -194,14 +193,17 @@ impl Earlier {
         self.created.is_inside()
     }
 
-    /// Whether others may use a table.
+    /// Whether others may use a table. The only error is that memory runs out.
     #[tactic(auto, unfolding(crate::specs::Earlier::is_old))]
-    pub fn is_old(&self, p: &Parse<'_>, path: Option<Span>) -> bool
-        ensures { (assumed : Bool) (i : ℕ) → IsKept p.now assumed i self.now → result ≡ is_old assumed p.now i path }
+    pub fn is_old(&self, p: &Parse<'t>, path: Option<Span>) -> Result<bool, NoMemory>
+        ensures { IfOk result (λ b. (assumed : Bool) (i : ℕ) → IsKept p.now assumed i self.now → b ≡ is_old assumed p.now i path) }
     {
         match path {
-            Some(path) => !(self.created.contains(p, path) || self.temporary.contains(p, path)),
-            None => true,
+            Some(path) => {
+                let is_new = self.created.contains_at(p, path)?;
+                Ok(!(is_new || self.temporary.contains(p, path)))
+            }
+            None => Ok(true),
         }
     }
 
@@ -236,7 +238,7 @@ impl Earlier {
     }
 
     /// Goes past a statement. The only error is that memory runs out.
-    pub fn update(&mut self, p: &Parse<'_>, s: &Stmt) -> Result<(), NoMemory>
+    pub fn update(&mut self, p: &Parse<'t>, s: &Stmt) -> Result<(), NoMemory>
         ensures { OnOk result ((assumed : Bool) (i : ℕ) → s.now ≡ stmt_at p.now i
             → IsKept p.now assumed i self.old → IsKept p.now assumed (i + 1) self.new) }
     {

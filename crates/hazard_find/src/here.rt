@@ -1,6 +1,6 @@
 //! What is known of a statement by the settings and by the statements before it, and by the ones that look at its index later.
 
-ghost use Rattle.std.specs.Prelude.{◌≡◌, ℕ};
+ghost use Rattle.std.specs.Prelude.{◌≡◌, ℕ, IfOk};
 ghost use Rattle.lint_transaction.specs.Transaction.{stmt_at};
 ghost use Rattle.hazard_find.specs.Earlier.{is_assumed};
 ghost use Rattle.hazard_find.specs.Guards as later;
@@ -9,7 +9,7 @@ ghost use Rattle.hazard_find.specs.Walk.{IsKept};
 
 use crate::earlier::{Earlier, refreshed_view};
 use crate::guards::{Look, is_guarded};
-use hazard_base::LinterSettings;
+use hazard_base::{LinterSettings, NoMemory};
 use lint_ignore::{Body, Parse, Span, Stmt, has_disable_assume_in_transaction};
 use lint_node::altered_path;
 
@@ -91,28 +91,28 @@ fn has_more(p: &Parse<'_>) -> bool
     1 < p.tree().stmts.len()
 }
 
-/// What is known of statement `i`.
+/// What is known of statement `i`. The only error is that memory runs out.
 #[tactic(auto, unfolding(crate::specs::Here::known_at))]
-pub(crate) fn known_at(
-    earlier: &Earlier,
+pub(crate) fn known_at<'t>(
+    earlier: &Earlier<'t>,
     looks: &[Look],
-    p: &Parse<'_>,
+    p: &Parse<'t>,
     set: &LinterSettings,
     i: usize,
     s: &Stmt,
-) -> Here
+) -> Result<Here, NoMemory>
     requires statement { s.now ≡ stmt_at p.now i }
     requires looks { looks.now ≡ later.looks p.now }
-    ensures { IsKept p.now (is_assumed set.now p.now) i earlier.now → result ≡ spec.known_at set.now p.now i }
+    ensures { IfOk result (λ here. IsKept p.now (is_assumed set.now p.now) i earlier.now → here ≡ spec.known_at set.now p.now i) }
 {
-    Here {
+    Ok(Here {
         is_inside: earlier.is_inside(),
         has_more: has_more(p),
         has_repack: has_repack(set),
-        is_old: earlier.is_old(p, table_of(s)),
+        is_old: earlier.is_old(p, table_of(s))?,
         is_dropped_index: earlier.is_dropped_index(p, index_of(s)),
         is_guarded: is_guarded(p, looks, i, index_of(s)),
         is_made_view: earlier.is_made_view(p, refreshed_view(p, s)),
         is_under_timeout: earlier.is_under_timeout(),
-    }
+    })
 }

@@ -123,12 +123,12 @@ fn push_findings(
 }
 
 /// Adds the findings of statement `i`, and goes past it.
-fn step(
+fn step<'t>(
     list: &mut Vec<Finding>,
-    earlier: &mut Earlier,
+    earlier: &mut Earlier<'t>,
     looks: &[Look],
     enabled: &HazardSet,
-    p: &Parse<'_>,
+    p: &Parse<'t>,
     set: &LinterSettings,
     i: usize,
     s: &Stmt,
@@ -140,7 +140,7 @@ fn step(
     ensures found { OnOk result (IsKept p.now (is_assumed set.now p.now) i earlier.old
         → list.new.items ≡ list.old.items ++ spec.findings_at enabled.now set.now p.now i) }
 {
-    push_findings(list, enabled, known_at(earlier, looks, p, set, i, s), p, s)?;
+    push_findings(list, enabled, known_at(earlier, looks, p, set, i, s)?, p, s)?;
     earlier.update(p, s)
 }
 

@@ -1,4 +1,4 @@
-//! Whether words of the command line ask for help, or for the version.
+//! Whether the arguments ask for help, or for the version.
 //!
 //! `specs/Help.antt` says which words these are.
 #![tactic(auto)]

@@ -1,5 +1,5 @@
 -- What is printed of a finding for programs.
-use Rattle.std.specs.Prelude.{ℕ, List, [], Option, Some, None, slice_range}
+use Rattle.std.specs.Prelude.{ℕ, List, Option, Some, None, slice_range}
 use Rattle.law_printed_lines.specs.check_print.Found.{Found}
 use Rattle.law_printed_lines.specs.json_value.Values.{text_data}
 use Rattle.law_printed_lines.specs.report_gitlab.Issues.{issue_object}
@@ -9,6 +9,7 @@ use Rattle.law_printed_lines.specs.report_sarif.Results as sarif
 use Rattle.serde_json.specs.Data.{Data, Members, array, boolean, no_members, null, number, object, string}
 use Rattle.law_printed_lines.specs.source_file.File.{line_number}
 use Rattle.law_printed_lines.specs.source_file.Levels.{word_of}
+use Rattle.law_printed_lines.specs.source_file.Line.{rest_of}
 use Rattle.law_printed_lines.specs.text_pos.Range.{Range}
 
 -- ---- the statement
@@ -21,9 +22,10 @@ abbrev pub region_data : List ℕ → Option Range → Data
 region_data text None = null
 region_data text (Some range) = region text range
 
-abbrev part_of : List ℕ → Option Range → List ℕ
-part_of text None = []
-part_of text (Some range) = slice_range text range.start range.end
+-- where there is none, what is on the line from a place on
+abbrev part_of : List ℕ → ℕ → Option Range → List ℕ
+part_of text at None = rest_of text at
+part_of text at (Some range) = slice_range text range.start range.end
 
 -- ---- the finding
 
@@ -41,7 +43,7 @@ result_of f =
 
 -- the issue of GitLab
 abbrev pub issue_of : Found → Data
-issue_of f = issue_object f.file (line_number f.file.text f.range.start) f.level f.rule f.message (part_of f.file.text f.statement)
+issue_of f = issue_object f.file (line_number f.file.text f.range.start) f.level f.rule f.message (part_of f.file.text f.range.start f.statement)
 
 -- the members of an object
 abbrev pub members_in : Data → Members

@@ -7,10 +7,12 @@ ghost use Rattle.lint_pass.specs.Cleared.{IsCleared};
 
 use crate::blocks::{Block, find_blocks};
 use crate::cursor::Cursor;
+use crate::seen::Seen;
 use crate::step::StepPass;
 use crate::steps::Steps;
 use lint_base::{LinterSettings, NoMemory, Reports, RuleSet};
 use lint_ignore::Parse;
+use lint_transaction::TablesCreatedInTransaction;
 use std::alloc::Global;
 use std::marker::Brand;
 use std::sync::ledger::{Blank, Ledger};
@@ -36,7 +38,8 @@ fn wanted_blocks<P: StepPass, L: Ledger>(
 }
 
 /// Feeds a pass with the statements of a tree, in order, and adds its reports. It goes over the statements once, and once
-/// before for the blocks, where the pass looks at them. The error comes when memory runs out; then a first part of the reports has been added.
+/// before for the blocks, where the pass looks at them; and it keeps the tables that the open transaction created, which all passes
+/// ask. The error comes when memory runs out; then a first part of the reports has been added.
 pub fn drive<P: StepPass, L: Ledger>(
     alloc: Global,
     pass: &P,
@@ -55,8 +58,11 @@ pub fn drive<P: StepPass, L: Ledger>(
     let blocks = wanted_blocks(alloc, pass, rules, &mut cursor, steps)?;
     cursor.rewind();
     let mut state = pass.start(alloc, set)?;
+    let created = TablesCreatedInTransaction::new(alloc, set.assume_in_transaction);
+    let mut seen = Seen { blocks, created };
     while let Some((i, s)) = cursor.next(steps) {
-        pass.step(&mut state, p, i, s, blocks.as_slice(), rules, set, out)?;
+        pass.step(&mut state, p, i, s, &seen, rules, set, out)?;
+        seen.created.update(p, s)?;
     }
     pass.finish(alloc, state, p, rules, set, out)
 }

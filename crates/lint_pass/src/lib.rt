@@ -18,6 +18,7 @@ mod pair;
 mod pass;
 mod rule_pass;
 mod ruled;
+mod seen;
 mod statement_pass;
 mod step;
 mod steps;
@@ -35,6 +36,7 @@ pub use pair::{Pair, PairState};
 pub use pass::Pass;
 pub use rule_pass::RulePass;
 pub use ruled::{RuledRows, report_ruled};
+pub use seen::Seen;
 pub use statement_pass::StatementPass;
 pub use step::StepPass;
 pub use steps::Steps;
@@ -58,7 +60,7 @@ pub use lint_node::{
     new_constraints, path_in, same_action, same_constraint, same_kind, same_piece, table_actions,
 };
 pub use lint_transaction::{
-    CreatedTables, OpenTransaction, SpanKey, SpanMap, SpanSet, TablesCreatedInTransaction, begins,
-    chains, created, ends, histories_grow, is_listed_call, is_one_name, is_same_name, name_at,
+    OpenTransaction, SpanKey, SpanMap, SpanSet, TablesCreatedInTransaction, begins, chains,
+    created, ends, histories_grow, is_listed_call, is_one_name, is_same_name, name_at,
 };
 pub use sql_token::{Span, Tok, TokKind, first_significant};

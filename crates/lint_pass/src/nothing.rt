@@ -1,6 +1,6 @@
 //! The pass that reports nothing.
 
-use crate::blocks::Block;
+use crate::seen::Seen;
 use crate::step::StepPass;
 use lint_base::{LinterSettings, NoMemory, Reports, RuleSet};
 use lint_ignore::{Parse, Stmt};
@@ -57,7 +57,7 @@ impl StepPass for NoPass {
         _p: &Parse<'_>,
         _i: u32,
         _s: &Stmt,
-        _blocks: &[Block],
+        _seen: &Seen<'_>,
         _rules: &RuleSet,
         _set: &LinterSettings,
         _out: &mut Reports,

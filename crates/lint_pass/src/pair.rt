@@ -4,7 +4,7 @@ ghost use Rattle.std.specs.Prelude.{◌≡◌, ◌+◌, ◌<◌, ◌++◌, lengt
 ghost use Rattle.lint_base.specs.Grown.{GrownBy};
 ghost use Rattle.lint_transaction.specs.Earlier.{concat_below};
 
-use crate::blocks::Block;
+use crate::seen::Seen;
 use crate::step::StepPass;
 use lint_base::{LinterSettings, NoMemory, Reports, RuleSet};
 use lint_ignore::{Parse, Stmt};
@@ -83,19 +83,19 @@ impl<A: StepPass, B: StepPass> StepPass for Pair<A, B> {
         p: &Parse<'_>,
         i: u32,
         s: &Stmt,
-        blocks: &[Block],
+        seen: &Seen<'_>,
         rules: &RuleSet,
         set: &LinterSettings,
         out: &mut Reports,
     ) -> Result<(), NoMemory> {
         self.first
-            .step(&mut state.first, p, i, s, blocks, rules, set, out)?;
+            .step(&mut state.first, p, i, s, seen, rules, set, out)?;
         self.second.step(
             &mut state.second,
             p,
             i,
             s,
-            blocks,
+            seen,
             rules,
             set,
             &mut state.later,

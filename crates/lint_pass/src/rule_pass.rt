@@ -5,7 +5,7 @@ ghost use Rattle.lint_base.specs.Grown.{GrownBy};
 ghost use Rattle.lint_transaction.specs.Transaction.{stmt_at};
 ghost use Rattle.lint_pass.specs.Cleared.{IsCleared};
 
-use crate::blocks::Block;
+use crate::seen::Seen;
 use crate::step::StepPass;
 use lint_base::{LinterSettings, NoMemory, Reports, Rule, RuleSet};
 use lint_ignore::{Parse, Stmt};
@@ -18,6 +18,7 @@ pub trait RulePass {
     ghost use Rattle.lint_base.specs.declared.rule.Rule.{Rule};
     ghost use Rattle.lint_base.specs.declared.settings.LinterSettings.{LinterSettings};
     ghost use Rattle.lint_base.specs.declared.violation.Violation.{Violation};
+    ghost use Rattle.lint_transaction.specs.Tracking.{IsTracking};
     ghost use Rattle.lint_pass.specs.Blocks.{blocks_of};
     ghost use Rattle.lint_pass.specs.Laws.{HasCode, IsRead, IsPlacedIn};
 
@@ -54,15 +55,15 @@ pub trait RulePass {
     fn begin(&self, alloc: Global, set: &LinterSettings) -> Result<Self::Memory, NoMemory>
         ensures { IfOk result (λ m. (tree : Tree) → IsCleared tree set.now → knows self.now m tree set.now 0) };
 
-    /// Reports on statement `i`, counted from 0, and advances past it. The error comes when memory runs out; then a prefix of the
-    /// reports has been added, and the memory is of no use any more.
+    /// Reports on statement `i`, counted from 0, and advances past it, by what the walk knows before it. The error comes when memory
+    /// runs out; then a prefix of the reports has been added, and the memory is of no use any more.
     fn visit(
         &self,
         memory: &mut Self::Memory,
         p: &Parse<'_>,
         i: u32,
         s: &Stmt,
-        blocks: &[Block],
+        seen: &Seen<'_>,
         set: &LinterSettings,
         out: &mut Reports,
     ) -> Result<(), NoMemory>
@@ -70,7 +71,8 @@ pub trait RulePass {
         requires memory { knows self.now memory.old p.now set.now i }
         requires within { i < length p.now.stmts }
         requires stmt { s.now ≡ stmt_at p.now i }
-        requires blocks { wants self.now ≡ true → blocks.now ≡ blocks_of p.now }
+        requires blocks { wants self.now ≡ true → seen.now.blocks.items ≡ blocks_of p.now }
+        requires created { IsTracking p.now set.now.assume_in_transaction i seen.now.created }
         ensures memory { OnOk result (knows self.now memory.new p.now set.now (i + 1)) }
         ensures ok { OnOk result (out.new ≡ out.old ++ reports self.now p.now set.now i) }
         ensures err { OnErr result (GrownBy out.old out.new (reports self.now p.now set.now i)) };
@@ -126,7 +128,7 @@ impl<T: RulePass> StepPass for T {
         p: &Parse<'_>,
         i: u32,
         s: &Stmt,
-        blocks: &[Block],
+        seen: &Seen<'_>,
         rules: &RuleSet,
         set: &LinterSettings,
         out: &mut Reports,
@@ -134,7 +136,7 @@ impl<T: RulePass> StepPass for T {
         if !rules.contains(RulePass::code(self)) {
             return Ok(());
         }
-        self.visit(state, p, i, s, blocks, set, out)?;
+        self.visit(state, p, i, s, seen, set, out)?;
         Ok(())
     }
 

@@ -3,8 +3,8 @@
 ghost use Rattle.std.specs.Prelude.{◌≡◌, ◌++◌, OnOk, OnErr};
 ghost use Rattle.lint_base.specs.Grown.{GrownBy};
 
-use crate::blocks::Block;
 use crate::rule_pass::RulePass;
+use crate::seen::Seen;
 use lint_base::{LinterSettings, NoMemory, Reports, Rule};
 use lint_ignore::{Parse, Stmt};
 use std::alloc::Global;
@@ -84,7 +84,7 @@ impl<T: StatementPass> RulePass for T {
         p: &Parse<'_>,
         _i: u32,
         s: &Stmt,
-        _blocks: &[Block],
+        _seen: &Seen<'_>,
         set: &LinterSettings,
         out: &mut Reports,
     ) -> Result<(), NoMemory> {

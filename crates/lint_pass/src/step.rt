@@ -5,7 +5,7 @@ ghost use Rattle.lint_base.specs.Grown.{GrownBy};
 ghost use Rattle.lint_transaction.specs.Transaction.{stmt_at};
 ghost use Rattle.lint_pass.specs.Cleared.{IsCleared};
 
-use crate::blocks::Block;
+use crate::seen::Seen;
 use lint_base::{LinterSettings, NoMemory, Reports, RuleSet};
 use lint_ignore::{Parse, Stmt};
 use std::alloc::Global;
@@ -23,6 +23,7 @@ pub trait StepPass {
     ghost use Rattle.lint_base.specs.declared.settings.LinterSettings.{LinterSettings};
     ghost use Rattle.lint_base.specs.declared.violation.Violation.{Violation};
     ghost use Rattle.lint_transaction.specs.Earlier.{concat_below};
+    ghost use Rattle.lint_transaction.specs.Tracking.{IsTracking};
     ghost use Rattle.lint_pass.specs.Blocks.{blocks_of};
     ghost use Rattle.lint_pass.specs.Laws.{IsOf, IsRead, IsPlacedIn, reports_by};
 
@@ -71,7 +72,7 @@ pub trait StepPass {
     fn start(&self, alloc: Global, set: &LinterSettings) -> Result<Self::State, NoMemory>
         ensures { IfOk result (λ state. (tree : Tree) (r : Rules) → IsCleared tree set.now → at self.now state tree r set.now 0) };
 
-    /// Gives the pass statement `i`, counted from 0, with the blocks of the tree, and adds its reports. The error comes when
+    /// Gives the pass statement `i`, counted from 0, with what the walk knows before it, and adds its reports. The error comes when
     /// memory runs out; then a prefix of them has been added, and the state is of no use any more.
     fn step(
         &self,
@@ -79,7 +80,7 @@ pub trait StepPass {
         p: &Parse<'_>,
         i: u32,
         s: &Stmt,
-        blocks: &[Block],
+        seen: &Seen<'_>,
         rules: &RuleSet,
         set: &LinterSettings,
         out: &mut Reports,
@@ -88,7 +89,8 @@ pub trait StepPass {
         requires state { at self.now state.old p.now rules.now set.now i }
         requires within { i < length p.now.stmts }
         requires stmt { s.now ≡ stmt_at p.now i }
-        requires blocks { wants self.now rules.now ≡ true → blocks.now ≡ blocks_of p.now }
+        requires blocks { wants self.now rules.now ≡ true → seen.now.blocks.items ≡ blocks_of p.now }
+        requires created { IsTracking p.now set.now.assume_in_transaction i seen.now.created }
         ensures state { OnOk result (at self.now state.new p.now rules.now set.now (i + 1)) }
         ensures ok { OnOk result (out.new ≡ out.old ++ reports_at self.now p.now rules.now set.now i) }
         ensures err { OnErr result (GrownBy out.old out.new (reports_at self.now p.now rules.now set.now i)) };

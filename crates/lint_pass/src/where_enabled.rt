@@ -4,7 +4,7 @@ ghost use Rattle.std.specs.Prelude.{◌≡◌, ◌+◌, ◌<◌, ◌++◌, lengt
 ghost use Rattle.lint_base.specs.Grown.{GrownBy};
 ghost use Rattle.lint_pass.specs.Enabled.{some_enabled};
 
-use crate::blocks::Block;
+use crate::seen::Seen;
 use crate::step::StepPass;
 use lint_base::{LinterSettings, NoMemory, Reports, RuleSet};
 use lint_ignore::{Parse, Stmt};
@@ -72,13 +72,13 @@ impl<P: StepPass> StepPass for WhereEnabled<P> {
         p: &Parse<'_>,
         i: u32,
         s: &Stmt,
-        blocks: &[Block],
+        seen: &Seen<'_>,
         rules: &RuleSet,
         set: &LinterSettings,
         out: &mut Reports,
     ) -> Result<(), NoMemory> {
         if self.has_enabled_rule(rules) {
-            self.pass.step(state, p, i, s, blocks, rules, set, out)
+            self.pass.step(state, p, i, s, seen, rules, set, out)
         } else {
             Ok(())
         }

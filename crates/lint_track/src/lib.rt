@@ -4,13 +4,13 @@
 
 pub use lint_lock::{LockKind, analyze};
 pub use lint_pass::{
-    BanPass, BanRows, Block, CreatedTables, Cursor, Found, IGNORE_FILE_TEXT, IGNORE_LINE_TEXT,
-    Ignore, IgnoreIndex, IgnoreKind, IgnorePiece, NoPass, Node, NodeReader, OpenTransaction, Pair,
-    PairState, Pass, RulePass, RuledRows, SpanKey, SpanMap, SpanSet, Spot, StatementPass, StepPass,
-    Steps, TablesCreatedInTransaction, begins, blocks_ended_before, chains, created, drive, ends,
-    find_blocks, find_ignores, has_disable_assume_in_transaction, histories_grow, ignore_rule_info,
-    insertion_fix, is_in_block, name_at, replacement_fix, report_nodes, report_ruled,
-    unused_pieces, walk,
+    BanPass, BanRows, Block, Cursor, Found, IGNORE_FILE_TEXT, IGNORE_LINE_TEXT, Ignore,
+    IgnoreIndex, IgnoreKind, IgnorePiece, NoPass, Node, NodeReader, OpenTransaction, Pair,
+    PairState, Pass, RulePass, RuledRows, Seen, SpanKey, SpanMap, SpanSet, Spot, StatementPass,
+    StepPass, Steps, TablesCreatedInTransaction, begins, blocks_ended_before, chains, created,
+    drive, ends, find_blocks, find_ignores, has_disable_assume_in_transaction, histories_grow,
+    ignore_rule_info, insertion_fix, is_in_block, name_at, replacement_fix, report_nodes,
+    report_ruled, unused_pieces, walk,
 };
 
 // What crates above reach through this one.

@@ -1,13 +1,12 @@
 -- What is known of the open transaction goes on from statement to statement.
-use Rattle.std.proofs.Common.{◌≡◌, ◌∙◌, sym, ap, refl, ℕ, suc, ◌+◌, add-one, Bool, true, false, ◌&&◌, ◌||◌, not, List, []}
+use Rattle.std.proofs.Common.{◌≡◌, ◌∙◌, sym, ap, refl, ℕ, suc, ◌+◌, add-one, Bool, true, false, ◌&&◌, ◌||◌, not, List, [], length, map}
+use Rattle.std.proofs.lemmas.List.{nil_from_length}
 use Rattle.std.specs.List.{list_any}
 use Rattle.sql_tree.specs.declared.nodes.Stmt.{Stmt}
 use Rattle.sql_tree.specs.Statement.{Tree}
 use Rattle.lint_transaction.specs.Earlier.{any_below, since}
 use Rattle.lint_transaction.specs.Transaction.{begins, ends, chains, creates, same_path, stmt_at, opens_at, ends_at, creates_at, is_open, is_new}
 use Rattle.lint_transaction.specs.Tracking.{Known, IsAfter, IsTracking, holds}
-use Rattle.lint_transaction.specs.SpanSet.{has_span}
-use Rattle.lint_transaction.specs.Created.{Created, IsKnown}
 use Rattle.lint_transaction.proofs.EarlierLaws.{since-suc}
 
 open_next : (b s e f a : Bool) → ((b || (s && not e)) || (f && not (a || e))) ≡ (b || ((s || (f && not a)) && not e))
@@ -66,13 +65,12 @@ tracking_next tree assumed i s old new e after h = record {
   new_here = λ path. new_next_stmt tree assumed i s path old.is_open (holds old path) (holds new path) e h.open_here (h.new_here path) (after.tables_after path);
 }
 
--- the same, by spans of the text
-pub known_start : (known : Created) (assumed : Bool) → known.is_open ≡ assumed → ((tree : Tree) (path : List (List ℕ)) → has_span tree known.tables path ≡ false) → (tree : Tree) → IsKnown tree assumed 0 known
-known_start known assumed b none tree = record { open_here = b ∙ sym (open_at_start assumed tree); new_here = λ path. none tree path }
+-- where no table is known
+pub none_new : {K : Type 0} (cuts : K → List (List ℕ)) (keys : List K) (tree : Tree) (assumed : Bool) (i : ℕ) (known : Known) (path : List (List ℕ)) → length keys ≡ 0
+    → map cuts keys ≡ known.tables → IsTracking tree assumed i known → false ≡ is_new assumed tree path i
+none_new cuts keys tree assumed i known path none same h =
+    ap (λ ks. list_any (same_path path) (map cuts ks)) (sym (nil_from_length keys none)) ∙ ap (list_any (same_path path)) same ∙ h.new_here path
 
-pub known_next : (tree : Tree) (assumed : Bool) (i : ℕ) (s : Stmt) (old new : Created) → s ≡ stmt_at tree i → new.is_open ≡ (begins s || chains s || (old.is_open && not (ends s)))
-    → ((path : List (List ℕ)) → has_span tree new.tables path ≡ ((creates tree path s && old.is_open) || (has_span tree old.tables path && not (ends s)))) → IsKnown tree assumed i old → IsKnown tree assumed (i + 1) new
-known_next tree assumed i s old new e open_after tables_after h = record {
-  open_here = open_next_stmt tree assumed i s old.is_open new.is_open e h.open_here open_after;
-  new_here = λ path. new_next_stmt tree assumed i s path old.is_open (has_span tree old.tables path) (has_span tree new.tables path) e h.open_here (h.new_here path) (tables_after path);
-}
+-- what is known of a table
+pub new_where_held : (tree : Tree) (assumed : Bool) (i : ℕ) (known : Known) (path : List (List ℕ)) (b : Bool) → b ≡ holds known path → IsTracking tree assumed i known → b ≡ is_new assumed tree path i
+new_where_held tree assumed i known path b held h = held ∙ h.new_here path

@@ -1,4 +1,3 @@
-pub mod Created
 pub mod Earlier
 pub mod Events
 pub mod HistoryLaws

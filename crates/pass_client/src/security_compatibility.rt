@@ -5,8 +5,8 @@ ghost use Rattle.lint_pass.specs.Ruled.{lent_ruled};
 ghost use Rattle.pass_client.specs.SecurityCompatibility.{rows_of_security_compatibility, security_rules};
 
 use lint_pass::{
-    ActionKind, Block, LinterSettings, NoMemory, Parse, PieceKind, Reports, Rule, RuleSet,
-    RuledRows, Spot, StepPass, Stmt, StmtKind, report_ruled,
+    ActionKind, LinterSettings, NoMemory, Parse, PieceKind, Reports, Rule, RuleSet, RuledRows,
+    Seen, Spot, StepPass, Stmt, StmtKind, report_ruled,
 };
 use std::alloc::Global;
 
@@ -224,7 +224,7 @@ impl StepPass for SecurityCompatibility {
         p: &Parse<'_>,
         _i: u32,
         s: &Stmt,
-        _blocks: &[Block],
+        _seen: &Seen<'_>,
         rules: &RuleSet,
         _set: &LinterSettings,
         out: &mut Reports,

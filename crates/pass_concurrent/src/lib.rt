@@ -9,9 +9,7 @@ mod require_concurrent_index_deletion;
 mod require_concurrent_partition_detach;
 mod require_concurrent_reindex;
 
-pub use require_concurrent_index_creation::{
-    RequireConcurrentIndexCreation, RequireConcurrentIndexCreationMemory,
-};
+pub use require_concurrent_index_creation::RequireConcurrentIndexCreation;
 pub use require_concurrent_index_deletion::RequireConcurrentIndexDeletion;
 pub use require_concurrent_partition_detach::RequireConcurrentPartitionDetach;
 pub use require_concurrent_reindex::RequireConcurrentReindex;

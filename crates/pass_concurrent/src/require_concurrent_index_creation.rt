@@ -2,13 +2,13 @@
 
 ghost use Rattle.std.specs.Prelude.{◌≡◌, ◌++◌, ◌∷◌, [], ℕ, Bool, OnOk, OnErr, IfOk};
 ghost use Rattle.lint_pass.specs.lint_base.declared.settings.LinterSettings.{LinterSettings};
-ghost use Rattle.lint_pass.specs.lint_transaction.Created.{IsKnown};
+ghost use Rattle.lint_pass.specs.lint_transaction.Tracking.{IsTracking};
 ghost use Rattle.pass_concurrent.specs.RequireConcurrentIndexCreation.{report, reports_on};
 
 use crate::concurrently::plain_report;
 use lint_pass::{
-    Block, Body, CreatedTables, LinterSettings, NoMemory, Parse, Reports, Rule, RulePass, Stmt,
-    Text, Violation,
+    Body, LinterSettings, NoMemory, Parse, Reports, Rule, RulePass, Seen, Stmt,
+    TablesCreatedInTransaction, Text, Violation,
 };
 use std::alloc::Global;
 
@@ -27,13 +27,6 @@ const HELP: &str = "use `concurrently` to avoid blocking writes";
 #[derive(Drop)]
 pub struct RequireConcurrentIndexCreation;
 
-/// The tables that the open transaction created.
-#[derive(Drop)]
-pub struct RequireConcurrentIndexCreationMemory {
-    alloc: Global,
-    created: CreatedTables,
-}
-
 /// The report of an index build whose word INDEX has this number.
 #[tactic(auto, unfolding(crate::specs::RequireConcurrentIndexCreation::report))]
 fn report(alloc: Global, p: &Parse<'_>, s: &Stmt, word: u32) -> Result<Violation, NoMemory>
@@ -47,12 +40,13 @@ fn report(alloc: Global, p: &Parse<'_>, s: &Stmt, word: u32) -> Result<Violation
 
 /// Reports a statement that builds an index without CONCURRENTLY, unless the open transaction created its table.
 fn report_build(
-    memory: &RequireConcurrentIndexCreationMemory,
+    alloc: Global,
+    created: &TablesCreatedInTransaction<'_>,
     p: &Parse<'_>,
     s: &Stmt,
     out: &mut Reports,
 ) -> Result<(), NoMemory>
-    ensures ok { OnOk result ((settings : LinterSettings) (i : ℕ) → IsKnown p.now settings.assume_in_transaction i memory.now.created
+    ensures ok { OnOk result ((settings : LinterSettings) (i : ℕ) → IsTracking p.now settings.assume_in_transaction i created.now
         → out.new ≡ out.old ++ reports_on settings p.now i s.now) }
     ensures err { OnErr result (out.new ≡ out.old) }
 {
@@ -63,10 +57,11 @@ fn report_build(
             path,
             ..
         } => {
-            if memory.created.contains(p, path) {
+            let is_new = created.contains_at(p, path)?;
+            if is_new {
                 Ok(())
             } else {
-                out.push(report(memory.alloc, p, s, word)?)
+                out.push(report(alloc, p, s, word)?)
             }
         }
         _ => Ok(()),
@@ -76,16 +71,15 @@ fn report_build(
 impl RulePass for RequireConcurrentIndexCreation {
     ghost use Rattle.std.specs.Prelude.{false};
     ghost use Rattle.lint_pass.specs.lint_base.declared.rule.Rule.TheVariants as rule;
-    ghost use Rattle.lint_pass.specs.lint_transaction.Created.{IsKnown};
     ghost use Rattle.lint_pass.specs.lint_transaction.Transaction.{stmt_at};
     ghost use Rattle.pass_concurrent.specs.RequireConcurrentIndexCreation.{reports_on};
     ghost use Rattle.pass_concurrent.specs.BuildLaws.{builds_coded, builds_placed};
 
-    type Memory = RequireConcurrentIndexCreationMemory;
+    type Memory = Global;
 
     ghost code = { λ _. rule.RequireConcurrentIndexCreation };
 
-    ghost knows = { λ _ memory tree set i. IsKnown tree set.assume_in_transaction i memory.created };
+    ghost knows = { λ _ _ _ _ _. Unit {0} };
 
     ghost wants = { λ _. false };
 
@@ -103,29 +97,20 @@ impl RulePass for RequireConcurrentIndexCreation {
         false
     }
 
-    fn begin(
-        &self,
-        alloc: Global,
-        set: &LinterSettings,
-    ) -> Result<RequireConcurrentIndexCreationMemory, NoMemory> {
-        Ok(RequireConcurrentIndexCreationMemory {
-            alloc,
-            created: CreatedTables::new(alloc, set.assume_in_transaction),
-        })
+    fn begin(&self, alloc: Global, _set: &LinterSettings) -> Result<Global, NoMemory> {
+        Ok(alloc)
     }
 
     fn visit(
         &self,
-        memory: &mut RequireConcurrentIndexCreationMemory,
+        memory: &mut Global,
         p: &Parse<'_>,
         _i: u32,
         s: &Stmt,
-        _blocks: &[Block],
+        seen: &Seen<'_>,
         _set: &LinterSettings,
         out: &mut Reports,
     ) -> Result<(), NoMemory> {
-        report_build(memory, p, s, out)?;
-        memory.created.update(p, s)?;
-        Ok(())
+        report_build(*memory, &seen.created, p, s, out)
     }
 }

@@ -5,7 +5,7 @@ ghost use Rattle.pass_constraint.specs.AddedConstraints as spec;
 ghost use Rattle.pass_constraint.specs.AddedConstraints.{lent};
 
 use crate::constraint_rows::{ConstraintRow, Excuse, report_statement};
-use lint_pass::{Block, CreatedTables, LinterSettings, NoMemory, Reports, Rule, RulePass};
+use lint_pass::{LinterSettings, NoMemory, Reports, Rule, RulePass, Seen};
 use sql_tree::{ConKind, Parse, Stmt};
 use std::alloc::Global;
 
@@ -91,17 +91,16 @@ fn uniques() -> &'static ConstraintRow
 impl RulePass for AddingForeignKeyConstraint {
     ghost use Rattle.std.specs.Prelude.{false};
     ghost use Rattle.lint_pass.specs.lint_base.declared.rule.Rule.TheVariants as rule;
-    ghost use Rattle.lint_pass.specs.lint_transaction.Created.{IsKnown};
     ghost use Rattle.lint_pass.specs.lint_transaction.Transaction.{stmt_at};
     ghost use Rattle.pass_constraint.specs.AddedConstraints as spec;
     ghost use Rattle.pass_constraint.specs.AddedConstraints.{added_by};
     ghost use Rattle.pass_constraint.specs.AddedConstraintsLaws.{added_coded, added_placed};
 
-    type Memory = CreatedTables;
+    type Memory = ();
 
     ghost code = { λ _. rule.AddingForeignKeyConstraint };
 
-    ghost knows = { λ _ created tree set i. IsKnown tree set.assume_in_transaction i created };
+    ghost knows = { λ _ _ _ _ _. Unit {0} };
 
     ghost wants = { λ _. false };
 
@@ -119,40 +118,37 @@ impl RulePass for AddingForeignKeyConstraint {
         false
     }
 
-    fn begin(&self, alloc: Global, set: &LinterSettings) -> Result<CreatedTables, NoMemory> {
-        Ok(CreatedTables::new(alloc, set.assume_in_transaction))
+    fn begin(&self, _alloc: Global, _set: &LinterSettings) -> Result<(), NoMemory> {
+        Ok(())
     }
 
     fn visit(
         &self,
-        created: &mut CreatedTables,
+        _memory: &mut (),
         p: &Parse<'_>,
         _i: u32,
         s: &Stmt,
-        _blocks: &[Block],
+        seen: &Seen<'_>,
         _set: &LinterSettings,
         out: &mut Reports,
     ) -> Result<(), NoMemory> {
-        report_statement(foreign_keys(), created, p, s, out)?;
-        created.update(p, s)?;
-        Ok(())
+        report_statement(foreign_keys(), &seen.created, p, s, out)
     }
 }
 
 impl RulePass for AddingPrimaryKeyConstraint {
     ghost use Rattle.std.specs.Prelude.{false};
     ghost use Rattle.lint_pass.specs.lint_base.declared.rule.Rule.TheVariants as rule;
-    ghost use Rattle.lint_pass.specs.lint_transaction.Created.{IsKnown};
     ghost use Rattle.lint_pass.specs.lint_transaction.Transaction.{stmt_at};
     ghost use Rattle.pass_constraint.specs.AddedConstraints as spec;
     ghost use Rattle.pass_constraint.specs.AddedConstraints.{added_by};
     ghost use Rattle.pass_constraint.specs.AddedConstraintsLaws.{added_coded, added_placed};
 
-    type Memory = CreatedTables;
+    type Memory = ();
 
     ghost code = { λ _. rule.AddingSerialPrimaryKeyField };
 
-    ghost knows = { λ _ created tree set i. IsKnown tree set.assume_in_transaction i created };
+    ghost knows = { λ _ _ _ _ _. Unit {0} };
 
     ghost wants = { λ _. false };
 
@@ -170,40 +166,37 @@ impl RulePass for AddingPrimaryKeyConstraint {
         false
     }
 
-    fn begin(&self, alloc: Global, set: &LinterSettings) -> Result<CreatedTables, NoMemory> {
-        Ok(CreatedTables::new(alloc, set.assume_in_transaction))
+    fn begin(&self, _alloc: Global, _set: &LinterSettings) -> Result<(), NoMemory> {
+        Ok(())
     }
 
     fn visit(
         &self,
-        created: &mut CreatedTables,
+        _memory: &mut (),
         p: &Parse<'_>,
         _i: u32,
         s: &Stmt,
-        _blocks: &[Block],
+        seen: &Seen<'_>,
         _set: &LinterSettings,
         out: &mut Reports,
     ) -> Result<(), NoMemory> {
-        report_statement(primary_keys(), created, p, s, out)?;
-        created.update(p, s)?;
-        Ok(())
+        report_statement(primary_keys(), &seen.created, p, s, out)
     }
 }
 
 impl RulePass for DisallowUniqueConstraint {
     ghost use Rattle.std.specs.Prelude.{false};
     ghost use Rattle.lint_pass.specs.lint_base.declared.rule.Rule.TheVariants as rule;
-    ghost use Rattle.lint_pass.specs.lint_transaction.Created.{IsKnown};
     ghost use Rattle.lint_pass.specs.lint_transaction.Transaction.{stmt_at};
     ghost use Rattle.pass_constraint.specs.AddedConstraints as spec;
     ghost use Rattle.pass_constraint.specs.AddedConstraints.{added_by};
     ghost use Rattle.pass_constraint.specs.AddedConstraintsLaws.{added_coded, added_placed};
 
-    type Memory = CreatedTables;
+    type Memory = ();
 
     ghost code = { λ _. rule.DisallowedUniqueConstraint };
 
-    ghost knows = { λ _ created tree set i. IsKnown tree set.assume_in_transaction i created };
+    ghost knows = { λ _ _ _ _ _. Unit {0} };
 
     ghost wants = { λ _. false };
 
@@ -221,22 +214,20 @@ impl RulePass for DisallowUniqueConstraint {
         false
     }
 
-    fn begin(&self, alloc: Global, set: &LinterSettings) -> Result<CreatedTables, NoMemory> {
-        Ok(CreatedTables::new(alloc, set.assume_in_transaction))
+    fn begin(&self, _alloc: Global, _set: &LinterSettings) -> Result<(), NoMemory> {
+        Ok(())
     }
 
     fn visit(
         &self,
-        created: &mut CreatedTables,
+        _memory: &mut (),
         p: &Parse<'_>,
         _i: u32,
         s: &Stmt,
-        _blocks: &[Block],
+        seen: &Seen<'_>,
         _set: &LinterSettings,
         out: &mut Reports,
     ) -> Result<(), NoMemory> {
-        report_statement(uniques(), created, p, s, out)?;
-        created.update(p, s)?;
-        Ok(())
+        report_statement(uniques(), &seen.created, p, s, out)
     }
 }

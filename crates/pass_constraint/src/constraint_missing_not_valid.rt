@@ -6,7 +6,7 @@ ghost use Rattle.sql_tree.specs.Statement.{Tree};
 ghost use Rattle.lint_pass.specs.lint_base.Grown.{GrownBy};
 ghost use Rattle.lint_pass.specs.lint_base.declared.settings.LinterSettings.{LinterSettings};
 ghost use Rattle.lint_pass.specs.lint_node.Parts.{added_constraint, is_checked, table_actions};
-ghost use Rattle.lint_pass.specs.lint_transaction.Created.{IsKnown};
+ghost use Rattle.lint_pass.specs.lint_transaction.Tracking.{IsTracking};
 ghost use Rattle.lint_pass.specs.lint_transaction.Transaction as track;
 ghost use Rattle.lint_pass.specs.lint_transaction.declared.span_key.SpanKey.TheVariants as by;
 ghost use Rattle.pass_constraint.specs.ConstraintMissingNotValid as spec;
@@ -14,9 +14,9 @@ ghost use Rattle.pass_constraint.specs.ConstraintMissingNotValid.{adds_not_valid
 ghost use Rattle.pass_constraint.specs.ConstraintWalk.{has_name};
 
 use lint_pass::{
-    Block, CreatedTables, LinterSettings, NoMemory, OpenTransaction, Pair, Reports, Rule, RulePass,
-    RuleSet, Span, SpanKey, SpanSet, StepPass, Text, Violation, added_constraint, ends, is_checked,
-    path_in, same_action, table_actions,
+    LinterSettings, NoMemory, OpenTransaction, Pair, Reports, Rule, RulePass, RuleSet, Seen, Span,
+    SpanKey, SpanSet, StepPass, TablesCreatedInTransaction, Text, Violation, added_constraint,
+    ends, is_checked, path_in, same_action, table_actions,
 };
 use sql_tree::{Action, ActionKind, Parse, Stmt};
 use std::alloc::Global;
@@ -64,12 +64,6 @@ struct ValidationsMemory {
 /// Constraints that are added so that the table is scanned.
 #[derive(Drop)]
 struct Additions;
-
-/// The tables that the open transaction created.
-#[derive(Drop)]
-struct AdditionsMemory {
-    created: CreatedTables,
-}
 
 type Parts = Pair<Validations, Additions>;
 
@@ -284,7 +278,7 @@ impl RulePass for Validations {
         p: &Parse<'_>,
         _i: u32,
         s: &Stmt,
-        _blocks: &[Block],
+        _seen: &Seen<'_>,
         _set: &LinterSettings,
         out: &mut Reports,
     ) -> Result<(), NoMemory> {
@@ -317,23 +311,27 @@ fn report_additions(p: &Parse<'_>, actions: &[Action], out: &mut Reports) -> Res
     Ok(())
 }
 
-impl AdditionsMemory {
-    /// Reports the constraints that a statement adds to a table that is not new.
-    fn report(&self, p: &Parse<'_>, s: &Stmt, out: &mut Reports) -> Result<(), NoMemory>
-        ensures ok { OnOk result ((settings : LinterSettings) (i : ℕ) → IsKnown p.now settings.assume_in_transaction i self.now.created
-            → out.new ≡ out.old ++ additions_of settings p.now i s.now) }
-        ensures err { OnErr result ((settings : LinterSettings) (i : ℕ) → IsKnown p.now settings.assume_in_transaction i self.now.created
-            → GrownBy out.old out.new (additions_of settings p.now i s.now)) }
-    {
-        let actions = table_actions(s);
-        if !has_addition(actions) {
-            return Ok(());
-        }
-        if self.created.has_table(p, path_in(&s.body)) {
-            return Ok(());
-        }
-        report_additions(p, actions, out)
+/// Reports the constraints that a statement adds to a table that is not new.
+fn report_statement(
+    created: &TablesCreatedInTransaction<'_>,
+    p: &Parse<'_>,
+    s: &Stmt,
+    out: &mut Reports,
+) -> Result<(), NoMemory>
+    ensures ok { OnOk result ((settings : LinterSettings) (i : ℕ) → IsTracking p.now settings.assume_in_transaction i created.now
+        → out.new ≡ out.old ++ additions_of settings p.now i s.now) }
+    ensures err { OnErr result ((settings : LinterSettings) (i : ℕ) → IsTracking p.now settings.assume_in_transaction i created.now
+        → GrownBy out.old out.new (additions_of settings p.now i s.now)) }
+{
+    let actions = table_actions(s);
+    if !has_addition(actions) {
+        return Ok(());
     }
+    let is_on_new = created.has_table(p, path_in(&s.body))?;
+    if is_on_new {
+        return Ok(());
+    }
+    report_additions(p, actions, out)
 }
 
 /// Whether some action adds a constraint so that the table is scanned.
@@ -346,16 +344,15 @@ fn has_addition(actions: &[Action]) -> bool
 impl RulePass for Additions {
     ghost use Rattle.std.specs.Prelude.{false};
     ghost use Rattle.lint_pass.specs.lint_base.declared.rule.Rule.TheVariants as rule;
-    ghost use Rattle.lint_pass.specs.lint_transaction.Created.{IsKnown};
     ghost use Rattle.lint_pass.specs.lint_transaction.Transaction.{stmt_at};
     ghost use Rattle.pass_constraint.specs.ConstraintMissingNotValid.{additions_of};
     ghost use Rattle.pass_constraint.specs.ConstraintReports.{additions_coded, additions_placed};
 
-    type Memory = AdditionsMemory;
+    type Memory = ();
 
     ghost code = { λ _. rule.ConstraintMissingNotValid };
 
-    ghost knows = { λ _ memory tree set i. IsKnown tree set.assume_in_transaction i memory.created };
+    ghost knows = { λ _ _ _ _ _. Unit {0} };
 
     ghost wants = { λ _. false };
 
@@ -373,25 +370,21 @@ impl RulePass for Additions {
         false
     }
 
-    fn begin(&self, alloc: Global, set: &LinterSettings) -> Result<AdditionsMemory, NoMemory> {
-        Ok(AdditionsMemory {
-            created: CreatedTables::new(alloc, set.assume_in_transaction),
-        })
+    fn begin(&self, _alloc: Global, _set: &LinterSettings) -> Result<(), NoMemory> {
+        Ok(())
     }
 
     fn visit(
         &self,
-        memory: &mut AdditionsMemory,
+        _memory: &mut (),
         p: &Parse<'_>,
         _i: u32,
         s: &Stmt,
-        _blocks: &[Block],
+        seen: &Seen<'_>,
         _set: &LinterSettings,
         out: &mut Reports,
     ) -> Result<(), NoMemory> {
-        memory.report(p, s, out)?;
-        memory.created.update(p, s)?;
-        Ok(())
+        report_statement(&seen.created, p, s, out)
     }
 }
 
@@ -445,12 +438,12 @@ impl StepPass for ConstraintMissingNotValid {
         p: &Parse<'_>,
         i: u32,
         s: &Stmt,
-        blocks: &[Block],
+        seen: &Seen<'_>,
         rules: &RuleSet,
         set: &LinterSettings,
         out: &mut Reports,
     ) -> Result<(), NoMemory> {
-        PARTS.step(&mut state.parts, p, i, s, blocks, rules, set, out)
+        PARTS.step(&mut state.parts, p, i, s, seen, rules, set, out)
     }
 
     fn finish(

@@ -4,14 +4,14 @@ ghost use Rattle.std.specs.Prelude.{◌≡◌, ◌++◌, ℕ, OnOk, OnErr};
 ghost use Rattle.std.specs.List.{flat_map};
 ghost use Rattle.lint_pass.specs.lint_base.Grown.{GrownBy};
 ghost use Rattle.lint_pass.specs.lint_base.declared.settings.LinterSettings.{LinterSettings};
-ghost use Rattle.lint_pass.specs.lint_transaction.Created.{IsKnown};
+ghost use Rattle.lint_pass.specs.lint_transaction.Tracking.{IsTracking};
 ghost use Rattle.lint_pass.specs.Those.{that};
 ghost use Rattle.pass_constraint.specs.AddedConstraints as spec;
 ghost use Rattle.pass_constraint.specs.AddedConstraints.{added, added_by, is_of_column, is_of_table, lent, on_action, on_column, on_table};
 
 use lint_pass::{
-    CreatedTables, LinterSettings, NoMemory, Reports, Rule, Text, Violation, actions_of,
-    added_constraint, new_constraints, path_in, same_constraint, same_kind,
+    LinterSettings, NoMemory, Reports, Rule, TablesCreatedInTransaction, Text, Violation,
+    actions_of, added_constraint, new_constraints, path_in, same_constraint, same_kind,
 };
 use sql_tree::{Action, ConKind, Constraint, Parse, Stmt, StmtKind};
 
@@ -171,19 +171,19 @@ fn report_actions(
 /// Reports the constraints that a statement adds, where the row is of them.
 pub(crate) fn report_statement(
     row: &ConstraintRow,
-    created: &CreatedTables,
+    created: &TablesCreatedInTransaction<'_>,
     p: &Parse<'_>,
     s: &Stmt,
     out: &mut Reports,
 ) -> Result<(), NoMemory>
-    ensures ok { OnOk result ((settings : LinterSettings) (i : ℕ) → IsKnown p.now settings.assume_in_transaction i created.now
+    ensures ok { OnOk result ((settings : LinterSettings) (i : ℕ) → IsTracking p.now settings.assume_in_transaction i created.now
         → out.new ≡ out.old ++ added_by (lent row.now) settings p.now i s.now) }
-    ensures err { OnErr result ((settings : LinterSettings) (i : ℕ) → IsKnown p.now settings.assume_in_transaction i created.now
+    ensures err { OnErr result ((settings : LinterSettings) (i : ℕ) → IsTracking p.now settings.assume_in_transaction i created.now
         → GrownBy out.old out.new (added_by (lent row.now) settings p.now i s.now)) }
 {
     if !same_kind(s.kind, StmtKind::AlterTable) {
         return Ok(());
     }
-    let is_on_new = created.has_table(p, path_in(&s.body));
+    let is_on_new = created.has_table(p, path_in(&s.body))?;
     report_actions(row, is_on_new, p, actions_of(s), out)
 }

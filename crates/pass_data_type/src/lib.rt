@@ -21,10 +21,10 @@ pub use wider_integers::{PreferBigintOverInt, PreferBigintOverSmallint, WideInte
 
 // What crates above reach through this one.
 pub use lint_pass::{
-    Action, Block, Body, ColType, Column, Constraint, Edit, Elem, Expr, Fix, Found, Ignore,
-    IgnoreIndex, IgnoreKind, IgnorePiece, LinterSettings, NamePath, Names, NoMemory, NoPass,
-    OpenTransaction, Pair, Parse, Pass, Piece, Reports, Rule, RuleSet, SetPart, Span,
-    StatementPass, StepPass, Steps, Stmt, TableWrite, TablesCreatedInTransaction, Target, Text,
-    TextRange, TextSize, Tok, ViewDefinition, Violation, WhereEnabled, drive, find_ignores,
+    Action, Body, ColType, Column, Constraint, Edit, Elem, Expr, Fix, Found, Ignore, IgnoreIndex,
+    IgnoreKind, IgnorePiece, LinterSettings, NamePath, Names, NoMemory, NoPass, OpenTransaction,
+    Pair, Parse, Pass, Piece, Reports, Rule, RuleSet, Seen, SetPart, Span, StatementPass, StepPass,
+    Steps, Stmt, TableWrite, TablesCreatedInTransaction, Target, Text, TextRange, TextSize, Tok,
+    ViewDefinition, Violation, WhereEnabled, drive, find_ignores,
     has_disable_assume_in_transaction, ignore_rule_info, unused_pieces,
 };

@@ -5,7 +5,7 @@ use pass_constraint::{
     AddingRequiredField,
 };
 use pass_data_type::{
-    BanCharField, Block, LinterSettings, NoMemory, Pair, Parse, Reports, RuleSet, StepPass, Stmt,
+    BanCharField, LinterSettings, NoMemory, Pair, Parse, Reports, RuleSet, Seen, StepPass, Stmt,
     WhereEnabled,
 };
 use pass_drop::BanDropDatabase;
@@ -109,12 +109,12 @@ impl StepPass for Group1 {
         p: &Parse<'_>,
         i: u32,
         s: &Stmt,
-        blocks: &[Block],
+        seen: &Seen<'_>,
         rules: &RuleSet,
         set: &LinterSettings,
         out: &mut Reports,
     ) -> Result<(), NoMemory> {
-        MEMBERS.step(&mut state.members, p, i, s, blocks, rules, set, out)
+        MEMBERS.step(&mut state.members, p, i, s, seen, rules, set, out)
     }
 
     fn finish(

@@ -2,8 +2,8 @@
 
 use pass_constraint::{ConstraintMissingNotValid, DisallowUniqueConstraint};
 use pass_data_type::{
-    Block, ChangingColumnType, LinterSettings, NoMemory, Pair, Parse, PreferBigintOverInt,
-    PreferBigintOverSmallint, Reports, RuleSet, StepPass, Stmt, WhereEnabled,
+    ChangingColumnType, LinterSettings, NoMemory, Pair, Parse, PreferBigintOverInt,
+    PreferBigintOverSmallint, Reports, RuleSet, Seen, StepPass, Stmt, WhereEnabled,
 };
 use pass_drop::{BanDropColumn, BanDropNotNull, BanDropTable};
 use std::alloc::Global;
@@ -113,12 +113,12 @@ impl StepPass for Group2 {
         p: &Parse<'_>,
         i: u32,
         s: &Stmt,
-        blocks: &[Block],
+        seen: &Seen<'_>,
         rules: &RuleSet,
         set: &LinterSettings,
         out: &mut Reports,
     ) -> Result<(), NoMemory> {
-        MEMBERS.step(&mut state.members, p, i, s, blocks, rules, set, out)
+        MEMBERS.step(&mut state.members, p, i, s, seen, rules, set, out)
     }
 
     fn finish(

@@ -3,8 +3,8 @@
 use pass_client::{RenamingColumn, RenamingTable};
 use pass_concurrent::RequireConcurrentIndexCreation;
 use pass_data_type::{
-    Block, LinterSettings, NoMemory, Pair, Parse, PreferIdentity, PreferTextField,
-    PreferTimestamptz, Reports, RuleSet, StepPass, Stmt, WhereEnabled,
+    LinterSettings, NoMemory, Pair, Parse, PreferIdentity, PreferTextField, PreferTimestamptz,
+    Reports, RuleSet, Seen, StepPass, Stmt, WhereEnabled,
 };
 use pass_history::PreferRobustStmts;
 use pass_session::PreferRepack;
@@ -103,12 +103,12 @@ impl StepPass for Group3 {
         p: &Parse<'_>,
         i: u32,
         s: &Stmt,
-        blocks: &[Block],
+        seen: &Seen<'_>,
         rules: &RuleSet,
         set: &LinterSettings,
         out: &mut Reports,
     ) -> Result<(), NoMemory> {
-        MEMBERS.step(&mut state.members, p, i, s, blocks, rules, set, out)
+        MEMBERS.step(&mut state.members, p, i, s, seen, rules, set, out)
     }
 
     fn finish(

@@ -3,7 +3,7 @@
 use pass_client::{BanAlterDomainWithAddConstraint, BanCreateDomainWithConstraint};
 use pass_concurrent::RequireConcurrentIndexDeletion;
 use pass_data_type::{
-    Block, LinterSettings, NoMemory, Pair, Parse, Reports, RequireEnumValueOrdering, RuleSet,
+    LinterSettings, NoMemory, Pair, Parse, Reports, RequireEnumValueOrdering, RuleSet, Seen,
     StepPass, Stmt, WhereEnabled,
 };
 use pass_drop::BanTruncateCascade;
@@ -106,12 +106,12 @@ impl StepPass for Group4 {
         p: &Parse<'_>,
         i: u32,
         s: &Stmt,
-        blocks: &[Block],
+        seen: &Seen<'_>,
         rules: &RuleSet,
         set: &LinterSettings,
         out: &mut Reports,
     ) -> Result<(), NoMemory> {
-        MEMBERS.step(&mut state.members, p, i, s, blocks, rules, set, out)
+        MEMBERS.step(&mut state.members, p, i, s, seen, rules, set, out)
     }
 
     fn finish(

@@ -3,7 +3,7 @@
 use pass_client::RequireTableSchema;
 use pass_concurrent::{RequireConcurrentPartitionDetach, RequireConcurrentReindex};
 use pass_data_type::{
-    Block, LinterSettings, NoMemory, Pair, Parse, Reports, RuleSet, StepPass, Stmt, WhereEnabled,
+    LinterSettings, NoMemory, Pair, Parse, Reports, RuleSet, Seen, StepPass, Stmt, WhereEnabled,
 };
 use pass_drop::{BanDropFunction, BanDropType, BanDropView};
 use pass_name::{BanDuplicateColumnAssignments, IdentifierTooLong};
@@ -102,12 +102,12 @@ impl StepPass for Group5 {
         p: &Parse<'_>,
         i: u32,
         s: &Stmt,
-        blocks: &[Block],
+        seen: &Seen<'_>,
         rules: &RuleSet,
         set: &LinterSettings,
         out: &mut Reports,
     ) -> Result<(), NoMemory> {
-        MEMBERS.step(&mut state.members, p, i, s, blocks, rules, set, out)
+        MEMBERS.step(&mut state.members, p, i, s, seen, rules, set, out)
     }
 
     fn finish(

@@ -2,7 +2,7 @@
 
 use pass_client::RenamingObject;
 use pass_data_type::{
-    Block, LinterSettings, NoMemory, Pair, Parse, Reports, RuleSet, StepPass, Stmt, WhereEnabled,
+    LinterSettings, NoMemory, Pair, Parse, Reports, RuleSet, Seen, StepPass, Stmt, WhereEnabled,
 };
 use pass_drop::{
     BanDropConstraint, BanDropDefault, BanDropDomain, BanDropGeneratedExpression, BanDropSchema,
@@ -102,12 +102,12 @@ impl StepPass for Group6 {
         p: &Parse<'_>,
         i: u32,
         s: &Stmt,
-        blocks: &[Block],
+        seen: &Seen<'_>,
         rules: &RuleSet,
         set: &LinterSettings,
         out: &mut Reports,
     ) -> Result<(), NoMemory> {
-        MEMBERS.step(&mut state.members, p, i, s, blocks, rules, set, out)
+        MEMBERS.step(&mut state.members, p, i, s, seen, rules, set, out)
     }
 
     fn finish(

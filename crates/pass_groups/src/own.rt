@@ -9,7 +9,7 @@ use crate::group6::Group6;
 use crate::group7::Group7;
 use crate::group8::Group8;
 use pass_data_type::{
-    Block, LinterSettings, NoMemory, Pair, Parse, Reports, RuleSet, StepPass, Stmt, WhereEnabled,
+    LinterSettings, NoMemory, Pair, Parse, Reports, RuleSet, Seen, StepPass, Stmt, WhereEnabled,
 };
 use std::alloc::Global;
 
@@ -109,12 +109,12 @@ impl StepPass for OwnPasses {
         p: &Parse<'_>,
         i: u32,
         s: &Stmt,
-        blocks: &[Block],
+        seen: &Seen<'_>,
         rules: &RuleSet,
         set: &LinterSettings,
         out: &mut Reports,
     ) -> Result<(), NoMemory> {
-        GROUPS.step(&mut state.groups, p, i, s, blocks, rules, set, out)
+        GROUPS.step(&mut state.groups, p, i, s, seen, rules, set, out)
     }
 
     fn finish(

@@ -11,7 +11,7 @@ ghost use Rattle.pass_history.specs.AddingNotNullFieldWalk.{Knows, IsKeyed, has_
 
 use crate::excused_columns::ExcusedColumns;
 use lint_pass::{
-    Block, LinterSettings, NoMemory, Reports, Rule, RulePass, Span, Text, Violation, altered_path,
+    LinterSettings, NoMemory, Reports, Rule, RulePass, Seen, Span, Text, Violation, altered_path,
     same_action, same_piece, table_actions,
 };
 use sql_tree::{Action, ActionKind, Parse, Piece, PieceKind, Stmt};
@@ -214,7 +214,7 @@ impl RulePass for AddingNotNullField {
         p: &Parse<'_>,
         _i: u32,
         s: &Stmt,
-        _blocks: &[Block],
+        _seen: &Seen<'_>,
         set: &LinterSettings,
         out: &mut Reports,
     ) -> Result<(), NoMemory> {

@@ -17,8 +17,8 @@ use crate::dropped_constraints::DroppedConstraints;
 use crate::robust_actions::watch_alterations;
 use crate::robust_statements::report_statement;
 use lint_pass::{
-    Block, LinterSettings, NoMemory, OpenTransaction, Reports, Rule, RulePass, blocks_ended_before,
-    is_in_block,
+    Block, LinterSettings, NoMemory, OpenTransaction, Reports, Rule, RulePass, Seen,
+    blocks_ended_before, is_in_block,
 };
 use sql_tree::{Parse, Stmt};
 use std::alloc::Global;
@@ -143,10 +143,11 @@ impl RulePass for PreferRobustStmts {
         p: &Parse<'_>,
         i: u32,
         s: &Stmt,
-        blocks: &[Block],
+        seen: &Seen<'_>,
         set: &LinterSettings,
         out: &mut Reports,
     ) -> Result<(), NoMemory> {
+        let blocks = seen.blocks.as_slice();
         let robust = memory.is_robust(p, blocks, i, set);
         memory.report(p, robust, s, out)?;
         memory.go_after(p, blocks, i, s);

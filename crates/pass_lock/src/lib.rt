@@ -2,8 +2,8 @@
 #![tactic(auto)]
 
 pub use pass_concurrent::{
-    RequireConcurrentIndexCreation, RequireConcurrentIndexCreationMemory,
-    RequireConcurrentIndexDeletion, RequireConcurrentPartitionDetach, RequireConcurrentReindex,
+    RequireConcurrentIndexCreation, RequireConcurrentIndexDeletion,
+    RequireConcurrentPartitionDetach, RequireConcurrentReindex,
 };
 pub use pass_constraint::{
     AddingFieldWithDefault, AddingForeignKeyConstraint, AddingPrimaryKeyConstraint,

@@ -14,7 +14,7 @@ use crate::grouping::{are_apart, gather};
 use crate::lists::{assigned, columns_of, first_name, first_token, members_of};
 use crate::members::{ListKind, Member};
 use lint_pass::{
-    Block, Body, LinterSettings, NoMemory, Parse, Reports, Rule, RulePass, SetPart, Stmt, Target,
+    Body, LinterSettings, NoMemory, Parse, Reports, Rule, RulePass, Seen, SetPart, Stmt, Target,
     ViewDefinition,
 };
 use sqlite_items::Items;
@@ -271,7 +271,7 @@ impl RulePass for BanDuplicateColumnAssignments {
         p: &Parse<'_>,
         _i: u32,
         s: &Stmt,
-        _blocks: &[Block],
+        _seen: &Seen<'_>,
         _set: &LinterSettings,
         out: &mut Reports,
     ) -> Result<(), NoMemory> {

@@ -8,7 +8,7 @@ use crate::change_rows::rows_of;
 use crate::changes::Changes;
 use crate::known_objects::KnownObjects;
 use lint_base::{LinterSettings, Reports, Rule, RuleSet};
-use lint_pass::{Block, NoMemory, Parse, StepPass, Stmt};
+use lint_pass::{NoMemory, Parse, Seen, StepPass, Stmt};
 use std::alloc::Global;
 
 /// Reports what an existing table, foreign table, domain, type or sequence newly asks of its clients, by six rules:
@@ -133,7 +133,7 @@ impl StepPass for ExistingObjectCompatibility {
         p: &Parse<'_>,
         _i: u32,
         s: &Stmt,
-        _blocks: &[Block],
+        _seen: &Seen<'_>,
         rules: &RuleSet,
         _set: &LinterSettings,
         out: &mut Reports,

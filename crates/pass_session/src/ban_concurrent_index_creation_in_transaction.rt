@@ -5,7 +5,7 @@ ghost use Rattle.pass_session.specs.BanConcurrentIndexCreationInTransaction as s
 ghost use Rattle.pass_session.specs.BanConcurrentIndexCreationInTransaction.{build_report};
 
 use lint_pass::{
-    Block, Body, LinterSettings, NoMemory, OpenTransaction, Parse, Reports, Rule, RulePass, Stmt,
+    Body, LinterSettings, NoMemory, OpenTransaction, Parse, Reports, Rule, RulePass, Seen, Stmt,
     Text, Violation,
 };
 use std::alloc::Global;
@@ -106,7 +106,7 @@ impl RulePass for BanConcurrentIndexCreationInTransaction {
         p: &Parse<'_>,
         _i: u32,
         s: &Stmt,
-        _blocks: &[Block],
+        _seen: &Seen<'_>,
         _set: &LinterSettings,
         out: &mut Reports,
     ) -> Result<(), NoMemory> {

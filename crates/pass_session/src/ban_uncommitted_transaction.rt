@@ -10,7 +10,7 @@ ghost use Rattle.pass_session.specs.BanUncommittedTransaction as spec;
 ghost use Rattle.pass_session.specs.BanUncommittedTransaction.{commit_line, left_reports, tokens_of};
 
 use lint_pass::{
-    Block, LinterSettings, NoMemory, Parse, Reports, Rule, RuleSet, Span, StepPass, Stmt, Text,
+    LinterSettings, NoMemory, Parse, Reports, Rule, RuleSet, Seen, Span, StepPass, Stmt, Text,
     TextSize, Violation, begins, insertion_fix, is_end, line_ending,
 };
 use std::alloc::Global;
@@ -179,7 +179,7 @@ impl StepPass for BanUncommittedTransaction {
         _p: &Parse<'_>,
         _i: u32,
         s: &Stmt,
-        _blocks: &[Block],
+        _seen: &Seen<'_>,
         _rules: &RuleSet,
         _set: &LinterSettings,
         _out: &mut Reports,

@@ -17,8 +17,8 @@ use crate::tokens::first_place;
 use lint_lock::LockKind;
 use lint_lock::analyze::possibly_slow_stmt;
 use lint_pass::{
-    Block, Body, Fix, LinterSettings, NoMemory, Parse, Reports, Rule, RuleSet, Span, StepPass,
-    Stmt, Text, Violation, insertion_fix, line_ending, name_at,
+    Body, Fix, LinterSettings, NoMemory, Parse, Reports, Rule, RuleSet, Seen, Span, StepPass, Stmt,
+    Text, Violation, insertion_fix, line_ending, name_at,
 };
 use std::alloc::Global;
 
@@ -298,7 +298,7 @@ impl StepPass for RequireTimeoutSettings {
         p: &Parse<'_>,
         _i: u32,
         s: &Stmt,
-        _blocks: &[Block],
+        _seen: &Seen<'_>,
         rules: &RuleSet,
         _set: &LinterSettings,
         out: &mut Reports,

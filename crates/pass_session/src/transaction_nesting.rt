@@ -7,7 +7,7 @@ ghost use Rattle.pass_session.specs.TransactionNesting as spec;
 ghost use Rattle.pass_session.specs.TransactionNesting.{begin_reports, bound_reports, end_reports};
 
 use lint_pass::{
-    Block, LinterSettings, NoMemory, Parse, Reports, Rule, RulePass, Stmt, Text, Violation, begins,
+    LinterSettings, NoMemory, Parse, Reports, Rule, RulePass, Seen, Stmt, Text, Violation, begins,
     is_end,
 };
 use std::alloc::Global;
@@ -213,7 +213,7 @@ impl RulePass for TransactionNesting {
         p: &Parse<'_>,
         _i: u32,
         s: &Stmt,
-        _blocks: &[Block],
+        _seen: &Seen<'_>,
         set: &LinterSettings,
         out: &mut Reports,
     ) -> Result<(), NoMemory> {

@@ -1,16 +1,14 @@
 -- A text is read in one way alone.
-use Rattle.std.proofs.Common.{◌≡◌, ℕ, ◌+◌, ◌-◌, ◌<◌, ◌≤◌, Bool, true, false, max, List, [], ◌∷◌, length, take, drop, refl, sym, ap, ◌∙◌, subst, arith, get_or, Option, Some, None}
+use Rattle.std.proofs.Common.{◌≡◌, ℕ, ◌+◌, ◌-◌, ◌<◌, ◌≤◌, Bool, true, false, max, List, [], ◌∷◌, length, drop, refl, sym, ap, ◌∙◌, subst, arith, get_or, Option, Some, None}
 use Rattle.std.specs.Prelude.{◌==◌, ◌&&◌, ◌||◌, not}
 use Rattle.std.proofs.Common.{inl, inr}
 use Rattle.std.proofs.lemmas.Bool.{and_parts, cases_lt, false≢true}
 use Rattle.std.proofs.lemmas.List.{get_or-drop, get_or_past}
 use Rattle.sql_lex.specs.sql_token.declared.token.TokKind.{TokKind}
-use Rattle.sql_lex.specs.sql_token.declared.token.TokKind.TheVariants.{Blank, LineComment, BlockComment, Word, Quoted, Str, UName, Dollar, Param, Number, Op, Punct, Other}
-use Rattle.sql_lex.specs.sql_token.Token.{Text, NeverCloses, At, IsRun, op_len, Takes, kind_of, is_closing}
-use Rattle.sql_lex.proofs.of_sql_token.CommentLaws.{comment_one}
-use Rattle.sql_lex.proofs.of_sql_token.QuoteLaws.{quoted_one, dollar_one}
+use Rattle.sql_lex.specs.sql_token.Token.{Text, NeverCloses, At, kind_of, is_closing}
+use Rattle.sql_lex.proofs.of_sql_token.TokenLaws.{takes_one}
 use Rattle.psql_text.specs.Lines.{begins_command, begins_ending, IsLineEnd, IsDataEnd}
-use Rattle.psql_text.specs.Marks.{begins_body, ends_body, ends_copy, ends_statement, is_backslash, is_begin, is_copy_stdin, is_outside, is_semicolon, is_whole, lead_of}
+use Rattle.psql_text.specs.Marks.{begins_body, ends_body, ends_copy, ends_statement, is_backslash, is_atomic, ends_in_begin, is_copy_stdin, is_outside, is_semicolon, is_whole, lead_of}
 use Rattle.psql_text.specs.Psql.{State, Reads, BodyFrom, mark_at, mark_here, is_at_command, is_at_ending, after_command, after_ending, after_token, after_data, after_last, after_body}
 use Rattle.psql_text.specs.Psql.BodyFrom.{end as body_ends, backslash as body_stops, token as body_goes, ends as body_past, unclosed as body_open}
 use Rattle.psql_text.specs.Psql.Reads.{ends, unclosed, command, ending, token, copy, last, body, endless}
@@ -21,24 +19,6 @@ use Rattle.psql_text.specs.declared.part.PartKind.TheVariants.{Command, Data, En
 use Rattle.psql_text.proofs.Places.{is_backslash_at, is_ending_backslash}
 
 -- ---- tokens
-
-run_one : (k : TokKind) (z : Text) (i a b : ℕ) → IsRun k z i a → IsRun k z i b → a ≡ b
-run_one k z i a b p q = grind arith
-
-takes_one : (is_start : Bool) (k : TokKind) (z : Text) (n m : ℕ) → Takes is_start k z n → Takes is_start k z m → n ≡ m
-takes_one s BlockComment z n m p q = comment_one z p q
-takes_one s Str z n m p q = quoted_one _ _ z _ n m p q
-takes_one s UName z n m p q = quoted_one _ _ z _ n m p q
-takes_one s Quoted z n m p q = quoted_one _ _ z _ n m p q
-takes_one s Dollar z n m p q = dollar_one z n m p q
-takes_one s Blank z n m p q = run_one _ z _ n m p q
-takes_one s LineComment z n m p q = run_one _ z _ n m p q
-takes_one s Param z n m p q = run_one _ z _ n m p q
-takes_one s Number z n m p q = run_one _ z _ n m p q
-takes_one s Word z n m p q = run_one _ z _ n m p q
-takes_one s Op z n m p q = p.length ∙ ap (λ (x : ℕ). op_len (take x z)) (run_one _ z _ p.run q.run p.is_run q.is_run) ∙ sym q.length
-takes_one s Punct z n m p q = p ∙ sym q
-takes_one s Other z n m p q = p ∙ sym q
 
 kind_one : (t : Text) (i j l : ℕ) (k m : TokKind) → At t i k j → At t i m l → m ≡ k
 kind_one t i j l k m a b = b.kind ∙ sym a.kind
@@ -84,9 +64,9 @@ false_true b p q = cc
 marks_differ : {P : Type 0} (is : Mark → Bool) (t : Text) (i j l : ℕ) (k m : TokKind) → At t i k j → At t i m l → is (mark_at t i k j) ≡ true → is (mark_at t i m l) ≡ false → P
 marks_differ is t i j l k m a b passes fails = false_true _ passes (sym (ap is (mark_one t i j l k m a b)) ∙ fails)
 
-semicolon_is_no_begin : {P : Type 0} (m : Mark) → is_semicolon m ≡ true → is_begin m ≡ true → P
-semicolon_is_no_begin mark.Semicolon p q = absurd (false≢true q)
-semicolon_is_no_begin m p q = absurd (false≢true p)
+semicolon_is_no_atomic : {P : Type 0} (m : Mark) → is_semicolon m ≡ true → is_atomic m ≡ true → P
+semicolon_is_no_atomic mark.Semicolon p q = absurd (false≢true q)
+semicolon_is_no_atomic m p q = absurd (false≢true p)
 
 -- ---- bodies
 
@@ -168,7 +148,7 @@ copy_and_body s j l k m a b copies begins =
     let here = mark_here s k j in
     let ends = (and_parts (ends_statement s.marks here) (is_copy_stdin s.marks) copies).0 in
     let same = sym (ap (begins_body s.marks) (mark_one s.text s.at j l k m a b)) ∙ begins in
-    semicolon_is_no_begin here (and_parts (is_semicolon here) (is_outside s.marks) ends).0 (and_parts (is_begin here) (is_outside s.marks && is_whole (lead_of s.marks)) same).0
+    semicolon_is_no_atomic here (and_parts (is_semicolon here) (is_outside s.marks) ends).0 (and_parts (is_atomic here) (ends_in_begin s.marks && is_whole (lead_of s.marks)) same).0
 
 -- lines come after the token and do not
 lines_and_none : {P : Type 0} (s : State) (k m : TokKind) (j l d e : ℕ) → At s.text s.at k j → At s.text s.at m l →

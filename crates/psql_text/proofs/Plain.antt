@@ -4,7 +4,7 @@ use Rattle.std.specs.Prelude.{not}
 use Rattle.std.proofs.lemmas.Bool.{and_parts}
 use Rattle.sql_lex.specs.sql_token.Token.{Text}
 use Rattle.psql_text.specs.Lines.{begins_ending}
-use Rattle.psql_text.specs.Marks.{is_begin, is_copy_stdin, is_create, is_nothing, is_or, is_outside, is_replace, is_routine, is_stdin, is_whole, begins_body, begins_copy, has_from_stdin, ends_statement, lead_after, lead_of, marks_after}
+use Rattle.psql_text.specs.Marks.{is_atomic, is_copy_stdin, is_create, is_nothing, is_or, ends_in_begin, is_replace, is_routine, is_stdin, is_whole, begins_body, begins_copy, has_from_stdin, ends_statement, lead_after, lead_of, marks_after}
 use Rattle.psql_text.specs.Psql.{State, Reads, Passes, start, mark_here, after_token}
 use Rattle.psql_text.specs.Psql.Reads.{ends, unclosed, command, ending, token, copy, last, body, endless}
 use Rattle.psql_text.specs.Laws.{HasNone, IsPlain}
@@ -33,9 +33,9 @@ no_copy false b c h = refl
 
 -- ---- no body
 
--- no word of the text is FUNCTION or PROCEDURE, nor was one, or none is BEGIN
+-- no word of the text is FUNCTION or PROCEDURE, nor was one, or none is ATOMIC
 abbrev NoBody : Text → List Mark → Type 0
-NoBody t ms = (HasNone t is_routine × (is_whole (lead_of ms) ≡ false)) ⊎ HasNone t is_begin
+NoBody t ms = (HasNone t is_routine × (is_whole (lead_of ms) ≡ false)) ⊎ HasNone t is_atomic
 
 neither_whole : (b : Bool) (x y : Lead) → is_whole x ≡ false → is_whole y ≡ false → is_whole (if b then x else y) ≡ false
 neither_whole true x y p q = p
@@ -58,8 +58,8 @@ no_body_after : (t : Text) (ms : List Mark) (m : Mark) → NoBody t ms → (HasN
 no_body_after t ms m (inl p) h = inl (p.0, still_not_whole (is_nothing m) (ends_statement ms m) ms m p.1 (h p.0))
 no_body_after t ms m (inr p) h = inr p
 
-no_begin : (t : Text) (ms : List Mark) (m : Mark) → NoBody t ms → (HasNone t is_begin → is_begin m ≡ false) → begins_body ms m ≡ false
-no_begin t ms m (inl p) h = no_copy (is_begin m) (is_outside ms) (is_whole (lead_of ms)) p.1
+no_begin : (t : Text) (ms : List Mark) (m : Mark) → NoBody t ms → (HasNone t is_atomic → is_atomic m ≡ false) → begins_body ms m ≡ false
+no_begin t ms m (inl p) h = no_copy (is_atomic m) (ends_in_begin ms) (is_whole (lead_of ms)) p.1
 no_begin t ms m (inr p) h = rw (h p) refl
 
 -- ---- readings
@@ -80,7 +80,7 @@ plain_reads s ps plain h g (last _ k j d _ c a is l n r) =
 plain_reads s _ plain h g (body _ k j e ps c a b w r) = false_true _ b (no_begin s.text s.marks (mark_here s k j) g (λ none. none s.at j k a))
 plain_reads s _ plain h g (endless _ k j c a b w) = refl
 
-none_begun : (t : Text) → HasNone t is_routine ⊎ HasNone t is_begin → NoBody t []
+none_begun : (t : Text) → HasNone t is_routine ⊎ HasNone t is_atomic → NoBody t []
 none_begun t (inl p) = inl (p, refl)
 none_begun t (inr p) = inr p
 

@@ -8,7 +8,7 @@ use Rattle.sql_lex.specs.sql_token.declared.token.TokKind.{TokKind}
 use Rattle.sql_lex.specs.sql_token.declared.token.TokKind.TheVariants.{Op}
 use Rattle.sql_lex.specs.sql_token.Token.{Text, At}
 use Rattle.psql_text.specs.Lines.{begins_command, begins_ending, IsLineEnd, IsDataEnd}
-use Rattle.psql_text.specs.Marks.{marks_after, begins_body, ends_copy, is_begin, is_whole}
+use Rattle.psql_text.specs.Marks.{marks_after, begins_body, ends_copy, is_atomic, is_whole}
 use Rattle.psql_text.specs.Psql.{Reads, IsBody, is_at_command, is_at_ending, mark_at, mark_here, start}
 use Rattle.psql_text.specs.Psql.Reads.{token, copy, last, ending, body, endless}
 use Rattle.sql_lex.proofs.SignLaws.{signs_after}
@@ -19,7 +19,7 @@ use Rattle.psql_text.specs.declared.part.PartKind.TheVariants.{Data, Ending, Bod
 use Rattle.psql_text.specs.declared.reading.Reading.{Reading}
 use Rattle.psql_text.specs.declared.reading.Found.{Found}
 use Rattle.psql_text.proofs.Places.{after_feed, command_some, data_bounds, data_whole, is_ending_backslash, line_whole}
-use Rattle.psql_text.proofs.Words.{begin_whole}
+use Rattle.psql_text.proofs.Words.{atomic_whole}
 
 -- ---- what is next is known by what is kept of the marks
 
@@ -141,7 +141,7 @@ endless_goes t r ms h plain b is = endless (state t r ms) b.kind b.end (no_comma
 pub body_moves : (t : Text) (r : Reading) (e : ℕ) → IsPlace t r → IsAtBody t r → r.at < e → e ≤ length t → (IsUtf8 t → IsCharBoundary t e) → IsAhead t r (body_found r e)
 body_moves t r e place b less within whole =
     let m = mark_at t r.at b.kind b.end in
-    let word = (and_parts (is_begin m) (r.statement.opened == r.statement.closed && is_whole r.statement.lead) b.begins).0 in
+    let word = (and_parts (is_atomic m) (r.statement.ends_in_begin && is_whole r.statement.lead) b.begins).0 in
     record {
       at = less;
       place = record { at = within; taken = place.taken; opened = omega (arith, place.opened); closed = omega (arith, place.closed) };
@@ -149,7 +149,7 @@ body_moves t r e place b less within whole =
       some = omega arith;
       within = within;
       lines = omega arith;
-      whole = λ utf8. (begin_whole t r.at b.end b.kind b.token word, whole utf8);
+      whole = λ utf8. (atomic_whole t r.at b.end b.kind b.token word, whole utf8);
     }
 
 -- ---- where reading begins

@@ -1,4 +1,4 @@
--- The words BEGIN and END are ASCII.
+-- The words ATOMIC and END are ASCII.
 use Rattle.std.proofs.Common.{◌≡◌, ◌∙◌, ℕ, ◌+◌, ◌-◌, ◌<◌, Bool, true, false, if◌then◌else◌, ap, arith, codes, drop, get_or, inl, inr, length, length-take-le, length-drop, map, refl, subst, sym, take}
 use Rattle.std.specs.Char.{to_ascii_lowercase}
 use Rattle.std.specs.Str.{IsUtf8, IsCharBoundary, str_eq_ignore_ascii_case}
@@ -10,10 +10,10 @@ use Rattle.std.proofs.lemmas.Str.{IsCharBoundary-after_ascii, IsCharBoundary-bef
 use Rattle.sql_lex.specs.sql_token.declared.token.TokKind.{TokKind}
 use Rattle.sql_lex.specs.sql_token.declared.token.TokKind.TheVariants as k
 use Rattle.sql_lex.specs.sql_token.Token.{Text, At}
-use Rattle.psql_text.specs.Marks.{block_mark, is_begin, is_end, mark_of, routine_mark, word_mark}
+use Rattle.psql_text.specs.Marks.{block_mark, is_atomic, is_end, mark_of, routine_mark, word_mark}
 use Rattle.psql_text.specs.Psql.{mark_at}
 use Rattle.psql_text.specs.declared.mark.Mark.{Mark}
-use Rattle.psql_text.specs.declared.mark.Mark.TheVariants.{Copy, From, Stdin, Create, Or, Replace, Routine, Begin, Case, End, Opener, Closer, Semicolon, Backslash, Other}
+use Rattle.psql_text.specs.declared.mark.Mark.TheVariants.{Copy, From, Stdin, Create, Or, Replace, Routine, Begin, Case, End, Atomic, Opener, Closer, Semicolon, Backslash, Other}
 
 -- ---- a word with such a mark is that word
 
@@ -35,17 +35,19 @@ past_routine is false false true d m p q r s h = false_true _ h r
 past_routine is false false false true m p q r s h = false_true _ h s
 past_routine is false false false false m p q r s h = h
 
-begin_alone : (a b c : Bool) → is_begin (if a then Begin else (if b then Case else (if c then End else Other))) ≡ true → a ≡ true
-begin_alone true b c h = refl
-begin_alone false true c h = absurd (false≢true h)
-begin_alone false false true h = absurd (false≢true h)
-begin_alone false false false h = absurd (false≢true h)
+atomic_alone : (a b c d : Bool) → is_atomic (if a then Begin else (if b then Case else (if c then End else (if d then Atomic else Other)))) ≡ true → d ≡ true
+atomic_alone true b c d h = absurd (false≢true h)
+atomic_alone false true c d h = absurd (false≢true h)
+atomic_alone false false true d h = absurd (false≢true h)
+atomic_alone false false false true h = refl
+atomic_alone false false false false h = absurd (false≢true h)
 
-end_alone : (a b c : Bool) → is_end (if a then Begin else (if b then Case else (if c then End else Other))) ≡ true → c ≡ true
-end_alone true b c h = absurd (false≢true h)
-end_alone false true c h = absurd (false≢true h)
-end_alone false false true h = refl
-end_alone false false false h = absurd (false≢true h)
+end_alone : (a b c d : Bool) → is_end (if a then Begin else (if b then Case else (if c then End else (if d then Atomic else Other)))) ≡ true → c ≡ true
+end_alone true b c d h = absurd (false≢true h)
+end_alone false true c d h = absurd (false≢true h)
+end_alone false false true d h = refl
+end_alone false false false true h = absurd (false≢true h)
+end_alone false false false false h = absurd (false≢true h)
 
 -- no punctuation, and no other byte, has such a mark
 no_punct : (is : Mark → Bool) (a b c : Bool) → is Opener ≡ false → is Closer ≡ false → is Semicolon ≡ false → is Other ≡ false
@@ -59,18 +61,18 @@ no_other : (is : Mark → Bool) (a : Bool) → is Backslash ≡ false → is Oth
 no_other is true p q = p
 no_other is false p q = q
 
-begin_word : (kind : TokKind) (bs : Text) → is_begin (mark_of kind bs) ≡ true → str_eq_ignore_ascii_case bs (codes "begin") ≡ true
+atomic_word : (kind : TokKind) (bs : Text) → is_atomic (mark_of kind bs) ≡ true → str_eq_ignore_ascii_case bs (codes "atomic") ≡ true
 unfolding mark_of word_mark routine_mark block_mark
-begin_word k.Word bs h =
-    begin_alone (str_eq_ignore_ascii_case bs (codes "begin")) _ _ (past_routine is_begin _ _ _ _ (block_mark bs) refl refl refl refl (past_copy is_begin _ _ _ (routine_mark bs) refl refl refl h))
-begin_word k.Punct bs h = false_true _ h (no_punct is_begin _ _ _ refl refl refl refl)
-begin_word k.Other bs h = false_true _ h (no_other is_begin _ refl refl)
-begin_word kind bs h = absurd (false≢true h)
+atomic_word k.Word bs h =
+    atomic_alone _ _ _ (str_eq_ignore_ascii_case bs (codes "atomic")) (past_routine is_atomic _ _ _ _ (block_mark bs) refl refl refl refl (past_copy is_atomic _ _ _ (routine_mark bs) refl refl refl h))
+atomic_word k.Punct bs h = false_true _ h (no_punct is_atomic _ _ _ refl refl refl refl)
+atomic_word k.Other bs h = false_true _ h (no_other is_atomic _ refl refl)
+atomic_word kind bs h = absurd (false≢true h)
 
 end_word : (kind : TokKind) (bs : Text) → is_end (mark_of kind bs) ≡ true → str_eq_ignore_ascii_case bs (codes "end") ≡ true
 unfolding mark_of word_mark routine_mark block_mark
 end_word k.Word bs h =
-    end_alone _ _ (str_eq_ignore_ascii_case bs (codes "end")) (past_routine is_end _ _ _ _ (block_mark bs) refl refl refl refl (past_copy is_end _ _ _ (routine_mark bs) refl refl refl h))
+    end_alone _ _ (str_eq_ignore_ascii_case bs (codes "end")) _ (past_routine is_end _ _ _ _ (block_mark bs) refl refl refl refl (past_copy is_end _ _ _ (routine_mark bs) refl refl refl h))
 end_word k.Punct bs h = false_true _ h (no_punct is_end _ _ _ refl refl refl refl)
 end_word k.Other bs h = false_true _ h (no_other is_end _ refl refl)
 end_word kind bs h = absurd (false≢true h)
@@ -94,11 +96,11 @@ byte_small bs low n c same at small =
 token_byte : (t : Text) (i j n m : ℕ) → n < j - i → i + n ≡ m → get_or (take (j - i) (drop i t)) n 0 ≡ get_or t m 0
 token_byte t i j n m within place = get_or-take (j - i) (drop i t) n 0 within ∙ (get_or-drop i t n 0 ∙ ap (λ (x : ℕ). get_or t x 0) place)
 
-pub begin_whole : (t : Text) (i j : ℕ) (kind : TokKind) → At t i kind j → is_begin (mark_at t i kind j) ≡ true → IsCharBoundary t i
-begin_whole t i j kind at is =
+pub atomic_whole : (t : Text) (i j : ℕ) (kind : TokKind) → At t i kind j → is_atomic (mark_at t i kind j) ≡ true → IsCharBoundary t i
+atomic_whole t i j kind at is =
     let bs = take (j - i) (drop i t) in
-    let same = same_low bs (codes "begin") (begin_word kind bs is) in
-    let first : get_or bs 0 0 < 128 = byte_small bs (map to_ascii_lowercase (codes "begin")) 0 98 same refl (omega arith) in
+    let same = same_low bs (codes "atomic") (atomic_word kind bs is) in
+    let first : get_or bs 0 0 < 128 = byte_small bs (map to_ascii_lowercase (codes "atomic")) 0 97 same refl (omega arith) in
     let byte = token_byte t i j 0 i (omega (arith, at.before)) (omega arith) in
     IsCharBoundary-before_ascii t i (omega (arith, at.before, at.within)) (subst (λ (b : ℕ). b < 128) byte first)
 

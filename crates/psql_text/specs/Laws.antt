@@ -3,7 +3,7 @@ use Rattle.std.specs.Prelude.{◌≡◌, ◌⊎◌, ℕ, Bool, false, List, [], 
 use Rattle.sql_lex.specs.sql_token.declared.token.TokKind.{TokKind}
 use Rattle.sql_lex.specs.sql_token.Token.{Text, At, is_blank}
 use Rattle.psql_text.specs.Lines.{begins_command, begins_ending}
-use Rattle.psql_text.specs.Marks.{is_stdin, is_begin, is_routine}
+use Rattle.psql_text.specs.Marks.{is_stdin, is_atomic, is_routine}
 use Rattle.psql_text.specs.Psql.{Passes, blank_all, mark_at}
 use Rattle.psql_text.specs.declared.mark.Mark.{Mark}
 use Rattle.psql_text.specs.declared.part.Part.{Part}
@@ -23,12 +23,12 @@ abbrev pub HasNone : Text → (Mark → Bool) → Type 0
 HasNone t is = (i j : ℕ) (k : TokKind) → At t i k j → is (mark_at t i k j) ≡ false
 
 -- No line of the text begins with a command that is passed over, and none stands in it that ends a statement. No token of it is the word STDIN, and
--- either none is FUNCTION or PROCEDURE, or none is BEGIN.
+-- either none is FUNCTION or PROCEDURE, or none is ATOMIC.
 pub record IsPlain (t : Text) : Type 0 where
   pub commands : (i : ℕ) → begins_command t i ≡ false
   pub endings : (i : ℕ) → begins_ending t i ≡ false
   pub stdin : HasNone t is_stdin
-  pub bodies : HasNone t is_routine ⊎ HasNone t is_begin
+  pub bodies : HasNone t is_routine ⊎ HasNone t is_atomic
 
 abbrev pub PlainTextsStay : Type 0
 PlainTextsStay = (t : Text) (ps : List Part) → IsPlain t → Passes t ps → ps ≡ []

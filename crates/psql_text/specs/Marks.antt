@@ -6,7 +6,7 @@ use Rattle.sql_lex.specs.sql_token.Depth.{one_if}
 use Rattle.sql_lex.specs.sql_token.declared.token.TokKind.{TokKind}
 use Rattle.sql_lex.specs.sql_token.declared.token.TokKind.TheVariants as k
 use Rattle.psql_text.specs.declared.mark.Mark.{Mark}
-use Rattle.psql_text.specs.declared.mark.Mark.TheVariants.{Copy, From, Stdin, Create, Or, Replace, Routine, Begin, Case, End, Opener, Closer, Semicolon, Backslash, Other, Nothing}
+use Rattle.psql_text.specs.declared.mark.Mark.TheVariants.{Copy, From, Stdin, Create, Or, Replace, Routine, Begin, Case, End, Atomic, Opener, Closer, Semicolon, Backslash, Other, Nothing}
 use Rattle.psql_text.specs.declared.lead.Lead.{Lead}
 use Rattle.psql_text.specs.declared.lead.Lead.TheVariants as lead
 
@@ -18,7 +18,8 @@ block_mark bs =
     if str_eq_ignore_ascii_case bs (codes "begin") then Begin
     else (if str_eq_ignore_ascii_case bs (codes "case") then Case
     else (if str_eq_ignore_ascii_case bs (codes "end") then End
-    else Other))
+    else (if str_eq_ignore_ascii_case bs (codes "atomic") then Atomic
+    else Other)))
 
 -- what a function or a procedure is made by
 unfoldable pub routine_mark : Text → Mark
@@ -108,6 +109,11 @@ is_case _ = false
 abbrev pub is_end : Mark → Bool
 is_end End = true
 is_end _ = false
+
+-- the word ATOMIC
+abbrev pub is_atomic : Mark → Bool
+is_atomic Atomic = true
+is_atomic _ = false
 
 -- ( or [
 abbrev pub is_opener : Mark → Bool
@@ -209,11 +215,16 @@ abbrev pub is_whole : Lead → Bool
 is_whole lead.Routine = true
 is_whole _ = false
 
--- m is a BEGIN outside of brackets, and the first words are CREATE [OR REPLACE] FUNCTION or PROCEDURE
-abbrev pub begins_body : List Mark → Mark → Bool
-begins_body ms m = is_begin m && (is_outside ms && is_whole (lead_of ms))
+-- the last word is BEGIN, outside of brackets
+abbrev pub ends_in_begin : List Mark → Bool
+ends_in_begin [] = false
+ends_in_begin (m ∷ ms) = is_begin m && is_outside ms
 
--- ---- The marks of a body are given from the last to the first, which is its BEGIN.
+-- m is the ATOMIC of BEGIN ATOMIC outside of brackets, and the first words are CREATE [OR REPLACE] FUNCTION or PROCEDURE
+abbrev pub begins_body : List Mark → Mark → Bool
+begins_body ms m = is_atomic m && (ends_in_begin ms && is_whole (lead_of ms))
+
+-- ---- The marks of a body are given from the last to the first, which comes after its BEGIN.
 
 -- BEGIN and CASE outside of brackets
 abbrev pub begun : List Mark → ℕ
@@ -225,6 +236,6 @@ abbrev pub ended : List Mark → ℕ
 ended [] = 0
 ended (m ∷ ms) = ended ms + one_if (is_end m && is_outside ms)
 
--- m is an END outside of brackets, and with it there are as many of these as of those
+-- m is an END outside of brackets, and each BEGIN and CASE before it has its own
 abbrev pub ends_body : List Mark → Mark → Bool
-ends_body ms m = (is_end m && is_outside ms) && (begun ms == ended ms + 1)
+ends_body ms m = (is_end m && is_outside ms) && (begun ms == ended ms)

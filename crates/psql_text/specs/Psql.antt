@@ -56,7 +56,7 @@ pub data BodyFrom : Text → ℕ → List Mark → Option ℕ → Type 0 where
   -- a token never closes
   unclosed : (t : Text) (i : ℕ) (ms : List Mark) → NeverCloses t i → BodyFrom t i ms None
 
--- the body that begins at i ends there, or does not end
+-- the body whose ATOMIC is at i ends there, or does not end
 abbrev pub IsBody : Text → ℕ → Option ℕ → Type 0
 IsBody t i to = BodyFrom t i [] to
 
@@ -126,7 +126,7 @@ pub data Reads : State → List Part → Type 0 where
   -- the same where no line comes next, or only an empty one that ends the text
   last : (s : State) (k : TokKind) (j d : ℕ) (ps : List Part) → is_at_command s ≡ false → At s.text s.at k j →
       ends_copy s.marks (mark_here s k j) ≡ true → IsLineEnd s.text (max j s.taken) d → length s.text ≤ d + 1 → Reads (after_last s k j d) ps → Reads s ps
-  -- the BEGIN of a body that ends
+  -- the ATOMIC of a body that ends
   body : (s : State) (k : TokKind) (j e : ℕ) (ps : List Part) → is_at_command s ≡ false → At s.text s.at k j → begins_body s.marks (mark_here s k j) ≡ true →
       IsBody s.text s.at (Some e) → Reads (after_body s e) ps → Reads s (record { kind = Body; from = s.at; to = e } ∷ ps)
   -- that of a body that does not end: what follows stays

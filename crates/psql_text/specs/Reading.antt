@@ -6,7 +6,7 @@ use Rattle.sql_lex.specs.sql_token.Token.{Text, At}
 use Rattle.sql_lex.specs.sql_token.declared.token.TokKind.{TokKind}
 use Rattle.psql_text.specs.Count.{data_of}
 use Rattle.psql_text.specs.Lines.{begins_command, begins_ending}
-use Rattle.psql_text.specs.Marks.{is_none, is_begin, begins_copy, opened, closed, has_from, ends_in_from, has_from_stdin, lead_of, is_whole, begun, ended}
+use Rattle.psql_text.specs.Marks.{is_none, is_atomic, begins_copy, opened, closed, has_from, ends_in_from, has_from_stdin, ends_in_begin, lead_of, is_whole, begun, ended}
 use Rattle.psql_text.specs.Psql.{State, Reads, blanked, mark_at}
 use Rattle.psql_text.specs.declared.block.Block.{Block}
 use Rattle.psql_text.specs.declared.mark.Mark.{Mark}
@@ -27,6 +27,7 @@ summary ms = record {
   has_from = has_from ms;
   ends_in_from = ends_in_from ms;
   has_from_stdin = has_from_stdin ms;
+  ends_in_begin = ends_in_begin ms;
   lead = lead_of ms;
 }
 
@@ -44,9 +45,9 @@ is_ending_next t r = begins_ending t r.at && not (r.statement.begins_copy && r.s
 abbrev pub is_command_next : Text → Reading → Bool
 is_command_next t r = begins_command t r.at || is_ending_next t r
 
--- a mark is the BEGIN of a body in the statement
+-- a mark is the ATOMIC of a body in the statement
 abbrev pub begins_body_of : Statement → Mark → Bool
-begins_body_of s m = is_begin m && (s.opened == s.closed && is_whole s.lead)
+begins_body_of s m = is_atomic m && (s.ends_in_begin && is_whole s.lead)
 
 -- A token is next that begins a body.
 pub record IsAtBody (t : Text) (r : Reading) : Type 0 where

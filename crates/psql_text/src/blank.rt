@@ -157,7 +157,7 @@ fn blank_from(alloc: Global, source: &str, first: Found) -> Result<Blanked, NoMe
 }
 
 /// The text without what psql keeps to itself, and without the bodies of functions: each line that begins with a command that only psql
-/// takes, the lines of data after a COPY .. FROM STDIN up to the line `\.`, and the bodies BEGIN ATOMIC .. END are blank in it. Of a command
+/// takes, the lines of data after a COPY .. FROM STDIN up to the line `\.`, and the bodies BEGIN ATOMIC .. END, but for the BEGIN, are blank in it. Of a command
 /// that ends a statement, as `\g` and `\endif`, a semicolon is left, so that what comes before it is one statement and what comes after it
 /// another. `None` where nothing is blank that was none, so that nothing is copied. After a token that never closes, and from a body that
 /// does not end, the text stays as it is. It is for a text as it was written, and not for its own answer, in which each COPY .. FROM

@@ -8,14 +8,14 @@ ghost use Rattle.psql_text.specs.declared.mark.Mark.{Mark};
 use crate::mark::Mark;
 use crate::statement::plus;
 
-/// What is kept of the tokens of a body that were read.
+/// What is kept of the tokens of a body that were read, which come after its BEGIN.
 #[derive(Clone, Copy)]
 pub struct Block {
     /// How many brackets were opened.
     pub opened: usize,
     /// How many brackets were closed.
     pub closed: usize,
-    /// How many BEGIN and CASE were read at depth 0.
+    /// How many other BEGIN, and CASE, were read at depth 0.
     pub begun: usize,
     /// How many END were read there.
     pub ended: usize,
@@ -44,10 +44,9 @@ impl Block {
 
     /// Whether this mark is its END.
     pub fn ends_at(self, mark: Mark) -> bool
-        requires { self.ended + 1 < 2 ^ 64 }
         ensures { (ms : List Mark) → self ≡ block_of ms → result ≡ spec.ends_body ms mark }
     {
-        (mark.is_end() && self.is_outside()) && self.begun == self.ended + 1
+        (mark.is_end() && self.is_outside()) && self.begun == self.ended
     }
 
     /// Whether this mark is a BEGIN or a CASE at depth 0.

@@ -8,7 +8,7 @@ use crate::block::Block;
 use crate::mark::mark_of;
 use crate::token::{is_operator, token_after};
 
-/// The end of the body that begins at this place. `None` where it does not end: before its END the text ends, a token never closes, or a
+/// The end of the body whose ATOMIC is at this place. `None` where it does not end: before its END the text ends, a token never closes, or a
 /// backslash is a token.
 pub fn body_end(text: &[u8], from: usize) -> Option<usize>
     requires { from < length text.now }

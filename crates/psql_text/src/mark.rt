@@ -29,6 +29,8 @@ pub enum Mark {
     Case,
     /// The word END.
     End,
+    /// The word ATOMIC.
+    Atomic,
     /// `(` or `[`
     Opener,
     /// `)` or `]`
@@ -104,6 +106,12 @@ impl Mark {
         matches!(self, Mark::End)
     }
 
+    pub fn is_atomic(self) -> bool
+        ensures { result ≡ spec.is_atomic self }
+    {
+        matches!(self, Mark::Atomic)
+    }
+
     pub fn is_opener(self) -> bool
         ensures { result ≡ spec.is_opener self }
     {
@@ -145,6 +153,8 @@ fn block_mark(bytes: &[u8]) -> Mark
         Mark::Case
     } else if bytes.eq_ignore_ascii_case(b"end") {
         Mark::End
+    } else if bytes.eq_ignore_ascii_case(b"atomic") {
+        Mark::Atomic
     } else {
         Mark::Other
     }

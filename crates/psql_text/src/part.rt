@@ -9,7 +9,7 @@ pub enum PartKind {
     Data,
     /// A command that ends the statement before it, up to the end of the line: it sends it or drops it, or is the edge of a branch.
     Ending,
-    /// The body of a function or a procedure, BEGIN ATOMIC .. END.
+    /// The body of a function or a procedure, BEGIN ATOMIC .. END, but for its BEGIN.
     Body,
 }
 

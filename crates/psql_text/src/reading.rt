@@ -121,7 +121,7 @@ fn is_ending_next(text: &[u8], reading: Reading) -> bool
     begins_ending(text, reading.at) && !reading.statement.is_copy_stdin()
 }
 
-/// What comes of the body that begins at this place.
+/// What comes of the body whose ATOMIC is at this place.
 fn step_into(text: &[u8], reading: Reading) -> Step
     requires place { IsPlace text.now reading }
     requires plain { is_command_next text.now reading ≡ false }

@@ -26,6 +26,8 @@ pub struct Statement {
     pub ends_in_from: bool,
     /// After it STDIN was read.
     pub has_from_stdin: bool,
+    /// The last word is BEGIN, at depth 0.
+    pub ends_in_begin: bool,
     /// Its first words.
     pub lead: Lead,
 }
@@ -52,6 +54,7 @@ impl Statement {
             has_from: false,
             ends_in_from: false,
             has_from_stdin: false,
+            ends_in_begin: false,
             lead: Lead::Empty,
         }
     }
@@ -84,11 +87,11 @@ impl Statement {
         self.ends_at(mark) && self.is_copy_stdin()
     }
 
-    /// Whether this mark is the BEGIN of a body in it.
+    /// Whether this mark is the ATOMIC of a body in it.
     pub fn begins_body_at(self, mark: Mark) -> bool
         ensures { result ≡ begins_body_of self mark }
     {
-        mark.is_begin() && (self.is_outside() && self.lead.is_whole())
+        mark.is_atomic() && (self.ends_in_begin && self.lead.is_whole())
     }
 
     /// Its first words, with this mark after the others.
@@ -137,6 +140,13 @@ impl Statement {
         (mark.is_stdin() && self.ends_in_from) || self.has_from_stdin
     }
 
+    /// Whether its last word is BEGIN at depth 0, with this mark after the others.
+    fn ends_in_begin_with(self, mark: Mark) -> bool
+        ensures { (ms : List Mark) → self ≡ summary ms → result ≡ spec.ends_in_begin (mark ∷ ms) }
+    {
+        mark.is_begin() && self.is_outside()
+    }
+
     /// The statement with this mark after the others, which is not its end.
     fn with(self, mark: Mark) -> Statement
         requires { (self.opened + 1 < 2 ^ 64) × (self.closed + 1 < 2 ^ 64) }
@@ -151,6 +161,7 @@ impl Statement {
             has_from: self.has_from_with(mark),
             ends_in_from: self.ends_in_from_with(mark),
             has_from_stdin: self.has_from_stdin_with(mark),
+            ends_in_begin: self.ends_in_begin_with(mark),
             lead: self.lead_with(mark),
         }
     }

@@ -1,4 +1,4 @@
-//! The line that says which word of `lavkheto` is refused, and what was expected.
+//! The line that says which argument of `lavkheto` is refused, and what was expected.
 //!
 //! `specs/Messages.antt` has the message of each fault.
 #![tactic(auto)]

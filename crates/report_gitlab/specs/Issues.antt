@@ -1,5 +1,5 @@
 -- Findings as issues of GitLab's Code Quality report format (GitLab's documentation, "Code Quality", "Code Quality report format").
-use Rattle.std.specs.Prelude.{ℕ, List, [], ◌∷◌, ◌++◌, codes, slice_range}
+use Rattle.std.specs.Prelude.{ℕ, List, ◌∷◌, ◌++◌, codes, slice_range}
 use Rattle.hex.specs.Hex.{encode_lower}
 use Rattle.sha2.specs.Sha256.{sha256}
 use Rattle.serde_json.specs.Data.{Data, member, no_members, number, object, string, unsigned}
@@ -9,7 +9,7 @@ use Rattle.json_value.specs.source_file.declared.level.Level.{Level}
 use Rattle.json_value.specs.source_file.declared.level.Level.TheVariants as level
 use Rattle.json_value.specs.source_file.declared.refusal.Refusal.{Refusal}
 use Rattle.json_value.specs.source_file.File.{FileValue, line_number}
-use Rattle.json_value.specs.source_file.Line.{Text}
+use Rattle.json_value.specs.source_file.Line.{Text, rest_of}
 use Rattle.json_value.specs.source_file.Refusals as refusals
 
 -- of the severities info, minor, major, critical and blocker
@@ -17,7 +17,7 @@ abbrev pub severity_of : Level → List ℕ
 severity_of level.Warning = codes "minor"
 severity_of level.Error = codes "major"
 
--- what the fingerprint is taken of: the file's name, that of the rule or hazard, and the statement, with a byte 0 between two
+-- what the fingerprint is taken of: the file's name, that of the rule, hazard or fault, and a part of its text, with a byte 0 between two
 abbrev pub fingerprinted : Text → List ℕ → Text → List ℕ
 fingerprinted file name part = file ++ 0 ∷ name ++ 0 ∷ part
 
@@ -58,7 +58,7 @@ abbrev pub report_issue : FileValue → Report → Data
 report_issue file r =
     issue_object file (line_number file.text r.text_range.start) level.Warning (name_of r.code) r.message (statement_text file.text r)
 
--- why a file could not be linted
+-- why a file could not be linted: its fingerprint is taken of what is on the line from the fault on
 abbrev pub refusal_issue : FileValue → Refusal → Data
 refusal_issue file r =
-    issue_object file (line_number file.text (refusals.place_of r)) level.Error (refusals.name_of r) (refusals.message_of r) []
+    issue_object file (line_number file.text (refusals.place_of r)) level.Error (refusals.name_of r) (refusals.message_of r) (rest_of file.text (refusals.place_of r))

@@ -1,7 +1,10 @@
 //! The issue of a finding.
-ghost use Rattle.std.specs.Prelude.{◌≡◌, IfOk, string_bytes};
+ghost use Rattle.std.specs.Prelude.{◌≡◌, ◌==◌, ◌≤◌, IfOk, length, position, string_bytes};
+ghost use Rattle.std.specs.Str.{IsCharBoundary};
 ghost use Rattle.serde_json.specs.View.{view};
 ghost use Rattle.json_value.specs.source_file.File.{IsRangeIn};
+ghost use Rattle.json_value.specs.source_file.Line.{rest_of};
+ghost use Rattle.json_value.specs.source_file.Refusals.{place_of};
 ghost use Rattle.report_gitlab.specs.Issues.{described, fingerprint, fingerprinted, issue_object, location_object, refusal_issue, report_fingerprint, report_issue, severity_of, statement_text};
 
 use json_value::{Level, Refusal, SourceFile};
@@ -126,16 +129,37 @@ pub(crate) fn report_issue(
     issue_value(alloc, file, line, Level::Warning, name, message, statement)
 }
 
+// The place of the first line feed.
+fn first_line_feed(bytes: &[u8]) -> Option<usize>
+    ensures { result ≡ position (λ byte. byte == 10) bytes.now }
+{
+    bytes.iter().position(|byte| *byte == b'\n')
+}
+
+// What is on the line from a place on.
+fn rest_of_line(text: &[u8], at: usize) -> &[u8]
+    requires { at ≤ length text.now }
+    ensures { result.now ≡ rest_of text.now at }
+{
+    let rest = &text[at..];
+    match first_line_feed(rest) {
+        None => rest,
+        Some(end) => &rest[..end],
+    }
+}
+
 /// Why a file could not be linted, as an issue. The error comes when memory runs out.
 pub(crate) fn refusal_issue(
     alloc: Global,
     file: &SourceFile<'_>,
     refusal: &Refusal,
 ) -> Result<Value, AllocError>
+    requires { IsCharBoundary file.now.text (place_of refusal.now) }
     ensures { IfOk result (λ value. view value ≡ refusal_issue file.now refusal.now) }
 {
     let line = file.line(refusal.place());
     let name = refusal.name();
     let message = refusal.message();
-    issue_value(alloc, file, line, Level::Error, name, message, &[])
+    let rest = rest_of_line(file.text().as_bytes(), refusal.place().raw() as usize);
+    issue_value(alloc, file, line, Level::Error, name, message, rest)
 }

@@ -1,7 +1,9 @@
 //! The text of an issue.
 ghost use Rattle.std.specs.Prelude.{◌≡◌, ◌++◌, OnOk};
+ghost use Rattle.std.specs.Str.{IsCharBoundary};
 ghost use Rattle.serde_json.specs.Written.{compact_text};
 ghost use Rattle.json_value.specs.source_file.File.{IsRangeIn};
+ghost use Rattle.json_value.specs.source_file.Refusals.{place_of};
 ghost use Rattle.report_gitlab.specs.Issues.{refusal_issue, report_issue};
 
 use crate::issues::{refusal_issue, report_issue};
@@ -30,6 +32,7 @@ pub fn push_refusal(
     file: &SourceFile<'_>,
     refusal: &Refusal,
 ) -> Result<(), NoMemory>
+    requires { IsCharBoundary file.now.text (place_of refusal.now) }
     ensures { OnOk result (to.new.items ≡ to.old.items ++ compact_text (refusal_issue file.now refusal.now)) }
 {
     let value = refusal_issue(alloc, file, refusal)?;

@@ -1,4 +1,4 @@
-//! Words of the command line on a line that is shown.
+//! Arguments of the command line, as they are shown on a line.
 //!
 //! `specs/Shown.antt` says how a word is written there.
 #![tactic(auto)]

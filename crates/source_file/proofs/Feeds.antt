@@ -1,14 +1,15 @@
 -- A line begins after the last line feed before a place, and ends before the next one.
-use Rattle.std.proofs.Common.{◌≡◌, ℕ, ◌+◌, ◌-◌, ◌<◌, ◌≤◌, Bool, true, false, not, List, [], ◌∷◌, ◌++◌, Some, None, length, get_or, take, drop, refl, sym, ap, ◌∙◌, arith, length-append, length-take, length-drop}
-use Rattle.std.specs.List.{after_last, before_first, position_or_len, slice_split, suffix_len}
+use Rattle.std.proofs.Common.{◌≡◌, ℕ, ◌+◌, ◌-◌, ◌<◌, ◌≤◌, Bool, true, false, List, [], ◌∷◌, Some, None, length, get_or, take, drop, refl, sym, ap, ◌∙◌, arith, length-take, length-drop}
+use Rattle.std.specs.List.{after_last, before_first, position_or_len}
 use Rattle.std.proofs.lemmas.List.{get_or_default, take_all}
 use Rattle.std.proofs.lemmas.Str.{IsCharBoundary-after_ascii}
 use Rattle.std.proofs.lemmas.Bool.Decides.{nat_tests}
 use Rattle.std.specs.Str.{IsCharBoundary, IsUtf8}
-use Rattle.std.proofs.lemmas.List.Sums.{position_or_len_is, suffix_len_is}
+use Rattle.std.proofs.lemmas.List.Sums.{position_or_len_is}
 use Rattle.std.proofs.lemmas.List.Splits.{slice_split_first, slice_split_none}
 use Rattle.memchr.specs.Find.{IsFirstByte, IsLastByte, is_byte}
 use Rattle.text_pos.specs.Line.{is_line_feed}
+use Rattle.text_pos.proofs.LineFeeds.{after_last_is}
 use Rattle.source_file.specs.Line.{front_of, line_end_of, line_start_of, lines_of, rest_of}
 
 is_ten : (b : ℕ) → is_line_feed b ≡ true → b ≡ 10
@@ -20,15 +21,6 @@ rest_whole n xs = take_all (length xs - n) (drop n xs) (omega (arith, length-dro
 not_true : (b : Bool) → ¬ (b ≡ true) → b ≡ false
 not_true true h = absurd (h refl)
 not_true false h = refl
-
--- the last line feed is known
-after_last_is : (bs : List ℕ) (n : ℕ) → n ≤ length bs → ((k : ℕ) → n ≤ k → k < length bs → ¬ (is_line_feed (get_or bs k 0) ≡ true))
-    → (0 < n → is_line_feed (get_or bs (n - 1) 0) ≡ true) → drop n bs ≡ after_last is_line_feed bs
-after_last_is bs n le none there =
-    let len : suffix_len (λ x. not (is_line_feed x)) bs ≡ length bs - n =
-    suffix_len_is (λ x. not (is_line_feed x)) bs n 0 le (λ k low high. ap not (not_true (is_line_feed (get_or bs k 0)) (none k low high))) (λ some. ap not (there some)) in
-    let back : length bs - (length bs - n) ≡ n = omega arith in
-    rw len (rw back refl)
 
 pub front_none : (text before bytes : List ℕ) (at : ℕ) → before ≡ take at text → bytes ≡ before → IsLastByte (is_byte 10) bytes None → before ≡ front_of text at
 front_none text before bytes at e same none =

@@ -1,5 +1,5 @@
 -- A word in a text, byte after byte.
-use Rattle.std.proofs.Common.{◌≡◌, ℕ, ◌-◌, ◌<◌, ◌≤◌, Bool, true, false, ◌&&◌, ◌||◌, ◌==◌, List, [], ◌∷◌, get_or, drop, take, length, refl, arith}
+use Rattle.std.proofs.Common.{◌≡◌, ℕ, ◌-◌, ◌<◌, true, false, ◌&&◌, ◌==◌, List, [], ◌∷◌, get_or, drop, take, length, refl, arith}
 use Rattle.std.specs.Char.{to_ascii_lowercase}
 use Rattle.source_file.proofs.Feeds.{rest_whole}
 use Rattle.source_file.specs.Hints.{begins_with, has_word}

@@ -1,4 +1,4 @@
-//! The files that words stand for: a folder for the SQL files in it, and every other name for itself.
+//! The files that the arguments name: for a folder the SQL files in it, and for every other name itself.
 //!
 //! `specs/Named.antt` says which names these are.
 #![tactic(auto)]

@@ -1,4 +1,4 @@
-//! The keywords of SQL that statements are told apart by, and which of them a word is (PostgreSQL manual,
+//! The keywords that statements of SQL are recognized by, and which of them a word is (PostgreSQL manual,
 //! appendix C, has all keywords; these are the ones that some form of a statement names).
 #![tactic(auto)]
 

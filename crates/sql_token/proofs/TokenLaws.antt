@@ -24,7 +24,8 @@ at_kind t i j l k m a b = a.kind ∙ sym b.kind
 run_one : (k : TokKind) (z : Text) (i a b : ℕ) → IsRun k z i a → IsRun k z i b → a ≡ b
 run_one k z i a b p q = grind arith
 
-takes_one : (is_start : Bool) (k : TokKind) (z : Text) (n m : ℕ) → Takes is_start k z n → Takes is_start k z m → n ≡ m
+-- a token has one length
+pub takes_one : (is_start : Bool) (k : TokKind) (z : Text) (n m : ℕ) → Takes is_start k z n → Takes is_start k z m → n ≡ m
 takes_one s BlockComment z n m p q = comment_one z p q
 takes_one s Str z n m p q = quoted_one _ _ z _ n m p q
 takes_one s UName z n m p q = quoted_one _ _ z _ n m p q

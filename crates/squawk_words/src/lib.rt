@@ -1,4 +1,4 @@
-//! The words of the command line: which are accepted, and what they choose.
+//! The command line of the strict programs: which arguments are accepted, and what they choose.
 //!
 //! `specs/` says what each call means: `Words` says which words are accepted and what they set, and
 //! `Choices` which rules and settings they choose. `Command` says how `clap` is asked.

@@ -1,5 +1,6 @@
 -- Lines of a text: where they end, and on which of them a place is there.
 use Rattle.std.specs.Prelude.{ℕ, ◌+◌, ◌-◌, ◌<◌, ◌^◌, Bool, ◌==◌, ◌&&◌, nat_lt, Option, Some, None, position, slice_index, List, [], ◌∷◌, count_by, length, take, if◌then◌else◌}
+use Rattle.std.specs.List.{after_last}
 use Rattle.std.specs.List.Sorted.{IsNonDecreasing}
 use Rattle.text_pos.specs.declared.ending.LineEnding.{LineEnding}
 use Rattle.text_pos.specs.declared.ending.LineEnding.TheVariants.{Lf, CrLf}
@@ -21,6 +22,10 @@ line_feeds text = line_feeds_from 0 text
 -- the line on which a place of a text is there: how many line feeds come before it
 abbrev pub line_of : List ℕ → ℕ → ℕ
 line_of text at = count_by is_line_feed (take at text)
+
+-- where the line of a place begins: after the last line feed before it
+abbrev pub line_start : List ℕ → ℕ → ℕ
+line_start text at = at - length (after_last is_line_feed (take at text))
 
 -- a list that may be searched for a place: no number falls, and there are fewer than 2 ^ 32
 abbrev pub IsLineIndex : List ℕ → Type 0

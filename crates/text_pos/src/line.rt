@@ -1,5 +1,5 @@
 //! The lines of a text.
-ghost use Rattle.std.specs.Prelude.{◌≡◌, ◌<◌, ◌^◌, ℕ, List, IfOk, count_by, length, nat_lt};
+ghost use Rattle.std.specs.Prelude.{◌≡◌, ◌<◌, ◌≤◌, ◌^◌, ℕ, List, IfOk, count_by, length, nat_lt};
 
 use crate::memory::NoMemory;
 use crate::size::TextSize;
@@ -27,7 +27,7 @@ impl Model for LineIndex {
 }
 
 impl LineIndex {
-    ghost use Rattle.text_pos.specs.Line.{line_feeds, line_of};
+    ghost use Rattle.text_pos.specs.Line.{line_feeds, line_of, line_start};
 
     /// The index of a text. The error comes when memory runs out.
     pub fn new(alloc: Global, text: &str) -> Result<LineIndex, NoMemory>
@@ -48,5 +48,18 @@ impl LineIndex {
     {
         let at = at.raw();
         self.feeds.partition_point(|feed| *feed < at) as u32
+    }
+
+    /// Where the line of a place begins.
+    pub fn line_start(&self, at: TextSize) -> TextSize
+        ensures { (text : List ℕ) → self.now ≡ line_feeds text → at ≤ length text → result ≡ line_start text at }
+    {
+        let at = at.raw();
+        let line = self.feeds.partition_point(|feed| *feed < at);
+        if line == 0 {
+            TextSize::new(0)
+        } else {
+            TextSize::new(self.feeds[line - 1] + 1)
+        }
     }
 }

@@ -36,7 +36,7 @@ returns-then-ends_at-clause-whole c = λ utf8.
     let ms = g.0 in
     let m = mark_at c.args.text.now c.loop-at.at c.in-Some.kind c.in-Some.end in
     let ends = ap (ends_body ms) (sym c.mark_of-mark.ensures) ∙ sym (c.if-ends_at.ensures ms g.1) in
-    let outer = (and_parts (is_end m && is_outside ms) (begun ms == ended ms + 1) ends).0 in
+    let outer = (and_parts (is_end m && is_outside ms) (begun ms == ended ms) ends).0 in
     end_whole c.args.text.now c.loop-at.at c.in-Some.end c.in-Some.kind utf8 c.in-Some.ensures.found (and_parts (is_end m) (is_outside ms) outer).0
 
 pub returns-then-is_backslash-clause-body : goal.returns-then-is_backslash-clause-body

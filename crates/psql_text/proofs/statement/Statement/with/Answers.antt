@@ -14,5 +14,6 @@ returns-clause-summary c = λ ms h.
       has_from = c.has_from_with.ensures ms h i;
       ends_in_from = c.ends_in_from_with.ensures ms h i;
       has_from_stdin = c.has_from_stdin_with.ensures ms h i;
+      ends_in_begin = c.ends_in_begin_with.ensures ms h i;
       lead = c.lead_with.ensures ms h i;
     }
